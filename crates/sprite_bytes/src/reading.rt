@@ -28,7 +28,7 @@ pub fn read_all<S: Source>(alloc: Global, source: &mut S, limit: usize) -> Resul
     let mut all = Vec::new(alloc);
     'reads: loop {
         let room = limit - all.len();
-        let wanted = if room < PIECE { room + 1 } else { PIECE };
+        let wanted = PIECE.min(room.saturating_add(1));
         let Ok(count) = source.read(&mut buffer[..wanted]) else {
             let now = source.faults();
             return Err(ReadEnd::Fault { before, now });
