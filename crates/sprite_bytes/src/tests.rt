@@ -1,3 +1,5 @@
+ghost use Rattle.std.specs.Prelude.{◌≤◌};
+
 use crate::failed::Failed;
 use crate::null_sink::NullSink;
 use crate::plain_source::PlainSource;
@@ -64,8 +66,40 @@ impl Write for Faulty {
 
 const FAULT: ReadEnd = ReadEnd::Fault { before: 0, now: 1 };
 
-// (bytes in the source, bytes per read, number of the read that fails, limit, answer, bytes left in the source). What is
-// left is read again, and once more where the listed read comes only then.
+// What reading answers, as the count of bytes, for a source of numbered bytes that gives so many per read and fails at
+// that one, and how many bytes are left. These are read again, and once more where the listed read comes only then.
+fn reading(
+    alloc: Global,
+    count: usize,
+    piece: usize,
+    failing: u64,
+    limit: usize,
+) -> Result<(Result<usize, ReadEnd>, usize), Fail>
+    requires { 1 ≤ piece }
+{
+    let bytes = numbered(alloc, count)?;
+    let failing = Vec::from_slice(alloc, &[failing])?;
+    let mut source = MemSource::in_pieces(numbered(alloc, count)?, piece, failing);
+    let answer = read_all(alloc, &mut source, limit);
+    let rest = match read_all(alloc, &mut source, usize::MAX) {
+        Ok(rest) => rest,
+        Err(_) => read_all(alloc, &mut source, usize::MAX)?,
+    };
+    if !bytes.ends_with(&rest) {
+        return Err("what is left is not the end".into());
+    }
+    match answer {
+        Ok(all) => {
+            if !bytes.starts_with(&all) {
+                return Err("what was read is not the beginning".into());
+            }
+            Ok((Ok(all.len()), rest.len()))
+        }
+        Err(end) => Ok((Err(end), rest.len())),
+    }
+}
+
+// (bytes in the source, bytes per read, number of the read that fails, limit, answer, bytes left in the source)
 #[test]
 fn sources_are_read_to_their_end(rt: HostRuntime) -> Result<(), Fail> {
     let rows = [
@@ -76,46 +110,36 @@ fn sources_are_read_to_their_end(rt: HostRuntime) -> Result<(), Fail> {
         (10, 1, 0, 9, Err(ReadEnd::TooLong), 0),
         (10, 1, 0, 8, Err(ReadEnd::TooLong), 1),
         (10, 1, 0, 0, Err(ReadEnd::TooLong), 9),
-        (10, 1, 1, 10, Err(FAULT), 10),
-        (10, 1, 2, 10, Err(FAULT), 9),
-        (10, 1, 3, 10, Err(FAULT), 8),
-        (10, 1, 9, 10, Err(FAULT), 2),
-        (10, 1, 10, 10, Err(FAULT), 1),
-        (10, 1, 11, 10, Err(FAULT), 0),
-        (10, 1, 12, 10, Ok(10), 0),
-        (10, 1, 9, 8, Err(FAULT), 2),
         (10, 1, 10, 8, Err(ReadEnd::TooLong), 1),
+        (10, 1, 9, 8, Err(FAULT), 2),
+        (10, 3, 3, 10, Err(FAULT), 4),
         (10, 3, 4, 10, Err(FAULT), 1),
         (10, 3, 5, 10, Err(FAULT), 0),
         (10, 3, 6, 10, Ok(10), 0),
         (10, 3, 0, 7, Err(ReadEnd::TooLong), 2),
-        (10, usize::MAX, 1, usize::MAX, Err(FAULT), 10),
         (10, usize::MAX, 2, usize::MAX, Err(FAULT), 0),
         (10, usize::MAX, 3, usize::MAX, Ok(10), 0),
         (5000, usize::MAX, 0, 5000, Ok(5000), 0),
         (5000, usize::MAX, 0, 4999, Err(ReadEnd::TooLong), 0),
         (5000, usize::MAX, 0, 4000, Err(ReadEnd::TooLong), 999),
     ];
-    let alloc = rt.alloc();
-    for (row, (count, piece, failing, limit, answer, left)) in rows.into_iter().enumerate() {
-        let bytes = numbered(alloc, count)?;
-        let failing = Vec::from_slice(alloc, &[failing])?;
+    for (count, piece, failing, limit, answer, left) in rows {
         assert!(rt; 1 <= piece);
-        let mut source = MemSource::in_pieces(numbered(alloc, count)?, piece, failing);
-        match read_all(alloc, &mut source, limit) {
-            Ok(all) => {
-                assert_eq!(rt; answer, Ok(all.len()), "row {row}");
-                assert_eq!(rt; all, bytes, "row {row}");
-            }
-            Err(end) => assert_eq!(rt; answer, Err(end), "row {row}"),
-        }
-        let rest = match read_all(alloc, &mut source, usize::MAX) {
-            Ok(rest) => rest,
-            Err(_) => read_all(alloc, &mut source, usize::MAX)?,
-        };
-        assert_eq!(rt; rest.len(), left, "row {row}");
-        assert!(rt; bytes.ends_with(&rest), "row {row}");
+        let came = reading(rt.alloc(), count, piece, failing, limit)?;
+        assert_eq!(rt; came, (answer, left), "{count} {piece} {failing} {limit}");
     }
+    Ok(())
+}
+
+// The same for each of the eleven reads of ten bytes in turn, one byte at a time.
+#[test]
+fn each_read_may_fail(rt: HostRuntime) -> Result<(), Fail> {
+    for failing in 1..12_u8 {
+        let left = 11 - (failing as usize);
+        let came = reading(rt.alloc(), 10, 1, failing as u64, 10)?;
+        assert_eq!(rt; came, (Err(FAULT), left), "read {failing}");
+    }
+    assert_eq!(rt; reading(rt.alloc(), 10, 1, 12, 10)?, (Ok(10), 0));
     Ok(())
 }
 
@@ -127,44 +151,54 @@ const fn stopped(written: usize) -> WriteEnd {
     }
 }
 
-// (bytes to write, room, bytes per write, number of the write that fails, answer)
+// What writing so many numbered bytes answers, over a sink that has such a room, takes so many bytes per write and
+// fails at that one, and how many bytes it then holds.
+fn writing(
+    alloc: Global,
+    count: usize,
+    room: usize,
+    piece: usize,
+    failing: u64,
+) -> Result<(Result<(), WriteEnd>, usize), Fail>
+    requires { 1 ≤ piece }
+{
+    let bytes = numbered(alloc, count)?;
+    let mut sink = MemSink::new(alloc, room, piece, Vec::from_slice(alloc, &[failing])?)?;
+    let answer = write_all(&mut sink, &bytes);
+    let written = sink.into_vec();
+    if !bytes.starts_with(&written) {
+        return Err("what was written is not the beginning".into());
+    }
+    Ok((answer, written.len()))
+}
+
+// (bytes to write, room, bytes per write, number of the write that fails, answer, bytes in the sink)
 #[test]
 fn bytes_are_written_to_the_last(rt: HostRuntime) -> Result<(), Fail> {
     let rows = [
-        (0, 0, 1, 1, Ok(())),
-        (33, 1000, 10, 0, Ok(())),
-        (33, 1000, 10, 1, Err(stopped(0))),
-        (33, 1000, 10, 2, Err(stopped(10))),
-        (33, 1000, 10, 3, Err(stopped(20))),
-        (33, 1000, 10, 4, Err(stopped(30))),
-        (33, 1000, 10, 5, Ok(())),
-        (4, 1000, 1, 1, Err(stopped(0))),
-        (4, 1000, 1, 2, Err(stopped(1))),
-        (4, 1000, 1, 3, Err(stopped(2))),
-        (4, 1000, 1, 4, Err(stopped(3))),
-        (4, 1000, 1, 5, Ok(())),
-        (33, 33, 10, 0, Ok(())),
-        (33, 32, 10, 0, Err(stopped(32))),
-        (33, 30, 10, 0, Err(stopped(30))),
-        (33, 30, 10, 4, Err(stopped(30))),
-        (33, 0, 10, 0, Err(stopped(0))),
-        (33, 33, usize::MAX, 0, Ok(())),
-        (33, 33, usize::MAX, 1, Err(stopped(0))),
-        (33, 12, usize::MAX, 0, Err(stopped(12))),
+        (0, 0, 1, 1, Ok(()), 0),
+        (33, 1000, 10, 0, Ok(()), 33),
+        (33, 1000, 10, 1, Err(stopped(0)), 0),
+        (33, 1000, 10, 2, Err(stopped(10)), 10),
+        (33, 1000, 10, 3, Err(stopped(20)), 20),
+        (33, 1000, 10, 4, Err(stopped(30)), 30),
+        (33, 1000, 10, 5, Ok(()), 33),
+        (4, 4, 1, 1, Err(stopped(0)), 0),
+        (4, 4, 1, 2, Err(stopped(1)), 1),
+        (4, 4, 1, 3, Err(stopped(2)), 2),
+        (4, 4, 1, 4, Err(stopped(3)), 3),
+        (4, 4, 1, 5, Ok(()), 4),
+        (33, 33, 10, 0, Ok(()), 33),
+        (33, 32, 10, 0, Err(stopped(32)), 32),
+        (33, 30, 10, 4, Err(stopped(30)), 30),
+        (33, 0, 10, 0, Err(stopped(0)), 0),
+        (33, 33, usize::MAX, 0, Ok(()), 33),
+        (33, 12, usize::MAX, 0, Err(stopped(12)), 12),
     ];
-    let alloc = rt.alloc();
-    for (row, (count, room, piece, failing, answer)) in rows.into_iter().enumerate() {
-        let bytes = numbered(alloc, count)?;
+    for (count, room, piece, failing, answer, written) in rows {
         assert!(rt; 1 <= piece);
-        let failing = Vec::from_slice(alloc, &[failing])?;
-        let mut sink = MemSink::new(alloc, room, piece, failing)?;
-        assert_eq!(rt; write_all(&mut sink, &bytes), answer, "row {row}");
-        let (written, faults) = match answer {
-            Ok(()) => (count, 0),
-            Err(end) => (end.written, 1),
-        };
-        assert_eq!(rt; sink.written(), &bytes[..written.min(count)], "row {row}");
-        assert_eq!(rt; sink.faults(), faults, "row {row}");
+        let came = writing(rt.alloc(), count, room, piece, failing)?;
+        assert_eq!(rt; came, (answer, written), "{count} {room} {piece} {failing}");
     }
     Ok(())
 }
