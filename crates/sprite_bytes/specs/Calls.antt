@@ -1,5 +1,5 @@
 -- Which calls of a source or a sink in memory fail.
-use Rattle.std.specs.Prelude.{ℕ, Bool, ◌-◌, ◌^◌, ◌==◌, ◌&&◌, nat_lt}
+use Rattle.std.specs.Prelude.{Bool, ◌-◌, ◌^◌, ◌==◌, ◌&&◌, nat_lt}
 use Rattle.std.specs.List.{list_any}
 use Rattle.sprite_bytes.specs.Counts.{raised}
 use Rattle.sprite_bytes.specs.declared.calls.Calls.{Calls}

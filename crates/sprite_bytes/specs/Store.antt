@@ -1,5 +1,5 @@
 -- What a sink in memory stands at.
-use Rattle.std.specs.Prelude.{ℕ, Bool, List, ◌-◌, ◌++◌, ◌||◌, length, min, take, nat_le}
+use Rattle.std.specs.Prelude.{ℕ, Bool, List, ◌-◌, ◌++◌, ◌||◌, length, min, nat_le}
 use Rattle.sprite_bytes.specs.Calls.{next_fails, with_pass, with_fault}
 use Rattle.sprite_bytes.specs.declared.calls.Calls.{Calls}
 
