@@ -4,15 +4,15 @@ ghost use Rattle.sprite_bytes.specs.Calls.{next_fails, with_pass, with_fault};
 
 use sprite_ids::Items;
 
-/// The calls of a source or a sink in memory, which are counted from 1.
+/// The calls of a source or a sink in memory, counted from 1, and which of them fail (this project).
 #[derive(Debug, Drop)]
-pub struct Calls {
+pub(crate) struct Calls {
     /// The numbers of the calls that fail.
-    pub failing: Items<u64>,
+    pub(crate) failing: Items<u64>,
     /// How many calls were made; it stops at `u64::MAX`.
-    pub made: u64,
+    pub(crate) made: u64,
     /// How many of them failed; it stops at `u64::MAX`.
-    pub faults: u64,
+    pub(crate) faults: u64,
 }
 
 impl Calls {

@@ -17,7 +17,6 @@ mod source_std;
 mod write_end;
 mod writing;
 
-pub use calls::Calls;
 pub use failed::Failed;
 pub use null_sink::NullSink;
 pub use plain_source::PlainSource;

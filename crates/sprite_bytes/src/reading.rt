@@ -11,10 +11,10 @@ const PIECE: usize = 1024;
 
 /// Reads all that is left in the source, at most `limit` bytes (this project).
 ///
-/// It asks for no more than `limit` and one bytes in all: the one more tells whether the source ends there. Each read
-/// but the last gives at least one byte, so it ends after at most `limit` and one reads. `Fault` comes only by the
-/// source's count of faults, `TooLong` exactly where more than `limit` bytes came, and nothing else follows then.
-/// Where the answer isn't Ok, bytes may have been taken from the source, and they are lost.
+/// It never asks for more than what is wanting to `limit + 1` bytes: the one more tells whether the source ends there.
+/// Each read but the last gives at least one byte, so it ends after at most `limit + 1` reads. `TooLong` comes exactly
+/// where `limit + 1` bytes came, and `Fault` at the first read that fails. Where the answer isn't Ok, bytes may have
+/// been taken from the source, and they are lost.
 pub fn read_all<S: Source>(alloc: Global, source: &mut S, limit: usize) -> Result<Vec<u8>, ReadEnd>
     ensures whole { IfOk result (λ all. Consumes (S.left source.old) (S.left source.new) all.items) }
     ensures end { IfOk result (λ _. IsAtEnd (S.left source.new)) }
