@@ -41,6 +41,11 @@ abbrev pub with_bytes : List (Option (List ℕ)) → ℕ → List ℕ → List (
 with_bytes pages address [] = pages
 with_bytes pages address (byte ∷ bytes) = with_bytes (with_byte pages address byte) (address + 1) bytes
 
+-- a page with bytes put from an offset on
+abbrev pub bytes_in : List ℕ → ℕ → List ℕ → List ℕ
+bytes_in page offset [] = page
+bytes_in page offset (byte ∷ bytes) = bytes_in (slice_set page offset byte) (offset + 1) bytes
+
 -- what an access to a page finds, and goes on where the page is there
 abbrev pub in_page : ℕ → Option (List ℕ) → Access → Access
 in_page k None next = Away k

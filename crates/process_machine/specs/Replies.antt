@@ -28,18 +28,18 @@ three registers zeroth first second = slice_set (slice_set (slice_set registers 
 
 -- a value sets register 0 to 0, registers 1 and 2 to its two values, and puts its bytes into the pages; a refusal sets
 -- register 0 to its number and the two others to 0; both move the counter on by one
-abbrev pub answered : SyscallName → Arguments → Machine → Reply → Machine
-answered n a m (Value first second bytes) =
+abbrev pub answered : ℕ → Machine → Reply → Machine
+answered address m (Value first second bytes) =
     record m {
       counter = m.counter + 1;
       registers = three m.registers 0 first second;
-      pages = with_bytes m.pages (answer_address n a) bytes;
+      pages = with_bytes m.pages address bytes;
     }
-answered n a m (Error errno) =
+answered address m (Error errno) =
     record m { counter = m.counter + 1; registers = three m.registers (errno_number errno) 0 0 }
 
 abbrev pub given_in : Option Instruction → Machine → Reply → Machine
-given_in (Some (Sys n operands)) m reply = answered n (arguments m operands) m reply
+given_in (Some (Sys n operands)) m reply = answered (answer_address n (arguments m operands)) m reply
 given_in _ m reply = m
 
 -- the image with the answer, of use where it stands at a system call

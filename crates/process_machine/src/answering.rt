@@ -33,6 +33,7 @@ pub fn give(program: &Program, image: &mut Image, reply: &Reply)
 // The answer, whose bytes go to that address.
 fn answer(image: &mut Image, address: u64, reply: &Reply)
     requires { image.old.counter < 65535 }
+    ensures { image.new ≡ answered address image.old reply.now }
 {
     match reply {
         Reply::Value {

@@ -176,14 +176,14 @@ impl Image {
     }
 
     // An argument of a system call: its operand, or else the register of its place.
-    fn argument(&self, place: usize, operand: Option<Operand>) -> u64
+    fn argument(&self, place: usize, operand: &Option<Operand>) -> u64
         requires { place < 8 }
-        ensures { result ≡ argument self.now place operand }
+        ensures { result ≡ argument self.now place operand.now }
     {
         match operand {
             None => self.registers[place],
-            Some(Operand::Register(at)) => self.value(at),
-            Some(Operand::Number(number)) => number,
+            Some(Operand::Register(at)) => self.value(*at),
+            Some(Operand::Number(number)) => *number,
         }
     }
 
@@ -192,10 +192,10 @@ impl Image {
         ensures { result ≡ arguments self.now operands.now }
     {
         Arguments {
-            first: self.argument(1, operands[0]),
-            second: self.argument(2, operands[1]),
-            third: self.argument(3, operands[2]),
-            fourth: self.argument(4, operands[3]),
+            first: self.argument(1, &operands[0]),
+            second: self.argument(2, &operands[1]),
+            third: self.argument(3, &operands[2]),
+            fourth: self.argument(4, &operands[3]),
         }
     }
 

@@ -2,7 +2,7 @@ ghost use Rattle.std.specs.Prelude.{◌≡◌, ◌^◌, ◌≤◌, ◌<◌, ◌+
 ghost use Rattle.std.specs.List.{All};
 ghost use Rattle.byteorder.specs.Endian.{little_number, little_bytes};
 ghost use Rattle.process_machine.specs.Machine.{IsPage, ArePages};
-ghost use Rattle.process_machine.specs.Memory.{page_of, leaves, byte_access, word_access, byte_at, bytes_at, with_byte, with_bytes};
+ghost use Rattle.process_machine.specs.Memory.{page_of, leaves, byte_access, word_access, byte_at, bytes_at, with_byte, with_bytes, bytes_in};
 
 use byteorder::{ByteOrder, LittleEndian};
 use sprite_ids::{Bytes, Items, NoMemory};
@@ -132,13 +132,12 @@ pub fn bytes_at(
     address: u64,
     count: u64,
 ) -> Result<Bytes, NoMemory>
-    requires pages { ArePages pages.now }
-    requires small { address + count < 2 ^ 64 }
+    requires { ArePages pages.now }
     ensures { IfOk result (λ bytes. bytes ≡ bytes_at pages.now address count) }
 {
     let mut bytes = Bytes::new(alloc);
     for place in 0..count {
-        bytes.push(byte_at(pages, address + place))?;
+        bytes.push(byte_at(pages, address.saturating_add(place)))?;
     }
     Ok(bytes)
 }
@@ -179,27 +178,30 @@ pub fn put_bytes(pages: &mut Items<Option<Bytes>>, address: u64, bytes: &[u8])
     ensures stay { ArePages pages.new }
 {
     for (place, byte) in bytes.iter().enumerate() {
-        if let Some(at) = address.checked_add(place as u64) {
-            put_byte(pages, at, *byte);
-        }
+        put_byte(pages, address.saturating_add(place as u64), *byte);
     }
 }
 
-// Puts a word into a page that is there.
-fn put_word_in(page: &mut Option<Bytes>, offset: usize, word: [u8; 8])
+// Puts bytes into others from an offset on.
+fn put_at(bytes: &mut [u8], offset: usize, word: &[u8])
+    requires { offset + length word.now ≤ length bytes.old }
+    ensures { bytes.new ≡ bytes_in bytes.old offset word.now }
+{
+    for (place, byte) in word.iter().enumerate() {
+        bytes[offset + place] = *byte;
+    }
+}
+
+// Puts bytes into a page that is there, from an offset on.
+fn put_in_at(page: &mut Option<Bytes>, offset: usize, word: &[u8])
     requires page { IsPage page.old }
-    requires offset { offset + 8 ≤ 4096 }
+    requires offset { offset + length word.now ≤ 4096 }
+    ensures value { page.new ≡ option_map (λ bytes. bytes_in bytes offset word.now) page.old }
+    ensures page { IsPage page.new }
 {
     if let Some(bytes) = page.take() {
         let mut bytes = bytes.into_vec();
-        bytes[offset] = word[0];
-        bytes[offset + 1] = word[1];
-        bytes[offset + 2] = word[2];
-        bytes[offset + 3] = word[3];
-        bytes[offset + 4] = word[4];
-        bytes[offset + 5] = word[5];
-        bytes[offset + 6] = word[6];
-        bytes[offset + 7] = word[7];
+        put_at(bytes.as_mut_slice(), offset, word);
         *page = Some(Bytes::of_vec(bytes));
     }
 }
@@ -216,7 +218,7 @@ pub fn put_word(pages: &mut Items<Option<Bytes>>, address: u64, word: u64)
     let number = address / PAGE_SIZE;
     let offset = address % PAGE_SIZE;
     if offset <= PAGE_SIZE - 8 && number < pages.len() as u64 {
-        put_word_in(pages.at_mut(number as usize), offset as usize, bytes);
+        put_in_at(pages.at_mut(number as usize), offset as usize, &bytes);
     } else {
         put_bytes(pages, address, &bytes);
     }
