@@ -7,3 +7,4 @@ pub mod Steps
 pub mod Runs
 pub mod Replies
 pub mod Fresh
+pub mod Facts
