@@ -1,4 +1,4 @@
-ghost use Rattle.std.specs.Prelude.{◌≡◌, ◌≤◌, ◌<◌, ◌↔◌, ℕ, List, IsSome, IfSome, IfOk, length, slice_get, option_copied};
+ghost use Rattle.std.specs.Prelude.{◌≡◌, ◌≤◌, ◌<◌, ◌↔◌, ◌∷◌, ◌++◌, [], ℕ, List, IsTrue, IsSome, IfSome, IfOk, OnOk, OnErr, length, slice_get, option_copied};
 
 use crate::instruction::Instruction;
 use sprite_ids::{Bytes, Copying, Items, NoMemory};
@@ -100,6 +100,31 @@ impl Code {
         } else {
             None
         }
+    }
+
+    /// No instructions.
+    pub fn new(alloc: Global) -> Code
+        ensures { result ≡ [] }
+    {
+        Code {
+            items: Items::new(alloc),
+        }
+    }
+
+    /// Whether there is room for no further instruction: there are 512.
+    pub fn is_full(&self) -> bool
+        ensures { IsTrue result ↔ (length self.now ≡ 512) }
+    {
+        self.items.len() == 512
+    }
+
+    /// Puts an instruction at the end. After want of memory, the one error, the code is as before.
+    pub fn push(&mut self, instruction: Instruction) -> Result<(), NoMemory>
+        requires { length self.old < 512 }
+        ensures ok { OnOk result (self.new ≡ self.old ++ instruction ∷ []) }
+        ensures err { OnErr result (self.new ≡ self.old) }
+    {
+        self.items.append(&[instruction])
     }
 
     /// The instructions as a slice.
