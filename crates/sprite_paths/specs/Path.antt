@@ -46,9 +46,13 @@ abbrev pub text_of : List (List ℕ) → List ℕ
 text_of [] = codes "/"
 text_of (part ∷ parts) = joined (part ∷ parts)
 
+-- a part of at most 32 bytes
+abbrev pub is_short : List ℕ → Bool
+is_short part = nat_le (length part) 32
+
 -- the limits of a path: at most 16 parts, of at most 32 bytes each, and a cleaned text of at most 255
 abbrev pub is_within_limits : List (List ℕ) → Bool
-is_within_limits parts = nat_le (length parts) 16 && list_all (λ part. nat_le (length part) 32) parts && nat_le (length (text_of parts)) 255
+is_within_limits parts = nat_le (length parts) 16 && list_all is_short parts && nat_le (length (text_of parts)) 255
 
 -- the path within the limits
 abbrev pub limited : List (List ℕ) → Option (List (List ℕ))

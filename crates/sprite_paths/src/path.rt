@@ -1,6 +1,6 @@
-ghost use Rattle.std.specs.Prelude.{◌≡◌, ◌↔◌, ◌≤◌, ◌++◌, ◌∷◌, [], ℕ, List, Some, None, IsTrue, IfOk, OnOk, OnErr, IfSome, IfNone, IsErrOf, All, length, fold, nat_le, true};
+ghost use Rattle.std.specs.Prelude.{◌≡◌, ◌↔◌, ◌≤◌, ◌++◌, ◌∷◌, [], ℕ, List, Some, None, IsTrue, IfOk, OnOk, OnErr, IfSome, IfNone, IsErrOf, All, length, fold};
 ghost use Rattle.std.specs.List.{AllByRecursion, list_all, slice_split};
-ghost use Rattle.sprite_paths.specs.Path.{is_slash, is_printed, is_path_text, stays, goes_up, step_into, start_of, walked, joined, text_of, is_within_limits, clean_path, is_prefix, IsPrefix, IsPath};
+ghost use Rattle.sprite_paths.specs.Path.{is_slash, is_printed, is_short, is_path_text, stays, goes_up, step_into, start_of, walked, joined, text_of, is_within_limits, clean_path, is_prefix, IsPrefix, IsPath};
 
 use crate::path_end::PathEnd;
 use sprite_ids::{Bytes, Copying, Items, NoMemory};
@@ -144,14 +144,20 @@ impl Copying for Path {
 fn is_text(text: &[u8]) -> bool
     ensures { result ≡ is_path_text text.now }
 {
-    1 <= text.len()
-        && text.len() <= TEXT_LIMIT
-        && text.iter().all(|byte| 33 <= *byte && *byte <= 126)
+    1 <= text.len() && text.len() <= TEXT_LIMIT && are_printed(text)
+}
+
+/// Whether each byte is one of 33 to 126.
+fn are_printed(text: &[u8]) -> bool
+    ensures { result ≡ list_all is_printed text.now }
+{
+    text.iter().all(|byte| 33 <= *byte && *byte <= 126)
 }
 
 /// The parts at which the text begins.
 fn start(alloc: Global, cwd: &Path, text: &[u8]) -> Result<Items<Bytes>, NoMemory>
-    ensures { IfOk result (λ parts. parts ≡ start_of cwd.now text.now) }
+    ensures start { IfOk result (λ parts. parts ≡ start_of cwd.now text.now) }
+    ensures path { IsPath cwd.now }
 {
     match text {
         [b'/', ..] => Ok(Items::new(alloc)),
@@ -188,15 +194,20 @@ fn step(alloc: Global, parts: &mut Items<Bytes>, part: &[u8]) -> Result<(), NoMe
 fn fits(parts: &[Bytes]) -> bool
     ensures { result ≡ is_within_limits parts.now }
 {
-    parts.len() <= PARTS_LIMIT
-        && parts.iter().all(|part| part.len() <= PART_LIMIT)
-        && joined_len(parts) <= TEXT_LIMIT
+    parts.len() <= PARTS_LIMIT && are_short(parts) && joined_len(parts) <= TEXT_LIMIT
+}
+
+/// Whether each part has at most 32 bytes.
+fn are_short(parts: &[Bytes]) -> bool
+    ensures { result ≡ list_all is_short parts.now }
+{
+    parts.iter().all(|part| part.len() <= PART_LIMIT)
 }
 
 /// The number of bytes with `/` before each part.
 fn joined_len(parts: &[Bytes]) -> usize
     requires few { length parts.now ≤ 16 }
-    requires short { list_all (λ part. nat_le (length part) 32) parts.now ≡ true }
+    requires short { IsTrue (list_all is_short parts.now) }
     ensures { result ≡ length (joined parts.now) }
 {
     let mut len = 0;
