@@ -1,13 +1,13 @@
 -- What cleaning keeps, and how a path and its text belong together.
-use Rattle.std.proofs.Common.{◌≡◌, ◌≢◌, ℕ, zero, suc, ◌+◌, ◌-◌, ◌<◌, ◌≤◌, List, [], ◌∷◌, ◌++◌, length, take, drop, fold, codes, Option, Some, None, Bool, true, false, ◌&&◌, cond, nat_eq, nat_le, ◌==◌, IsTrue, ◌↔◌, ◌⊎◌, inl, inr, refl, sym, ap, subst, ◌∙◌, arith, append_assoc, length-append}
-use Rattle.std.specs.List.{AllByRecursion, flat_map, list_all, slice_split, onto_first, starts_with}
+use Rattle.std.proofs.Common.{◌≡◌, ◌≢◌, ℕ, ◌-◌, ◌≤◌, List, [], ◌∷◌, ◌++◌, length, take, drop, fold, codes, Some, None, true, false, ◌&&◌, cond, nat_eq, nat_le, ◌==◌, IsTrue, ◌↔◌, inl, inr, refl, sym, ap, subst, ◌∙◌, arith, append_assoc, length-append}
+use Rattle.std.specs.List.{AllByRecursion, list_all, slice_split, onto_first}
 use Rattle.std.specs.Cmp.Lexicographic.{pointwise, pointwise_decides, bytes_decides, same_text, other_text}
 use Rattle.std.proofs.lemmas.Bool.{cases_Bool, cond-true, cond-false, and_parts, and_from, or_parts, or_from, ne_eqb, le-leb, leb-true, true≢false}
 use Rattle.std.proofs.lemmas.List.{append-nil, take-append-drop}
 use Rattle.std.proofs.Math.Seq.{take-append_seam}
 use Rattle.std.proofs.lemmas.List.Folds.{list_all-append}
 use Rattle.std.proofs.lemmas.List.Concat.{flat_map-append}
-use Rattle.sprite_ids.proofs.ListLaws.{each_append, each_push, each_take, some_is}
+use Rattle.sprite_ids.proofs.ListLaws.{each_push, each_take, some_is}
 use Rattle.sprite_paths.specs.Laws.{GoesOnFrom}
 use Rattle.sprite_paths.specs.Path.{is_slash, is_printed, is_path_text, stays, goes_up, step_into, start_of, walked, joined, text_of, is_short, is_within_limits, limited, clean_path, is_prefix, IsPrefix, IsPartByte, IsName, IsPath}
 

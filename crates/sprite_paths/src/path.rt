@@ -154,7 +154,7 @@ fn are_printed(text: &[u8]) -> bool
     text.iter().all(|byte| 33 <= *byte && *byte <= 126)
 }
 
-/// The parts at which the text begins.
+/// The parts at which the text begins. Whoever calls it learns what the cwd keeps.
 fn start(alloc: Global, cwd: &Path, text: &[u8]) -> Result<Items<Bytes>, NoMemory>
     ensures start { IfOk result (λ parts. parts ≡ start_of cwd.now text.now) }
     ensures path { IsPath cwd.now }
