@@ -1,5 +1,5 @@
 -- Laws on the bytes of an image's pages.
-use Rattle.std.proofs.Common.{◌≡◌, ℕ, zero, suc, ◌+◌, ◌*◌, ◌/◌, ◌%◌, ◌<◌, ◌≤◌, List, [], ◌∷◌, ◌++◌, length, take, drop, Option, Some, None, Bool, true, false, cond, refl, ap, sym, subst, ◌∙◌, arith, slice_get, slice_set, slice_index, get_or, add_assoc, add-one, add-zero, option_map, min, ◌-◌, ◌^◌, inl, inr, replicate, IsSome}
+use Rattle.std.proofs.Common.{◌≡◌, ℕ, zero, suc, ◌+◌, ◌*◌, ◌/◌, ◌%◌, ◌<◌, ◌≤◌, List, [], ◌∷◌, ◌++◌, length, Option, Some, None, refl, ap, sym, subst, ◌∙◌, arith, slice_get, slice_set, slice_index, add-one, add-zero, option_map, min, ◌-◌, ◌^◌, inl, inr, replicate, IsSome}
 use Rattle.sprite_ids.proofs.ListLaws.{set_same, get_within, get_set_same, some_is, each_set, each_get}
 use Rattle.std.specs.List.{AllByRecursion}
 use Rattle.process_machine.specs.Facts.{shape, AllPresent, AreBytes, HasBytes}
@@ -7,7 +7,6 @@ use Rattle.process_machine.specs.declared.parts.Parts.{Parts}
 use Rattle.process_machine.specs.Parts.{first_away}
 use Rattle.std.proofs.Math.ListN.{length-set}
 use Rattle.std.proofs.lemmas.Bool.{cases_lt}
-use Rattle.process_machine.specs.Machine.{ArePages, IsPage}
 use Rattle.process_machine.specs.Memory.{there, page_of, byte_in, byte_at, bytes_at, put_in, with_byte, with_bytes, bytes_in}
 
 -- past the end a look-up finds nothing

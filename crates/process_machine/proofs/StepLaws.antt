@@ -1,11 +1,11 @@
 -- What each step keeps.
-use Rattle.std.proofs.Common.{◌≡◌, ℕ, zero, suc, ◌+◌, ◌-◌, ◌*◌, ◌/◌, ◌%◌, ◌^◌, ◌<◌, ◌≤◌, ◌==◌, List, [], ◌∷◌, ◌++◌, length, Option, Some, None, IsSome, is_some, Bool, true, false, cond, nat_lt, replicate, refl, ap, sym, subst, ◌∙◌, arith, slice_get, slice_set, slice_index, if◌then◌else◌}
+use Rattle.std.proofs.Common.{◌≡◌, ℕ, zero, suc, ◌+◌, ◌/◌, ◌%◌, ◌^◌, ◌<◌, ◌==◌, List, [], ◌∷◌, length, Option, Some, None, IsSome, is_some, Bool, true, false, replicate, refl, ap, sym, subst, ◌∙◌, arith, slice_get, slice_set, if◌then◌else◌}
 use Rattle.std.proofs.lemmas.List.{length-replicate}
 use Rattle.std.proofs.Math.Nat.{div-le_self, mod-le, mod-lt}
 use Rattle.std.specs.List.{AllByRecursion}
 use Rattle.std.proofs.Math.ListN.{length-set}
-use Rattle.std.proofs.lemmas.Bool.{cases_Bool, ltb-false}
-use Rattle.byteorder.specs.Endian.{little_number, little_bytes, little_from}
+use Rattle.std.proofs.lemmas.Bool.{ltb-false}
+use Rattle.byteorder.specs.Endian.{little_number, little_bytes}
 use Rattle.byteorder.specs.Numbers.{little_from-lt}
 use Rattle.sprite_ids.specs.declared.errno.Errno.{Errno}
 use Rattle.sprite_ids.specs.declared.errno.Errno.TheVariants.{NoEntry, Exists, NotDir, IsDir, NotEmpty, BadFd, BadMode, TooBig, TooMany, Invalid, XDev, Busy, NoChild, NoProcess, Interrupted, NoServer, Unreachable, BadHost, BadName, BadAddress}
@@ -20,12 +20,12 @@ use Rattle.process_machine.specs.declared.call.Reply.TheVariants.{Value, Error}
 use Rattle.process_machine.specs.declared.program.Text.{Text}
 use Rattle.process_machine.specs.declared.program.Program.{Program}
 use Rattle.process_machine.specs.Machine.{Machine, register, put, at_place, with_pages}
-use Rattle.process_machine.specs.Memory.{there, page_of, leaves, in_page, byte_access, word_access, byte_at, bytes_at, with_byte, with_bytes}
+use Rattle.process_machine.specs.Memory.{page_of, leaves, in_page, byte_access, word_access, bytes_at, with_bytes}
 use Rattle.process_machine.specs.Arguments.{arguments}
 use Rattle.process_machine.specs.Parts.{parts_of, refusal, first_away}
-use Rattle.process_machine.specs.Steps.{Step, Moved, AtCall, AtBadStep, AtPage, divided, touching, jumped, wanting, calling, done, done_if, step_of}
-use Rattle.process_machine.specs.Runs.{ahead, one_more}
-use Rattle.process_machine.specs.Replies.{answer_address, three, answered, given_in, given}
+use Rattle.process_machine.specs.Steps.{Moved, AtCall, AtBadStep, AtPage, touching, jumped, wanting, calling, done, done_if, step_of}
+use Rattle.process_machine.specs.Runs.{ahead}
+use Rattle.process_machine.specs.Replies.{three, answered, given_in, given}
 use Rattle.process_machine.specs.Fresh.{with_texts, zero_pages, fresh_machine}
 use Rattle.process_machine.specs.Facts.{shape, AllPresent, Keeps, AreBytes, HasBytes, InRange, FitsRegister, HasText, ProgramInRange, ReplyInRange}
 use Rattle.process_machine.proofs.MemoryLaws.{shape_byte, shape_bytes, same_count, same_present, bytes_byte, bytes_bytes, byte_below, each_below, index_below, present_found, none_away}

@@ -1,8 +1,7 @@
 -- The system call at which an image stands.
-use Rattle.std.specs.Prelude.{ℕ, ◌≤◌, ◌%◌, List, [], length, Option, Some, None, slice_get}
+use Rattle.std.specs.Prelude.{ℕ, ◌≤◌, ◌%◌, List, length, Option, Some, None, slice_get}
 use Rattle.sprite_ids.specs.declared.errno.Errno.{Errno}
 use Rattle.process_machine.specs.declared.arguments.Arguments.{Arguments}
-use Rattle.process_machine.specs.declared.instruction.Operand.{Operand}
 use Rattle.process_machine.specs.declared.instruction.Instruction.{Instruction}
 use Rattle.process_machine.specs.declared.instruction.Instruction.TheVariants.{Sys}
 use Rattle.process_machine.specs.declared.instruction.SyscallName.{SyscallName}

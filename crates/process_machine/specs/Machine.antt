@@ -1,5 +1,5 @@
 -- An image as contracts see it.
-use Rattle.std.specs.Prelude.{◌≡◌, ◌≤◌, ◌<◌, ◌+◌, ◌^◌, ℕ, List, length, slice_index, slice_set, Option, Some, None}
+use Rattle.std.specs.Prelude.{◌≡◌, ◌≤◌, ◌+◌, ℕ, List, length, slice_index, slice_set, Option, Some, None}
 use Rattle.std.specs.List.{All}
 
 -- the number of its program, its counter, its registers and its pages, each there or away

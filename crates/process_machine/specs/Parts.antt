@@ -1,10 +1,10 @@
 -- The parts of the pages that a system call names, and when they refuse it.
-use Rattle.std.specs.Prelude.{ℕ, suc, ◌+◌, ◌*◌, List, [], ◌∷◌, length, Option, Some, None, Bool, true, false, ◌&&◌, ◌||◌, nat_lt, if◌then◌else◌}
+use Rattle.std.specs.Prelude.{ℕ, ◌+◌, ◌*◌, List, [], ◌∷◌, Option, Some, None, Bool, false, ◌&&◌, ◌||◌, nat_lt, if◌then◌else◌}
 use Rattle.sprite_ids.specs.declared.errno.Errno.{Errno}
 use Rattle.sprite_ids.specs.declared.errno.Errno.TheVariants.{Invalid, BadName, BadAddress}
 use Rattle.process_machine.specs.declared.arguments.Arguments.{Arguments}
 use Rattle.process_machine.specs.declared.instruction.SyscallName.{SyscallName}
-use Rattle.process_machine.specs.declared.instruction.SyscallName.TheVariants.{Print, Exit, Getpid, Getppid, Host, Tick, Fork, Exec, Wait, Kill, Open, Close, Dup, Read, Write, Seek, Size, Sync, Stat, Mkdir, Rmdir, Unlink, Rename, List as ListName, Chdir, Migrate, PdMake, PdGet, PdPut, Ioctl, Rexec}
+use Rattle.process_machine.specs.declared.instruction.SyscallName.TheVariants.{Print, Host, Exec, Open, Read, Write, Stat, Mkdir, Rmdir, Unlink, Rename, List as ListName, Chdir, Migrate, PdMake, PdGet, PdPut, Ioctl, Rexec}
 use Rattle.process_machine.specs.declared.parts.PartKind.{PartKind}
 use Rattle.process_machine.specs.declared.parts.PartKind.TheVariants.{Text, Data, Ask}
 use Rattle.process_machine.specs.declared.parts.Part.{Part}

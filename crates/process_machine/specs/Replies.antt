@@ -1,5 +1,5 @@
 -- What an answer does to the image that stands at its call.
-use Rattle.std.specs.Prelude.{ℕ, ◌+◌, List, Option, Some, None, slice_get, slice_set}
+use Rattle.std.specs.Prelude.{ℕ, ◌+◌, List, Option, Some, slice_get, slice_set}
 use Rattle.sprite_ids.specs.Errno.{errno_number}
 use Rattle.process_machine.specs.declared.arguments.Arguments.{Arguments}
 use Rattle.process_machine.specs.declared.instruction.Instruction.{Instruction}

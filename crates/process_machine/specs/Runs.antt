@@ -1,5 +1,5 @@
 -- Many steps.
-use Rattle.std.specs.Prelude.{◌≡◌, ℕ, zero, suc, ◌<◌, ◌≤◌, Option, Some, None}
+use Rattle.std.specs.Prelude.{◌≡◌, ℕ, zero, suc, ◌<◌, Option, Some, None}
 use Rattle.process_machine.specs.declared.call.Call.{Call}
 use Rattle.process_machine.specs.declared.call.Call.TheVariants.{BadStep}
 use Rattle.process_machine.specs.declared.program.Program.{Program}

@@ -1,10 +1,8 @@
 -- What one instruction does.
-use Rattle.std.specs.Prelude.{◌≡◌, ℕ, ◌+◌, ◌-◌, ◌*◌, ◌/◌, ◌%◌, ◌^◌, List, length, Option, Some, None, Bool, true, false, ◌==◌, nat_lt, slice_get, slice_index, if◌then◌else◌}
+use Rattle.std.specs.Prelude.{◌≡◌, ℕ, ◌+◌, ◌-◌, ◌*◌, ◌/◌, ◌%◌, ◌^◌, List, Option, Some, None, Bool, true, false, ◌==◌, nat_lt, slice_get, if◌then◌else◌}
 use Rattle.byteorder.specs.Endian.{little_number, little_bytes}
-use Rattle.process_machine.specs.declared.instruction.Operand.{Operand}
 use Rattle.process_machine.specs.declared.instruction.Instruction.{Instruction}
 use Rattle.process_machine.specs.declared.instruction.Instruction.TheVariants.{Set, Mov, Add, Sub, Mul, Addi, Div, Mod, Ldb, Stb, Ldw, Stw, Jmp, Jeq, Jne, Jlt, Sys}
-use Rattle.process_machine.specs.declared.instruction.SyscallName.{SyscallName}
 use Rattle.process_machine.specs.declared.parts.Parts.{Parts}
 use Rattle.process_machine.specs.declared.program.Program.{Program}
 use Rattle.process_machine.specs.Machine.{Machine, register, put, at_place, with_pages}

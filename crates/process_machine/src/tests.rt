@@ -57,6 +57,21 @@ fn image(alloc: Global, registers: [u64; 8], pages: &[u8]) -> Result<Image, Fail
     Ok(Image::of_parts(1, 0, registers, parts).ok_or("an image")?)
 }
 
+// Which pages are there, for the tables below.
+fn pages(kind: u8) -> &'static [u8] {
+    match kind {
+        0 => b"a",
+        1 => b"ab",
+        2 => b"a-",
+        3 => b"-b",
+        4 => b"--",
+        5 => b"aaaaaaaa",
+        6 => b"a-a-",
+        7 => b"-aaa",
+        _ => b"aa--",
+    }
+}
+
 fn register(number: u8) -> Result<Register, Fail> {
     Ok(Register::new(number).ok_or("a register")?)
 }
@@ -270,7 +285,6 @@ fn steps_end_where_they_cannot_be_done(rt: HostRuntime) -> Result<(), Fail> {
     let put_byte = Instruction::Stb(one, two);
     let word = Instruction::Ldw(two, one);
     let put_word = Instruction::Stw(one, two);
-    let pages: [&[u8]; 6] = [b"a", b"ab", b"a-", b"-b", b"--", b"aaaaaaaa"];
     let table = [
         (byte, 4095, 0, BurstEnd::Limit),
         (byte, 4096, 0, BurstEnd::BadStep),
@@ -304,7 +318,7 @@ fn steps_end_where_they_cannot_be_done(rt: HostRuntime) -> Result<(), Fail> {
     ];
     for (place, (instruction, address, kind, end)) in table.iter().enumerate() {
         let program = coded(alloc, &[*instruction])?;
-        let mut image = image(alloc, [0, *address, 0, 0, 0, 0, 0, 0], pages[*kind])?;
+        let mut image = image(alloc, [0, *address, 0, 0, 0, 0, 0, 0], pages(*kind))?;
         let count = if *end == BurstEnd::Limit { 1 } else { 0 };
         assert_eq!(rt;
             burst(&program, &mut image, 1),
@@ -348,15 +362,18 @@ fn words_have_their_lowest_byte_first(rt: HostRuntime) -> Result<(), Fail> {
             [0, address + 7, 1, 578437695752307201, 1, 0, 0, 0],
             "address {address}"
         );
-        let mut bytes = [b'a'; 8192];
-        for place in 4096..8192 {
-            bytes[place] = b'b';
-        }
+        let mut first = [b'a'; 4096];
+        let mut second = [b'b'; 4096];
         for (place, byte) in [1, 2, 3, 4, 5, 6, 7, 1].iter().enumerate() {
-            bytes[address as usize + place] = *byte;
+            let at = address as usize + place;
+            if at < 4096 {
+                first[at] = *byte;
+            } else if at < 8192 {
+                second[at - 4096] = *byte;
+            }
         }
-        assert_eq!(rt; image.page(0), Some(&bytes[..4096]), "address {address}");
-        assert_eq!(rt; image.page(1), Some(&bytes[4096..]), "address {address}");
+        assert_eq!(rt; image.page(0), Some(first.as_slice()), "address {address}");
+        assert_eq!(rt; image.page(1), Some(second.as_slice()), "address {address}");
     }
     Ok(())
 }
@@ -385,7 +402,7 @@ fn a_burst_keeps_its_limit(rt: HostRuntime) -> Result<(), Fail> {
             (count, end),
             "limit {limit}"
         );
-        assert_eq!(rt; image.registers()[1] as u32, count, "limit {limit}");
+        assert_eq!(rt; image.registers()[1], count as u64, "limit {limit}");
     }
     let endless = coded(alloc, &[Instruction::Addi(one, 1), Instruction::Jmp(0)])?;
     let mut image = image(alloc, [0; 8], b"a")?;
@@ -521,30 +538,44 @@ fn calls_have_their_values(rt: HostRuntime) -> Result<(), Fail> {
 fn arguments_are_operands_or_registers(rt: HostRuntime) -> Result<(), Fail> {
     let alloc = rt.alloc();
     let (three, seven) = (register(3)?, register(7)?);
+    let name = SyscallName::Seek;
+    let of_register = |register: Register| -> Option<Operand> { Some(Operand::Register(register)) };
     let table = [
-        ([None, None, None, None], 1, 2),
-        ([Some(Operand::Register(seven)), None, None, None], 70, 2),
         (
-            [
-                Some(Operand::Number(MAX)),
-                Some(Operand::Register(three)),
-                None,
-                None,
-            ],
+            Instruction::Sys {
+                name,
+                operands: [None, None, None, None],
+            },
+            1,
+            2,
+        ),
+        (
+            Instruction::Sys {
+                name,
+                operands: [of_register(seven), None, None, None],
+            },
+            70,
+            2,
+        ),
+        (
+            Instruction::Sys {
+                name,
+                operands: [Some(Operand::Number(MAX)), of_register(three), None, None],
+            },
             MAX,
             3,
         ),
-        ([None, Some(Operand::Number(6)), None, None], 1, 6),
-    ];
-    for (place, (operands, first, second)) in table.iter().enumerate() {
-        let name = SyscallName::Seek;
-        let program = coded(
-            alloc,
-            &[Instruction::Sys {
+        (
+            Instruction::Sys {
                 name,
-                operands: *operands,
-            }],
-        )?;
+                operands: [None, Some(Operand::Number(6)), None, None],
+            },
+            1,
+            6,
+        ),
+    ];
+    for (place, (instruction, first, second)) in table.iter().enumerate() {
+        let program = coded(alloc, &[*instruction])?;
         let mut image = image(alloc, [9, 1, 2, 3, 4, 5, 6, 70], b"a")?;
         let call = call_here(alloc, &program, &mut image)?;
         assert_eq!(rt;
@@ -622,23 +653,22 @@ fn calls_are_refused_for_their_arguments(rt: HostRuntime) -> Result<(), Fail> {
 fn calls_want_their_pages(rt: HostRuntime) -> Result<(), Fail> {
     let alloc = rt.alloc();
     let needs = BurstEnd::PageNeeded;
-    let pages: [&[u8]; 3] = [b"a-a-", b"-aaa", b"aa--"];
     let table = [
-        (SyscallName::Print, [0, 4096, 0, 0], 0, BurstEnd::Call),
-        (SyscallName::Print, [0, 4097, 0, 0], 0, needs(1)),
-        (SyscallName::Print, [8191, 1, 0, 0], 0, needs(1)),
-        (SyscallName::Print, [8191, 8192, 0, 0], 0, needs(1)),
-        (SyscallName::Print, [8192, 4097, 0, 0], 0, needs(3)),
-        (SyscallName::Print, [5000, 0, 0, 0], 0, BurstEnd::Call),
-        (SyscallName::Print, [5000, 16385, 0, 0], 0, BurstEnd::Call),
-        (SyscallName::Print, [16384, 1, 0, 0], 0, BurstEnd::Call),
-        (SyscallName::Read, [0, 4095, 2, 0], 0, needs(1)),
-        (SyscallName::Read, [5000, 1, 4096, 0], 0, needs(1)),
-        (SyscallName::Rename, [4096, 1, 0, 1], 1, needs(0)),
-        (SyscallName::Rename, [4096, 1, 0, 0], 1, BurstEnd::Call),
-        (SyscallName::List, [4095, 2, 8192, 4096], 1, needs(0)),
-        (SyscallName::List, [4096, 2, 8192, 8192], 2, needs(2)),
-        (SyscallName::Rexec, [12288, 1, 8192, 1], 2, needs(2)),
+        (SyscallName::Print, [0, 4096, 0, 0], 6, BurstEnd::Call),
+        (SyscallName::Print, [0, 4097, 0, 0], 6, needs(1)),
+        (SyscallName::Print, [8191, 1, 0, 0], 6, needs(1)),
+        (SyscallName::Print, [8191, 8192, 0, 0], 6, needs(1)),
+        (SyscallName::Print, [8192, 4097, 0, 0], 6, needs(3)),
+        (SyscallName::Print, [5000, 0, 0, 0], 6, BurstEnd::Call),
+        (SyscallName::Print, [5000, 16385, 0, 0], 6, BurstEnd::Call),
+        (SyscallName::Print, [16384, 1, 0, 0], 6, BurstEnd::Call),
+        (SyscallName::Read, [0, 4095, 2, 0], 6, needs(1)),
+        (SyscallName::Read, [5000, 1, 4096, 0], 6, needs(1)),
+        (SyscallName::Rename, [4096, 1, 0, 1], 7, needs(0)),
+        (SyscallName::Rename, [4096, 1, 0, 0], 7, BurstEnd::Call),
+        (SyscallName::List, [4095, 2, 8192, 4096], 7, needs(0)),
+        (SyscallName::List, [4096, 2, 8192, 8192], 8, needs(2)),
+        (SyscallName::Rexec, [12288, 1, 8192, 1], 8, needs(2)),
         (
             SyscallName::Exit,
             [5000, 5000, 5000, 5000],
@@ -648,7 +678,7 @@ fn calls_want_their_pages(rt: HostRuntime) -> Result<(), Fail> {
     ];
     for (place, (name, arguments, kind, end)) in table.iter().enumerate() {
         let program = coded(alloc, &[sys(*name, *arguments)])?;
-        let mut image = image(alloc, [0; 8], pages[*kind])?;
+        let mut image = image(alloc, [0; 8], pages(*kind))?;
         assert_eq!(rt; burst(&program, &mut image, 9), (0, *end), "row {place}");
     }
     Ok(())

@@ -1,4 +1,4 @@
-use Rattle.std.proofs.Common.{◌≡◌, ◌+◌, drop}
+use Rattle.std.proofs.Common.{◌≡◌, drop}
 use Rattle.process_machine.specs.Machine.{ArePages}
 use Rattle.process_machine.specs.Fresh.{with_texts}
 use Rattle.process_machine.proofs.image.put_texts.Given as goal
