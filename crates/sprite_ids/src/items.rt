@@ -92,6 +92,17 @@ impl<T> Items<T> {
         Ok(())
     }
 
+    /// Puts copies of the slice's items at the end. After want of memory, the one error, the list is as before.
+    pub fn append(&mut self, items: &[T]) -> Result<(), NoMemory>
+    where
+        T: Copy,
+        ensures ok { OnOk result (self.new ≡ self.old ++ items.now) }
+        ensures err { OnErr result (self.new ≡ self.old) }
+    {
+        self.items.extend_from_slice(items)?;
+        Ok(())
+    }
+
     /// Takes the last item; None exactly where there is none.
     pub fn pop(&mut self) -> Option<T>
         ensures some { IfSome result (λ last. self.old ≡ self.new ++ last ∷ []) }

@@ -1,0 +1,197 @@
+-- Laws on the bytes of an image's pages.
+use Rattle.std.proofs.Common.{◌≡◌, ℕ, zero, suc, ◌+◌, ◌*◌, ◌/◌, ◌%◌, ◌<◌, ◌≤◌, List, [], ◌∷◌, ◌++◌, length, take, drop, Option, Some, None, Bool, true, false, cond, refl, ap, sym, subst, ◌∙◌, arith, slice_get, slice_set, slice_index, get_or, add_assoc, add-one, add-zero, option_map, min, ◌-◌, ◌^◌, inl, inr, replicate, IsSome}
+use Rattle.sprite_ids.proofs.ListLaws.{set_same, get_within, get_set_same, some_is, each_set, each_get}
+use Rattle.std.specs.List.{AllByRecursion}
+use Rattle.process_machine.specs.Facts.{shape, AllPresent, AreBytes, HasBytes}
+use Rattle.process_machine.specs.declared.parts.Parts.{Parts}
+use Rattle.process_machine.specs.Parts.{first_away}
+use Rattle.std.proofs.Math.ListN.{length-set}
+use Rattle.std.proofs.lemmas.Bool.{cases_lt}
+use Rattle.process_machine.specs.Machine.{ArePages, IsPage}
+use Rattle.process_machine.specs.Memory.{there, page_of, byte_in, byte_at, bytes_at, put_in, with_byte, with_bytes, bytes_in}
+
+-- past the end a look-up finds nothing
+pub get_past : {X : Type 0} (xs : List X) (i : ℕ) → length xs ≤ i → slice_get xs i ≡ None
+get_past [] i h = refl
+get_past (x ∷ xs) zero h = absurd (omega arith)
+get_past (x ∷ xs) (suc i) h = get_past xs i (omega arith)
+
+-- one more byte at the end
+pub bytes_more : (pages : List (Option (List ℕ))) (address count : ℕ) → bytes_at pages address (suc count) ≡ bytes_at pages address count ++ byte_at pages (address + count) ∷ []
+bytes_more pages address zero = rw add-zero refl
+bytes_more pages address (suc count) =
+    let rest = bytes_more pages (address + 1) count in
+    let e : address + 1 + count ≡ address + suc count = omega arith in
+    ap (λ xs. byte_at pages address ∷ xs) (subst (λ n. bytes_at pages (address + 1) (suc count) ≡ bytes_at pages (address + 1) count ++ byte_at pages n ∷ []) e rest)
+
+-- the pages lie below address 32,768
+pub byte_outside : (pages : List (Option (List ℕ))) (address : ℕ) → length pages ≤ 8 → 32768 ≤ address → byte_at pages address ≡ 0
+byte_outside pages address few far =
+    let past : length pages ≤ address / 4096 = omega arith in
+    ap (λ o. byte_in (there o) (address % 4096)) (get_past pages (address / 4096) past)
+
+pub put_outside : (pages : List (Option (List ℕ))) (address byte : ℕ) → length pages ≤ 8 → 32768 ≤ address → with_byte pages address byte ≡ pages
+put_outside pages address byte few far =
+    let past : length pages ≤ address / 4096 = omega arith in
+    ap (λ o. put_in o pages (address / 4096) (address % 4096) byte) (get_past pages (address / 4096) past)
+
+-- an address that would pass 2^64 is as far outside as the highest
+pub byte_stopped : (pages : List (Option (List ℕ))) (address place stopped : ℕ) → length pages ≤ 8 → stopped ≡ min (address + place) (2 ^ 64 - 1) → byte_at pages stopped ≡ byte_at pages (address + place)
+byte_stopped pages address place stopped few e =
+    elim (cases_lt (address + place) (2 ^ 64)) [
+      | inl near ↦ (let same : stopped ≡ address + place = omega arith in ap (byte_at pages) same)
+      | inr far ↦ byte_outside pages stopped few (omega arith) ∙ sym (byte_outside pages (address + place) few (omega arith))
+    ]
+
+pub put_stopped : (pages : List (Option (List ℕ))) (address place stopped byte : ℕ) → length pages ≤ 8 → stopped ≡ min (address + place) (2 ^ 64 - 1) → with_byte pages stopped byte ≡ with_byte pages (address + place) byte
+put_stopped pages address place stopped byte few e =
+    elim (cases_lt (address + place) (2 ^ 64)) [
+      | inl near ↦ (let same : stopped ≡ address + place = omega arith in ap (λ a. with_byte pages a byte) same)
+      | inr far ↦ put_outside pages stopped byte few (omega arith) ∙ sym (put_outside pages (address + place) byte few (omega arith))
+    ]
+
+-- the step of the loop that gathers bytes
+pub gathered : (pages : List (Option (List ℕ))) (bytes : List ℕ) (address place stopped byte : ℕ) → length pages ≤ 8 → bytes ≡ bytes_at pages address place → stopped ≡ min (address + place) (2 ^ 64 - 1) → byte ≡ byte_at pages stopped → bytes ++ byte ∷ [] ≡ bytes_at pages address (place + 1)
+gathered pages bytes address place stopped byte few so_far e is =
+    let there : byte ≡ byte_at pages (address + place) = is ∙ byte_stopped pages address place stopped few e in
+    let more = bytes_more pages address place in
+    rw (add-one, more, so_far, there) refl
+
+-- one more copy at the end
+pub replicate_more : {X : Type 0} (n : ℕ) (x : X) → replicate n x ++ x ∷ [] ≡ replicate (suc n) x
+replicate_more zero x = refl
+replicate_more (suc n) x = ap (λ xs. x ∷ xs) (replicate_more n x)
+
+pub copies_more : {X : Type 0} (xs : List X) (n : ℕ) (x y : X) → xs ≡ replicate n x → y ≡ x → xs ++ y ∷ [] ≡ replicate (n + 1) x
+copies_more xs n x y e f = rw (e, f, add-one) (replicate_more n x)
+
+pub length_bytes_in : (page : List ℕ) (offset : ℕ) (bytes : List ℕ) → length (bytes_in page offset bytes) ≡ length page
+length_bytes_in page offset [] = refl
+length_bytes_in page offset (byte ∷ bytes) = length_bytes_in (slice_set page offset byte) (offset + 1) bytes ∙ length-set page offset byte
+
+pub set_set : {X : Type 0} (xs : List X) (i : ℕ) (x y : X) → slice_set (slice_set xs i x) i y ≡ slice_set xs i y
+set_set [] i x y = refl
+set_set (z ∷ zs) zero x y = refl
+set_set (z ∷ zs) (suc i) x y = ap (λ ws. z ∷ ws) (set_set zs i x y)
+
+kept : (page : Option (List ℕ)) (offset : ℕ) → option_map (λ p. bytes_in p offset []) page ≡ page
+kept None offset = refl
+kept (Some p) offset = refl
+
+then_more : (page : Option (List ℕ)) (offset byte : ℕ) (bytes : List ℕ) → option_map (λ p. bytes_in p (offset + 1) bytes) (option_map (λ p. slice_set p offset byte) page) ≡ option_map (λ p. bytes_in p offset (byte ∷ bytes)) page
+then_more None offset byte bytes = refl
+then_more (Some p) offset byte bytes = refl
+
+-- bytes that lie in one page are put into that page
+pub in_one_page : (pages : List (Option (List ℕ))) (k offset address : ℕ) (page : Option (List ℕ)) (bytes : List ℕ) → address ≡ 4096 * k + offset → offset + length bytes ≤ 4096 → slice_get pages k ≡ Some page → with_bytes pages address bytes ≡ slice_set pages k (option_map (λ p. bytes_in p offset bytes) page)
+in_one_page pages k offset address page [] at fits found =
+    sym (ap (slice_set pages k) (kept page offset) ∙ set_same pages k page found)
+in_one_page pages k offset address page (byte ∷ bytes) at fits found =
+    let number : address / 4096 ≡ k = omega arith in
+    let place : address % 4096 ≡ offset = omega arith in
+    let next = option_map (λ p. slice_set p offset byte) page in
+    let put : with_byte pages address byte ≡ slice_set pages k next = rw (number, place, found) refl in
+    let within : k < length pages = get_within pages k page found in
+    let rest = in_one_page (slice_set pages k next) k (offset + 1) (address + 1) next bytes (omega arith) (omega arith) (get_set_same pages k next within) in
+    rw (put, rest, set_set pages k next (option_map (λ p. bytes_in p (offset + 1) bytes) next)) (ap (slice_set pages k) (then_more page offset byte bytes))
+
+pub put_once : (pages : List (Option (List ℕ))) (address : ℕ) (held bytes : List ℕ) (page new : Option (List ℕ)) → held ≡ bytes → length bytes ≡ 8 → address % 4096 ≤ 4096 - 8 → slice_get pages (address / 4096) ≡ Some page → new ≡ option_map (λ p. bytes_in p (address % 4096) held) page → slice_set pages (address / 4096) new ≡ with_bytes pages address bytes
+put_once pages address held bytes page new same eight low found is =
+    let once = in_one_page pages (address / 4096) (address % 4096) address page bytes (omega arith) (omega arith) found in
+    let whole : new ≡ option_map (λ p. bytes_in p (address % 4096) bytes) page = is ∙ ap (λ bs. option_map (λ p. bytes_in p (address % 4096) bs) page) same in
+    ap (slice_set pages (address / 4096)) whole ∙ sym once
+
+-- a page that takes the place of one as long leaves the shape as it is
+pub shape_set : (pages : List (Option (List ℕ))) (k : ℕ) (page new : Option (List ℕ)) → slice_get pages k ≡ Some page → option_map length new ≡ option_map length page → shape (slice_set pages k new) ≡ shape pages
+shape_set [] k page new found same = refl
+shape_set (first ∷ pages) zero page new found same =
+    ap (λ l. l ∷ shape pages) (same ∙ ap (option_map length) (sym (some_is first page found)))
+shape_set (first ∷ pages) (suc k) page new found same = ap (λ ls. option_map length first ∷ ls) (shape_set pages k page new found same)
+
+as_long : (page : Option (List ℕ)) (offset byte : ℕ) → option_map length (option_map (λ bytes. slice_set bytes offset byte) page) ≡ option_map length page
+as_long None offset byte = refl
+as_long (Some bytes) offset byte = ap Some (length-set bytes offset byte)
+
+put_shape : (pages : List (Option (List ℕ))) (k offset byte : ℕ) (page : Option (Option (List ℕ))) → slice_get pages k ≡ page → shape (put_in page pages k offset byte) ≡ shape pages
+put_shape pages k offset byte None found = refl
+put_shape pages k offset byte (Some page) found = shape_set pages k page _ found (as_long page offset byte)
+
+-- bytes that are put into the pages leave their shape as it is
+pub shape_byte : (pages : List (Option (List ℕ))) (address byte : ℕ) → shape (with_byte pages address byte) ≡ shape pages
+shape_byte pages address byte = put_shape pages (address / 4096) (address % 4096) byte (slice_get pages (address / 4096)) refl
+
+pub shape_bytes : (pages : List (Option (List ℕ))) (address : ℕ) (bytes : List ℕ) → shape (with_bytes pages address bytes) ≡ shape pages
+shape_bytes pages address [] = refl
+shape_bytes pages address (byte ∷ bytes) = shape_bytes (with_byte pages address byte) (address + 1) bytes ∙ shape_byte pages address byte
+
+-- pages of one shape are as many, and as present
+pub same_count : (old new : List (Option (List ℕ))) → shape new ≡ shape old → length new ≡ length old
+same_count [] [] e = refl
+same_count [] (page ∷ new) e = cc
+same_count (page ∷ old) [] e = cc
+same_count (first ∷ old) (page ∷ new) e =
+    let rest : shape new ≡ shape old = cc in
+    ap suc (same_count old new rest)
+
+present_here : (page : Option (List ℕ)) (n : Option (List ℕ)) → option_map length page ≡ option_map length n → IsSome n → IsSome page
+present_here (Some bytes) n e h = refl
+present_here None None e h = h
+present_here None (Some bytes) e h = cc
+
+pub same_present : (old new : List (Option (List ℕ))) → shape new ≡ shape old → AllPresent old → AllPresent new
+same_present [] [] e h = tt
+same_present [] (page ∷ new) e h = cc
+same_present (page ∷ old) [] e h = tt
+same_present (first ∷ old) (page ∷ new) e h =
+    let head : option_map length page ≡ option_map length first = cc in
+    let rest : shape new ≡ shape old = cc in
+    (present_here page first head h.0, same_present old new rest h.1)
+
+-- pages of bytes
+page_bytes : (page : Option (List ℕ)) (offset byte : ℕ) → HasBytes page → byte < 256 → HasBytes (option_map (λ bytes. slice_set bytes offset byte) page)
+page_bytes None offset byte h k = tt
+page_bytes (Some bytes) offset byte h k = each_set (λ b. b < 256) bytes offset byte k h
+
+put_bytes : (pages : List (Option (List ℕ))) (k offset byte : ℕ) (page : Option (Option (List ℕ))) → slice_get pages k ≡ page → AllByRecursion HasBytes pages → byte < 256 → AllByRecursion HasBytes (put_in page pages k offset byte)
+put_bytes pages k offset byte None found h b = h
+put_bytes pages k offset byte (Some page) found h b =
+    each_set HasBytes pages k _ (page_bytes page offset byte (each_get HasBytes pages k page h found) b) h
+
+pub bytes_byte : (pages : List (Option (List ℕ))) (address byte : ℕ) → AllByRecursion HasBytes pages → byte < 256 → AllByRecursion HasBytes (with_byte pages address byte)
+bytes_byte pages address byte h b = put_bytes pages (address / 4096) (address % 4096) byte (slice_get pages (address / 4096)) refl h b
+
+pub bytes_bytes : (pages : List (Option (List ℕ))) (address : ℕ) (bytes : List ℕ) → AllByRecursion HasBytes pages → AreBytes bytes → AllByRecursion HasBytes (with_bytes pages address bytes)
+bytes_bytes pages address [] h bs = h
+bytes_bytes pages address (byte ∷ bytes) h bs = bytes_bytes (with_byte pages address byte) (address + 1) bytes (bytes_byte pages address byte h bs.0) bs.1
+
+-- each item of a list, and 0 past its end
+pub index_below : (P : ℕ → Type 0) (xs : List ℕ) (i : ℕ) → P 0 → AllByRecursion P xs → P (slice_index xs i)
+index_below P [] i z h = z
+index_below P (x ∷ xs) zero z h = h.0
+index_below P (x ∷ xs) (suc i) z h = index_below P xs i z h.1
+
+byte_of : (pages : List (Option (List ℕ))) (k offset : ℕ) (page : Option (Option (List ℕ))) → slice_get pages k ≡ page → AllByRecursion HasBytes pages → byte_in (there page) offset < 256
+byte_of pages k offset None found h = omega arith
+byte_of pages k offset (Some None) found h = omega arith
+byte_of pages k offset (Some (Some bytes)) found h = index_below (λ b. b < 256) bytes offset (omega arith) (each_get HasBytes pages k (Some bytes) h found)
+
+-- each byte of such pages is one
+pub byte_below : (pages : List (Option (List ℕ))) (address : ℕ) → AllByRecursion HasBytes pages → byte_at pages address < 256
+byte_below pages address h = byte_of pages (address / 4096) (address % 4096) (slice_get pages (address / 4096)) refl h
+
+pub each_below : (pages : List (Option (List ℕ))) (address count : ℕ) → AllByRecursion HasBytes pages → AreBytes (bytes_at pages address count)
+each_below pages address zero h = tt
+each_below pages address (suc count) h = (byte_below pages address h, each_below pages (address + 1) count h)
+
+-- where each page is there, a page of the image is found
+pub present_found : (pages : List (Option (List ℕ))) (k : ℕ) → AllPresent pages → k < length pages → (page : List ℕ) × (page_of pages k ≡ Some page)
+present_found [] k h within = absurd (omega arith)
+present_found (None ∷ pages) zero h within = cc (h.0)
+present_found (Some page ∷ pages) zero h within = (page, refl)
+present_found (page ∷ pages) (suc k) h within = present_found pages k h.1 (omega arith)
+
+-- and no part of them is away
+pub none_away : (k : ℕ) (pages : List (Option (List ℕ))) (parts : Parts) → AllPresent pages → first_away k pages parts ≡ None
+none_away k [] parts h = refl
+none_away k (None ∷ pages) parts h = cc (h.0)
+none_away k (Some page ∷ pages) parts h = none_away (k + 1) pages parts h.1

@@ -1,0 +1,10 @@
+pub mod Machine
+pub mod Memory
+pub mod Arguments
+pub mod Parts
+pub mod Calls
+pub mod Steps
+pub mod Runs
+pub mod Replies
+pub mod Fresh
+pub mod Facts
