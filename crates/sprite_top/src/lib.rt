@@ -17,3 +17,6 @@ pub use entry::{Entry, Part};
 pub use event::{Event, Rec};
 pub use top::{Ended, Status, sprite};
 pub use trace::Trace;
+
+#[cfg(test)]
+mod tests;
