@@ -1,0 +1,30 @@
+//! The program `sprite`: it runs a described cluster of Sprite kernels.
+#![tactic(auto)]
+
+use sprite_bytes::{StdSink, StdSource};
+use sprite_top::{Status, sprite};
+use std::process::ExitCode;
+use std::{env, io};
+
+fn main(rt: HostRuntime) -> ExitCode {
+    ExitCode::from(status(&rt).number())
+}
+
+/// Runs the command of the program's words over its standard input and output.
+fn status(rt: &HostRuntime) -> Status {
+    let Ok(words) = words(rt) else {
+        return Status::NoMemory;
+    };
+    let mut source = StdSource::new(rt.reader());
+    let mut sink = StdSink::new(io::writer(rt));
+    sprite(rt.alloc(), words.as_slice(), &mut source, &mut sink).status
+}
+
+/// The words after the program's name.
+fn words(rt: &HostRuntime) -> io::Result<Vec<String>> {
+    let mut words = Vec::new(rt.alloc());
+    for word in env::args(rt)?.skip(1) {
+        words.push(word)?;
+    }
+    Ok(words)
+}

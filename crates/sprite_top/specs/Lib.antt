@@ -1,0 +1,13 @@
+pub mod After
+pub mod Journal
+pub mod Once
+pub mod Output
+pub mod Quoted
+pub mod SmallCluster
+pub mod SmallLine
+pub mod SmallProgram
+pub mod SmallRun
+pub mod Tables
+pub mod Top
+pub mod Unix
+pub mod Words

@@ -1,0 +1,124 @@
+-- What the top call promises for each status.
+use Rattle.std.specs.Prelude.{codes, ◌≡◌, ℕ, ◌<◌, ◌≤◌, ◌⊎◌, List, [], ◌∷◌, Option, Some, None, length, map, take, String, string_bytes}
+use Rattle.std.specs.Io.KnownBytes.{Consumes, Appends, IsAtEnd}
+use Rattle.std.specs.declared.alloc.Global.{Global}
+use Rattle.sprite_ids.specs.declared.running.Finish.TheVariants.{AllEnded as EveryOneEnded}
+use Rattle.sprite_bytes.specs.Counts.{Rose}
+use Rattle.sprite_top.specs.declared.closed.Closed.{Closed}
+use Rattle.sprite_top.specs.declared.top.Answer.{Answer}
+use Rattle.sprite_top.specs.declared.top.Status.{Status}
+use Rattle.sprite_top.specs.declared.top.Status.TheVariants as status
+use Rattle.sprite_top.specs.SmallCluster.{Describes, DescribesNone}
+use Rattle.sprite_top.specs.Journal.{journal_of}
+use Rattle.sprite_top.specs.After.{state_of, Legal, AllEnded}
+use Rattle.sprite_top.specs.Once.{Once}
+use Rattle.sprite_top.specs.Output.{output_of}
+
+-- the words as texts
+abbrev pub spelled : List (String Global) → List (List ℕ)
+spelled words = map string_bytes words
+
+-- the one command that is built so far
+abbrev pub run_words : List (List ℕ)
+run_words = codes "run" ∷ []
+
+-- the lines that are written where nothing was run
+abbrev pub usage_line : List ℕ
+usage_line = codes "usage: sprite run | run --seed N | run --stats | history | load N\n"
+
+abbrev pub refused_line : List ℕ
+refused_line = codes "refused: 13\n"
+
+abbrev pub fault_line : List ℕ
+fault_line = codes "read fault\n"
+
+-- a run of the cluster that the bytes describe: its journal is a history of one Unix kernel, each finished call stands in
+-- it once, every process has ended, and what is due is the output of the journal
+pub record IsRunOf (bytes : List ℕ) (closed : Option Closed) (due : List ℕ) : Type 0 where
+  pub run : Closed
+  pub kept : closed ≡ Some run
+  pub described : Describes bytes run.description
+  pub legal : Legal run.description (journal_of run.trace)
+  pub once : Once run.trace
+  pub finished : run.finish ≡ EveryOneEnded
+  pub all_ended : AllEnded (state_of run.description (journal_of run.trace)).processes
+  pub output : due ≡ output_of run.description (journal_of run.trace) run.finish
+
+-- nothing was run, and that line is due
+pub record IsLine (closed : Option Closed) (due line : List ℕ) : Type 0 where
+  pub no_run : closed ≡ None
+  pub output : due ≡ line
+
+-- the words are `run`, the source was read to its end, and its bytes were run
+pub record IsEnded (words : List (List ℕ)) (left left_after : Option (List ℕ)) (closed : Option Closed) (due : List ℕ) : Type 0 where
+  pub words_are : words ≡ run_words
+  pub came : List ℕ
+  pub read : Consumes left left_after came
+  pub at_end : IsAtEnd left_after
+  pub short : length came ≤ 1048576
+  pub run_of : IsRunOf came closed due
+
+-- bytes that are read to their end and describe nothing, or too many bytes
+abbrev pub AreRefused : Option (List ℕ) → List ℕ → Type 0
+AreRefused left_after came = (IsAtEnd left_after × (length came ≤ 1048576) × DescribesNone came) ⊎ (1048576 < length came)
+
+-- the words are `run`, and what was read is refused
+pub record IsRefused (words : List (List ℕ)) (left left_after : Option (List ℕ)) (closed : Option Closed) (due : List ℕ) : Type 0 where
+  pub words_are : words ≡ run_words
+  pub came : List ℕ
+  pub read : Consumes left left_after came
+  pub cause : AreRefused left_after came
+  pub line : IsLine closed due refused_line
+
+-- the words are not `run`, and nothing was read
+pub record IsUsage (words : List (List ℕ)) (left left_after : Option (List ℕ)) (faults faults_after : ℕ) (closed : Option Closed) (due : List ℕ) : Type 0 where
+  pub words_are_not : words ≡ run_words → ⊥
+  pub nothing_read : left_after ≡ left
+  pub no_fault : faults_after ≡ faults
+  pub line : IsLine closed due usage_line
+
+-- the words are `run`, and the source's count of faults rose
+pub record IsReadFault (words : List (List ℕ)) (faults faults_after : ℕ) (closed : Option Closed) (due : List ℕ) : Type 0 where
+  pub words_are : words ≡ run_words
+  pub rose : Rose faults faults_after
+  pub line : IsLine closed due fault_line
+
+-- why a status comes, before anything is written
+abbrev pub Causes : Status → List (List ℕ) → Option (List ℕ) → Option (List ℕ) → ℕ → ℕ → Option Closed → List ℕ → Type 0
+Causes status.Ended words left left_after faults faults_after closed due = IsEnded words left left_after closed due
+Causes status.Refused words left left_after faults faults_after closed due = IsRefused words left left_after closed due
+Causes status.Usage words left left_after faults faults_after closed due = IsUsage words left left_after faults faults_after closed due
+Causes status.ReadFault words left left_after faults faults_after closed due = IsReadFault words faults faults_after closed due
+Causes status.NoMemory words left left_after faults faults_after closed due = ⊥
+Causes status.WriteFault words left left_after faults faults_after closed due = ⊥
+
+-- what is due for the bytes of a whole file
+abbrev pub FileCauses : Status → List ℕ → Option Closed → List ℕ → Type 0
+FileCauses status.Ended bytes closed due = IsRunOf bytes closed due
+FileCauses status.Refused bytes closed due = DescribesNone bytes × IsLine closed due refused_line
+FileCauses _ bytes closed due = ⊥
+
+-- what was due was written behind what the sink held
+pub record Wrote (held held_after : Option (List ℕ)) (Due : List ℕ → Type 0) : Type 0 where
+  pub due : List ℕ
+  pub is_due : Due due
+  pub wrote : Appends held held_after due
+
+-- a prefix of what was due was written, for the status that would have come
+pub record Broke (held held_after : Option (List ℕ)) (faults faults_after : ℕ) (Due : Status → List ℕ → Type 0) : Type 0 where
+  pub status : Status
+  pub due : List ℕ
+  pub is_due : Due status due
+  pub count : ℕ
+  pub part : count < length due
+  pub wrote : Appends held held_after (take count due)
+  pub rose : Rose faults faults_after
+
+-- the exit status of the program
+abbrev pub status_number : Status → ℕ
+status_number status.Ended = 0
+status_number status.Refused = 1
+status_number status.Usage = 2
+status_number status.ReadFault = 3
+status_number status.NoMemory = 6
+status_number status.WriteFault = 7

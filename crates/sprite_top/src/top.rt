@@ -1,0 +1,184 @@
+ghost use Rattle.std.specs.Prelude.{◌≡◌, ◌++◌, ◌↔◌, None, IsTrue, IfOk};
+ghost use Rattle.std.specs.Io.KnownBytes.{Consumes, Appends, IsAtEnd};
+ghost use Rattle.sprite_ids.specs.declared.running.Finish.TheVariants.{AllEnded};
+ghost use Rattle.sprite_bytes.specs.Counts.{Rose};
+ghost use Rattle.sprite_top.specs.Journal.{journal_of};
+ghost use Rattle.sprite_top.specs.Output.{output_of};
+ghost use Rattle.sprite_top.specs.SmallRun.{IsSmall, IsRun};
+ghost use Rattle.sprite_top.specs.Top.{spelled, run_words, IsEnded, IsRefused, IsUsage, IsReadFault, Causes, FileCauses, Wrote, Broke, status_number};
+
+use crate::closed::Closed;
+use crate::description::Description;
+use crate::report::{push_console, push_process};
+use crate::run::{Outcome, run};
+use crate::small::cluster::read_description;
+use sprite_bytes::{ReadEnd, Sink, Source, read_all, write_all};
+use sprite_ids::{Bytes, Finish, NoMemory};
+use std::alloc::Global;
+
+/// How many bytes a cluster file may have.
+const FILE_BYTES: usize = 1_048_576;
+
+/// What is written where the words are no command.
+const USAGE_LINE: &[u8] = b"usage: sprite run | run --seed N | run --stats | history | load N\n";
+
+/// What is written for a file that isn't taken so far.
+const REFUSED_LINE: &[u8] = b"refused: 13\n";
+
+/// What is written where the source failed.
+const FAULT_LINE: &[u8] = b"read fault\n";
+
+/// How a call of the program ended. The numbers are the program's exit statuses (this project).
+#[derive(Clone, Copy, Debug, PartialEq, Eq)]
+pub enum Status {
+    /// 0: every process has ended, and the output was written.
+    Ended,
+    /// 1: the bytes read are no cluster file.
+    Refused,
+    /// 2: the words are no command.
+    Usage,
+    /// 3: the source failed.
+    ReadFault,
+    /// 6: memory was wanting; nothing was written.
+    NoMemory,
+    /// 7: the sink failed; a prefix of what was due was written.
+    WriteFault,
+}
+
+/// What the top call gives back.
+#[derive(Debug, Drop)]
+pub struct Ended {
+    pub status: Status,
+    /// The run that was made; None exactly where none was.
+    pub closed: Option<Closed>,
+}
+
+/// What is due to be written, with which status, and the run that was made.
+#[derive(Debug, Drop)]
+pub struct Answer {
+    pub status: Status,
+    pub due: Bytes,
+    pub closed: Option<Closed>,
+}
+
+/// Runs the command that the words spell on the cluster file that the source holds, and writes to the sink.
+///
+/// The words are those behind the program's name; so far `run` alone is a command. All that is due is made before its
+/// first byte is written. Want of memory may come at any point before, and then nothing is written. Where a source or a
+/// sink tells nothing of its bytes, the clauses say that some bytes were read or written so.
+pub fn sprite<S: Source, K: Sink>(
+    alloc: Global,
+    words: &[String],
+    source: &mut S,
+    sink: &mut K,
+) -> Ended
+    ensures ended { result.status ≡ Status.Ended → Wrote (K.held sink.old) (K.held sink.new) (IsEnded (spelled words.now) (S.left source.old) (S.left source.new) result.closed) }
+    ensures refused { result.status ≡ Status.Refused → Wrote (K.held sink.old) (K.held sink.new) (IsRefused (spelled words.now) (S.left source.old) (S.left source.new) result.closed) }
+    ensures usage { result.status ≡ Status.Usage → Wrote (K.held sink.old) (K.held sink.new) (IsUsage (spelled words.now) (S.left source.old) (S.left source.new) (S.faults source.old) (S.faults source.new) result.closed) }
+    ensures read_fault { result.status ≡ Status.ReadFault → Wrote (K.held sink.old) (K.held sink.new) (IsReadFault (spelled words.now) (S.faults source.old) (S.faults source.new) result.closed) }
+    ensures no_memory { result.status ≡ Status.NoMemory → (K.held sink.new ≡ K.held sink.old) × (result.closed ≡ None) }
+    ensures write_fault { result.status ≡ Status.WriteFault → Broke (K.held sink.old) (K.held sink.new) (K.faults sink.old) (K.faults sink.new) (λ status. Causes status (spelled words.now) (S.left source.old) (S.left source.new) (S.faults source.old) (S.faults source.new) result.closed) }
+{
+    let Ok(answer) = answer_to(alloc, words, source) else {
+        return Ended {
+            status: Status::NoMemory,
+            closed: None,
+        };
+    };
+    match write_all(sink, answer.due.as_slice()) {
+        Ok(()) => Ended {
+            status: answer.status,
+            closed: answer.closed,
+        },
+        Err(_) => Ended {
+            status: Status::WriteFault,
+            closed: answer.closed,
+        },
+    }
+}
+
+/// What is due for these words and this source. The one error is want of memory.
+fn answer_to<S: Source>(alloc: Global, words: &[String], source: &mut S) -> Result<Answer, NoMemory>
+    ensures { IfOk result (λ a. Causes a.status (spelled words.now) (S.left source.old) (S.left source.new) (S.faults source.old) (S.faults source.new) a.closed a.due) }
+{
+    if !is_run(words) {
+        return refuse(alloc, Status::Usage, USAGE_LINE);
+    }
+    match read_all(alloc, source, FILE_BYTES) {
+        Ok(bytes) => answer_file(alloc, bytes.as_slice()),
+        Err(ReadEnd::TooLong) => refuse(alloc, Status::Refused, REFUSED_LINE),
+        Err(ReadEnd::Fault { .. }) => refuse(alloc, Status::ReadFault, FAULT_LINE),
+        Err(ReadEnd::NoMemory) => Err(NoMemory),
+    }
+}
+
+/// Whether the words are `run` alone.
+fn is_run(words: &[String]) -> bool
+    ensures { IsTrue result ↔ (spelled words.now ≡ run_words) }
+{
+    match words {
+        [word] => word.as_str() == "run",
+        _ => false,
+    }
+}
+
+/// An answer with no run.
+fn refuse(alloc: Global, status: Status, line: &[u8]) -> Result<Answer, NoMemory>
+    ensures { IfOk result (λ a. a ≡ record { status = status; due = line.now; closed = None }) }
+{
+    Ok(Answer {
+        status,
+        due: Bytes::of_slice(alloc, line)?,
+        closed: None,
+    })
+}
+
+/// What is due for a whole cluster file. The one error is want of memory.
+fn answer_file(alloc: Global, bytes: &[u8]) -> Result<Answer, NoMemory>
+    ensures { IfOk result (λ a. FileCauses a.status bytes.now a.closed a.due) }
+{
+    let Some(description) = read_description(alloc, bytes)? else {
+        return refuse(alloc, Status::Refused, REFUSED_LINE);
+    };
+    let outcome = run(alloc, &description)?;
+    let due = output(alloc, &description, &outcome)?;
+    Ok(Answer {
+        status: Status::Ended,
+        due: Bytes::of_vec(due),
+        closed: Some(Closed {
+            description,
+            trace: outcome.running.trace,
+            finish: Finish::AllEnded,
+        }),
+    })
+}
+
+/// The output of a run.
+fn output(alloc: Global, description: &Description, outcome: &Outcome) -> Result<Vec<u8>, NoMemory>
+    requires small { IsSmall description.now }
+    requires run { IsRun description.now outcome.now }
+    ensures { IfOk result (λ out. out.items ≡ output_of description.now (journal_of outcome.now.running.trace) AllEnded) }
+{
+    let mut out = Vec::new(alloc);
+    let name = description.programs.at(0).name.as_slice();
+    let home = description.kernels.at(0).name.as_slice();
+    push_process(alloc, &mut out, 1001, name, home, outcome.code)?;
+    push_console(&mut out, outcome.running.console.as_slice())?;
+    Ok(out)
+}
+
+impl Status {
+    /// The exit status of the program, 0 to 7.
+    pub fn number(self) -> u8
+        ensures { result ≡ status_number self }
+    {
+        match self {
+            Status::Ended => 0,
+            Status::Refused => 1,
+            Status::Usage => 2,
+            Status::ReadFault => 3,
+            Status::NoMemory => 6,
+            Status::WriteFault => 7,
+        }
+    }
+}
