@@ -1,5 +1,5 @@
 -- Journals, states and turns of a trace that grows.
-use Rattle.std.proofs.Common.{◌≡◌, ℕ, ◌==◌, List, [], ◌∷◌, ◌++◌, Bool, true, false, cond, map, filter, refl, ap, sym, ◌∙◌, subst, append_assoc}
+use Rattle.std.proofs.Common.{◌≡◌, ℕ, ◌==◌, List, [], ◌∷◌, ◌++◌, Bool, true, false, cond, map, filter, refl, ap, sym, ◌∙◌, append_assoc}
 use Rattle.std.specs.List.{AllByRecursion}
 use Rattle.std.proofs.lemmas.List.{map-append}
 use Rattle.std.proofs.lemmas.List.Elements.{filter-append}
@@ -9,8 +9,8 @@ use Rattle.sprite_top.specs.declared.event.Event.{Event}
 use Rattle.sprite_top.specs.declared.event.Rec.{Rec}
 use Rattle.sprite_top.specs.Journal.{entered, journal_of}
 use Rattle.sprite_top.specs.Unix.{Unix}
-use Rattle.sprite_top.specs.After.{after, Allowed, state_from, LegalFrom}
-use Rattle.sprite_top.specs.Once.{Progress, progress_after, pid_of, InTurn, InTurns, events_of}
+use Rattle.sprite_top.specs.After.{after, state_from, LegalFrom}
+use Rattle.sprite_top.specs.Once.{Progress, progress_after, pid_of, InTurns, events_of}
 use Rattle.sprite_top.specs.SmallRun.{reached}
 
 pub journal_of-append : (t u : List Rec) → journal_of (t ++ u) ≡ journal_of t ++ journal_of u

@@ -1,15 +1,14 @@
 -- The calls of a small program: each step of its image stands at a print or at an exit.
-use Rattle.std.proofs.Common.{◌≡◌, ℕ, zero, suc, ◌+◌, ◌*◌, ◌<◌, ◌≤◌, ◌%◌, ◌⊎◌, inl, inr, List, [], ◌∷◌, ◌++◌, Bool, true, false, Option, Some, None, cond, length, nat_lt, slice_get, refl, ap, sym, ◌∙◌, subst, arith, length-append}
+use Rattle.std.proofs.Common.{◌≡◌, ℕ, zero, suc, ◌+◌, ◌<◌, ◌≤◌, ◌%◌, ◌⊎◌, inl, inr, List, [], ◌∷◌, ◌++◌, Option, Some, None, length, slice_get, refl, ap, sym, ◌∙◌, subst, arith, length-append}
 use Rattle.std.specs.List.{AllByRecursion}
 use Rattle.std.proofs.lemmas.Bool.Decides.{nat_tests}
-use Rattle.std.proofs.lemmas.Grind.{common_steps}
 use Rattle.process_machine.specs.declared.instruction.Instruction.{Instruction}
 use Rattle.process_machine.specs.declared.parts.PartKind.TheVariants.{Data}
 use Rattle.process_machine.specs.declared.call.Call.TheVariants.{Print, Exit}
 use Rattle.process_machine.specs.declared.program.Program.{Program}
 use Rattle.process_machine.specs.Machine.{Machine}
-use Rattle.process_machine.specs.Memory.{bytes_at, leaves}
-use Rattle.process_machine.specs.Parts.{refusal, one_part, no_part, first_away}
+use Rattle.process_machine.specs.Memory.{bytes_at}
+use Rattle.process_machine.specs.Parts.{refusal, one_part, no_part}
 use Rattle.process_machine.specs.Steps.{AtCall, done_if, calling, wanting, step_of}
 use Rattle.process_machine.specs.Calls.{call_in, call_at, unless_refused}
 use Rattle.process_machine.specs.Facts.{AllPresent}

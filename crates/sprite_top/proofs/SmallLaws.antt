@@ -1,5 +1,5 @@
 -- What is read as a small description is one.
-use Rattle.std.proofs.Common.{codes, nat_eq, ◌≡◌, ℕ, ◌+◌, ◌<◌, ◌≤◌, ◌==◌, ◌&&◌, ◌||◌, ◌⊎◌, inl, inr, List, [], ◌∷◌, ◌++◌, Bool, true, false, cond, Option, Some, None, length, refl, ap, sym, ◌∙◌, subst, arith, length-append}
+use Rattle.std.proofs.Common.{codes, nat_eq, ◌≡◌, ℕ, ◌+◌, ◌≤◌, ◌==◌, ◌&&◌, ◌||◌, ◌⊎◌, inl, inr, List, [], ◌∷◌, ◌++◌, Bool, true, false, Option, Some, None, length, refl, subst, arith, length-append}
 use Rattle.std.specs.Bool.{if◌then◌else◌}
 use Rattle.std.specs.Option.{option_and_then}
 use Rattle.std.specs.List.{AllByRecursion}
@@ -17,9 +17,9 @@ use Rattle.sprite_top.specs.declared.small.line.Line.TheVariants.{Text, Print, E
 use Rattle.sprite_top.specs.declared.small.program.Reading.{Reading}
 use Rattle.sprite_top.specs.Words.{skip_spaces, word_of, past_word, number_of, lines_of}
 use Rattle.sprite_top.specs.Quoted.{literal}
-use Rattle.sprite_top.specs.SmallLine.{is_inside, is_blank, placed, quoted_at, text_line, print_of, print_line, exit_line, sys_line, line_of}
+use Rattle.sprite_top.specs.SmallLine.{is_inside, placed, quoted_at, text_line, print_line, exit_line, sys_line, line_of}
 use Rattle.sprite_top.specs.SmallProgram.{print_call, exit_call, with_text, with_call, with_any, with_line, with_lines, unread, finished, small_program}
-use Rattle.sprite_top.specs.SmallCluster.{name_in, table_in, named_program, program_in, program_of, described, started_with, kernels_of, programs_of, starts_of, kernel_names, from_names, from_arrays, cluster_of, has_version, small_cluster, small_description}
+use Rattle.sprite_top.specs.SmallCluster.{name_in, table_in, named_program, program_in, program_of, started_with, kernels_of, programs_of, starts_of, kernel_names, from_names, from_arrays, cluster_of, has_version, small_cluster, small_description}
 use Rattle.toml.specs.Parse.{parse_document}
 use Rattle.sprite_top.specs.Tables.{member_count, number_at, text_at}
 use Rattle.sprite_top.specs.SmallRun.{IsPrintCall, IsSmallCode, IsSmall}

@@ -1,5 +1,5 @@
 -- A run of a small description: what holds between two calls holds after the next one, and after the exit it is over.
-use Rattle.std.proofs.Common.{◌≡◌, ℕ, zero, suc, ◌+◌, ◌<◌, ◌≤◌, ◌==◌, ◌%◌, ◌⊎◌, List, [], ◌∷◌, ◌++◌, Bool, true, false, Option, Some, None, cond, map, length, slice_get, slice_set, refl, ap, sym, ◌∙◌, subst, arith, length-append, append_assoc}
+use Rattle.std.proofs.Common.{◌≡◌, ℕ, zero, suc, ◌+◌, ◌<◌, ◌≤◌, ◌==◌, ◌%◌, List, [], ◌∷◌, ◌++◌, Bool, true, false, Option, Some, cond, map, length, refl, ap, sym, ◌∙◌, subst, arith, length-append, append_assoc}
 use Rattle.std.specs.List.{AllByRecursion}
 use Rattle.sprite_ids.proofs.ListLaws.{some_is}
 use Rattle.process_machine.specs.declared.call.Call.{Call}
@@ -7,31 +7,28 @@ use Rattle.process_machine.specs.declared.call.Call.TheVariants.{Print, Exit}
 use Rattle.process_machine.specs.declared.program.Program.{Program}
 use Rattle.process_machine.specs.Machine.{Machine}
 use Rattle.process_machine.specs.Memory.{bytes_at}
-use Rattle.process_machine.specs.Steps.{Step, Moved, AtCall, step_of}
-use Rattle.process_machine.specs.Runs.{ahead, at_next_call, next_call}
+use Rattle.process_machine.specs.Steps.{Moved, AtCall, step_of}
+use Rattle.process_machine.specs.Runs.{ahead}
 use Rattle.process_machine.specs.Calls.{call_at}
 use Rattle.process_machine.specs.Replies.{given_in, given}
 use Rattle.process_machine.specs.declared.instruction.Instruction.{Instruction}
 use Rattle.process_machine.specs.Fresh.{fresh_machine}
-use Rattle.process_machine.specs.Facts.{AllPresent}
 use Rattle.process_machine.proofs.MachineLaws.{ahead_first, at_call, next_found, next_is_call}
 use Rattle.process_machine.proofs.StepLaws.{given_keeps, present_given, fresh_present, fresh_count}
 use Rattle.process_machine.proofs.MemoryLaws.{same_count}
 use Rattle.sprite_top.specs.declared.description.Description.{Description}
-use Rattle.sprite_top.specs.declared.description.ProgramLine.{ProgramLine}
 use Rattle.sprite_top.specs.declared.entry.Entry.{Entry}
 use Rattle.sprite_top.specs.declared.event.Event.{Event}
-use Rattle.sprite_top.specs.declared.event.Event.TheVariants.{Burst, Issue, Enter, Return}
 use Rattle.sprite_top.specs.declared.event.Rec.{Rec}
 use Rattle.sprite_top.specs.declared.run.Running.{Running}
-use Rattle.sprite_top.specs.SmallProgram.{print_call, exit_call}
+use Rattle.sprite_top.specs.SmallProgram.{exit_call}
 use Rattle.sprite_top.specs.Journal.{journal_of}
-use Rattle.sprite_top.specs.Unix.{Process, Unix, boot_of, process_at, put_process, program_at}
-use Rattle.sprite_top.specs.After.{nothing, IsReply, after_call, counted, process_after, processes_with, after, Allowed, state_from, state_of, LegalFrom, Legal}
+use Rattle.sprite_top.specs.Unix.{Unix, boot_of, put_process, program_at}
+use Rattle.sprite_top.specs.After.{nothing, IsReply, after_call, counted, process_after, processes_with, after, Allowed, state_of, LegalFrom, Legal}
 use Rattle.sprite_top.specs.Once.{Progress, Between, pid_of, InTurns, events_of}
-use Rattle.sprite_top.specs.SmallRun.{IsSmall, IsSmallCode, code_of, code_in, entry_of, call_records, return_record, alone, reached, running_process, ended_process, Stands, IsOver}
+use Rattle.sprite_top.specs.SmallRun.{IsSmall, IsSmallCode, code_of, entry_of, call_records, return_record, alone, reached, running_process, Stands, IsOver}
 use Rattle.sprite_top.proofs.HistoryLaws.{journal_of-append, state_from-append, LegalFrom-append, reached-append, InTurns-append, events_of-append, filter_same}
-use Rattle.sprite_top.proofs.SmallCallLaws.{StandsAt, print_there, exit_at, exit_there, Standing, prints, exits, standing}
+use Rattle.sprite_top.proofs.SmallCallLaws.{print_there, exit_at, exit_there, prints, exits, standing}
 
 -- the program of a small description, and its code
 pub record Runs (c : Description) (p : Program) : Type 0 where

@@ -1,5 +1,5 @@
 -- The words of the command line, and what is due for a whole file.
-use Rattle.std.proofs.Common.{◌≡◌, ℕ, ◌<◌, ◌≤◌, ◌↔◌, List, [], ◌∷◌, length, Bool, true, IsTrue, Option, Result, Ok, Err, IfOk, String, map, codes, nat_eq, slice_index_or, refl, ap, sym, ◌∙◌, arith, string_bytes, inl}
+use Rattle.std.proofs.Common.{◌≡◌, ℕ, ◌<◌, ◌≤◌, ◌↔◌, List, [], ◌∷◌, length, Bool, IsTrue, Option, Result, Ok, Err, IfOk, String, codes, nat_eq, slice_index_or, ap, sym, ◌∙◌, arith, string_bytes, inl}
 use Rattle.std.specs.declared.alloc.Global.{Global}
 use Rattle.std.specs.Io.KnownBytes.{Consumes, IsAtEnd}
 use Rattle.std.specs.Cmp.Lexicographic.{pointwise, bytes_decides}

@@ -1,6 +1,5 @@
 -- What one kernel answers to each call, and what the call changes.
 use Rattle.std.specs.Prelude.{◌≡◌, ℕ, ◌+◌, List, [], ◌∷◌, ◌++◌, Option, Some, None, IsSome}
-use Rattle.sprite_ids.specs.declared.running.Ending.{Ending}
 use Rattle.sprite_ids.specs.declared.running.Ending.TheVariants as ending
 use Rattle.process_machine.specs.declared.call.Call.{Call}
 use Rattle.process_machine.specs.declared.call.Call.TheVariants.{Print, Exit}
@@ -12,7 +11,6 @@ use Rattle.process_machine.specs.Runs.{at_next_call, next_call}
 use Rattle.process_machine.specs.Replies.{given}
 use Rattle.sprite_top.specs.declared.description.Description.{Description}
 use Rattle.sprite_top.specs.declared.entry.Entry.{Entry}
-use Rattle.sprite_top.specs.declared.entry.Part.{Part}
 use Rattle.sprite_top.specs.declared.entry.Part.TheVariants.{Whole}
 use Rattle.sprite_top.specs.Unix.{Process, Unix, boot_of, process_at, put_process, program_at}
 

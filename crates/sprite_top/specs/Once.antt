@@ -3,7 +3,6 @@ use Rattle.std.specs.Prelude.{◌≡◌, ℕ, ◌+◌, ◌==◌, List, [], ◌�
 use Rattle.process_machine.specs.declared.call.Call.{Call}
 use Rattle.process_machine.specs.declared.call.Call.TheVariants.{Exit, BadStep}
 use Rattle.process_machine.specs.declared.call.Reply.{Reply}
-use Rattle.sprite_top.specs.declared.entry.Entry.{Entry}
 use Rattle.sprite_top.specs.declared.entry.Part.TheVariants.{Whole}
 use Rattle.sprite_top.specs.declared.event.Event.{Event}
 use Rattle.sprite_top.specs.declared.event.Event.TheVariants.{Burst, Issue, Enter, Return}

@@ -13,7 +13,7 @@ use Rattle.sprite_top.specs.declared.description.KernelLine.{KernelLine}
 use Rattle.sprite_top.specs.declared.description.ProgramLine.{ProgramLine}
 use Rattle.sprite_top.specs.declared.entry.Entry.{Entry}
 use Rattle.sprite_top.specs.Words.{lines_of}
-use Rattle.sprite_top.specs.Unix.{Process, Unix}
+use Rattle.sprite_top.specs.Unix.{Process}
 use Rattle.sprite_top.specs.After.{state_of}
 
 -- a hexadecimal digit, in lower case

@@ -1,16 +1,14 @@
 -- The small descriptions: a client, a server of the whole file space, one program and one process.
-use Rattle.std.specs.Prelude.{◌≡◌, codes, IsUtf8, ℕ, ℤ, pos, List, [], ◌∷◌, ◌==◌, ◌&&◌, ◌||◌, not, Bool, true, false, Option, Some, None, if◌then◌else◌, nat_le, nat_eq, length}
+use Rattle.std.specs.Prelude.{◌≡◌, codes, IsUtf8, ℕ, ℤ, pos, List, [], ◌∷◌, ◌==◌, ◌&&◌, ◌||◌, Bool, false, Option, Some, None, if◌then◌else◌, nat_le, nat_eq, length}
 use Rattle.std.specs.Option.{option_and_then}
 use Rattle.std.specs.List.{list_all}
 use Rattle.std.specs.Cmp.Lexicographic.{pointwise}
-use Rattle.toml.specs.Data.{Data, string, Items, no_items, item, Members, as_str, as_table}
+use Rattle.toml.specs.Data.{Items, Members, as_str, as_table}
 use Rattle.std.specs.Ordering.{int_eq}
 use Rattle.toml.specs.Parse.{parse_document}
 use Rattle.process_machine.specs.declared.program.Program.{Program}
 use Rattle.sprite_top.specs.declared.description.Description.{Description}
-use Rattle.sprite_top.specs.declared.description.KernelLine.{KernelLine}
 use Rattle.sprite_top.specs.declared.description.ProgramLine.{ProgramLine}
-use Rattle.sprite_top.specs.declared.description.StartLine.{StartLine}
 use Rattle.sprite_top.specs.SmallProgram.{small_program}
 use Rattle.sprite_top.specs.Tables.{member_count, item_count, text_at, number_at, array_at, item_at}
 

@@ -1,5 +1,5 @@
 -- The lines of a small program.
-use Rattle.std.specs.Prelude.{codes, ℕ, List, [], ◌∷◌, ◌==◌, ◌+◌, ◌&&◌, ◌||◌, not, Bool, true, false, Option, Some, None, if◌then◌else◌, nat_le, nat_eq, length}
+use Rattle.std.specs.Prelude.{codes, ℕ, List, [], ◌∷◌, ◌==◌, ◌+◌, ◌&&◌, ◌||◌, Bool, false, Option, Some, None, if◌then◌else◌, nat_le, nat_eq, length}
 use Rattle.std.specs.Option.{option_and_then}
 use Rattle.std.specs.Cmp.Lexicographic.{pointwise}
 use Rattle.sprite_top.specs.declared.small.line.Line.{Line}

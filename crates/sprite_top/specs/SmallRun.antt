@@ -1,5 +1,5 @@
 -- Runs of small descriptions.
-use Rattle.std.specs.Prelude.{◌≡◌, ℕ, ◌+◌, List, [], ◌∷◌, ◌++◌, ◌≤◌, ◌<◌, ◌==◌, ◌⊎◌, true, Option, Some, None, length}
+use Rattle.std.specs.Prelude.{◌≡◌, ℕ, ◌+◌, List, [], ◌∷◌, ◌++◌, ◌≤◌, ◌<◌, ◌==◌, ◌⊎◌, true, Some, None, length}
 use Rattle.std.specs.List.{AllByRecursion}
 use Rattle.sprite_ids.specs.declared.running.Ending.TheVariants as ending
 use Rattle.process_machine.specs.declared.call.Call.{Call}
@@ -14,7 +14,6 @@ use Rattle.sprite_top.specs.declared.event.Rec.{Rec}
 use Rattle.sprite_top.specs.declared.run.Outcome.{Outcome}
 use Rattle.sprite_top.specs.declared.run.Running.{Running}
 use Rattle.sprite_top.specs.declared.event.Event.{Event}
-use Rattle.sprite_top.specs.SmallLine.{is_inside}
 use Rattle.sprite_top.specs.SmallProgram.{print_call, exit_call}
 use Rattle.sprite_top.specs.SmallCluster.{described}
 use Rattle.sprite_top.specs.Journal.{journal_of}

@@ -1,7 +1,7 @@
 -- What a table and an array of a document have at a key or a place.
-use Rattle.std.specs.Prelude.{ℤ, ℕ, zero, suc, List, Option}
+use Rattle.std.specs.Prelude.{ℤ, ℕ, suc, List, Option}
 use Rattle.std.specs.Option.{option_and_then}
-use Rattle.toml.specs.Data.{Data, Items, no_items, item, Members, no_members, member, get_member, get_item, as_integer, as_str, as_array, as_table}
+use Rattle.toml.specs.Data.{Data, Items, no_items, item, Members, no_members, member, get_member, get_item, as_integer, as_str, as_array}
 
 -- how many keys
 abbrev pub member_count : Members → ℕ

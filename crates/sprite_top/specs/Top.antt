@@ -5,7 +5,6 @@ use Rattle.std.specs.declared.alloc.Global.{Global}
 use Rattle.sprite_ids.specs.declared.running.Finish.TheVariants.{AllEnded as EveryOneEnded}
 use Rattle.sprite_bytes.specs.Counts.{Rose}
 use Rattle.sprite_top.specs.declared.closed.Closed.{Closed}
-use Rattle.sprite_top.specs.declared.top.Answer.{Answer}
 use Rattle.sprite_top.specs.declared.top.Status.{Status}
 use Rattle.sprite_top.specs.declared.top.Status.TheVariants as status
 use Rattle.sprite_top.specs.SmallCluster.{Describes, DescribesNone}

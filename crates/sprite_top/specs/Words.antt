@@ -1,5 +1,5 @@
 -- Lines, words and numbers of a text.
-use Rattle.std.specs.Prelude.{ℕ, List, [], ◌∷◌, ◌==◌, ◌&&◌, ◌+◌, ◌*◌, ◌-◌, ◌^◌, not, Option, Some, None, if◌then◌else◌, nat_lt, length, drop}
+use Rattle.std.specs.Prelude.{ℕ, List, [], ◌∷◌, ◌==◌, ◌&&◌, ◌+◌, ◌*◌, ◌-◌, ◌^◌, not, Option, Some, None, if◌then◌else◌, nat_lt, drop}
 use Rattle.std.specs.List.{onto_first, position_or_len, before_first}
 use Rattle.std.specs.Char.{is_ascii_digit}
 

@@ -1,4 +1,4 @@
-use Rattle.std.proofs.Common.{◌≡◌, ℕ, ◌+◌, List, ◌∷◌, ◌++◌, [], ap, ◌∙◌, refl, arith}
+use Rattle.std.proofs.Common.{ℕ, ◌+◌, List, ◌∷◌, ◌++◌, [], ap, ◌∙◌, refl, arith}
 use Rattle.process_machine.specs.declared.call.Reply.{Reply}
 use Rattle.process_machine.specs.Machine.{Machine}
 use Rattle.process_machine.specs.Replies.{given}

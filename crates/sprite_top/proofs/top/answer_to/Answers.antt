@@ -1,4 +1,4 @@
-use Rattle.std.proofs.Common.{◌≡◌, ℕ, List, IfOk, sym, subst}
+use Rattle.std.proofs.Common.{ℕ, List, IfOk, subst}
 use Rattle.sprite_top.specs.declared.top.Answer.{Answer}
 use Rattle.sprite_top.specs.Top.{FileCauses}
 use Rattle.sprite_top.proofs.TopLaws.{from_file}
