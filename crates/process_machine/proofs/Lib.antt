@@ -1,3 +1,4 @@
 pub mod MemoryLaws
 pub mod MachineLaws
 pub mod StepLaws
+pub mod FillLaws
