@@ -1,5 +1,5 @@
 -- An image of which some pages are away runs as the whole image does, for as long as it wants none of them.
-use Rattle.std.proofs.Common.{◌≡◌, ℕ, zero, suc, ◌+◌, ◌-◌, ◌*◌, ◌/◌, ◌%◌, ◌^◌, ◌<◌, ◌≤◌, ◌==◌, List, [], ◌∷◌, ◌++◌, length, Option, Some, None, IsSome, is_some, option_map, Bool, true, false, ◌&&◌, ◌||◌, cond, nat_lt, refl, ap, sym, subst, ◌∙◌, arith, slice_get, slice_set, slice_index, if◌then◌else◌, inl, inr, add-zero}
+use Rattle.std.proofs.Common.{◌≡◌, ℕ, zero, suc, ◌+◌, ◌-◌, ◌*◌, ◌/◌, ◌%◌, ◌^◌, ◌<◌, ◌≤◌, ◌==◌, List, [], ◌∷◌, ◌++◌, length, Option, Some, None, IsSome, is_some, option_map, Bool, true, false, ◌&&◌, ◌||◌, cond, nat_lt, refl, ap, sym, subst, ◌∙◌, arith, slice_get, slice_set, slice_index, if◌then◌else◌, inl, inr, add-zero, zero-add}
 use Rattle.std.proofs.lemmas.Bool.{cases_Bool, cases_lt, ltb-false, ltb-true, lt-ltb, and_from}
 use Rattle.byteorder.specs.Endian.{little_number, little_bytes}
 use Rattle.sprite_ids.specs.declared.errno.Errno.{Errno}
@@ -146,11 +146,11 @@ pub word_outside : (part whole : List (Option (List ℕ))) (address : ℕ) → I
 word_outside part whole address h e =
     is_outside (leaves whole address 8) _ (same_leaves part whole address 8 h ∙ none_outside (leaves part address 8) (page_of part (address / 4096)) (page_of part ((address + 7) / 4096)) (address / 4096) ((address + 7) / 4096) e)
 
-byte_shown : (part : List (Option (List ℕ))) (address : ℕ) → byte_access part address ≡ Present → IsSome (page_of part (address / 4096))
+pub byte_shown : (part : List (Option (List ℕ))) (address : ℕ) → byte_access part address ≡ Present → IsSome (page_of part (address / 4096))
 byte_shown part address e = (found_one (leaves part address 1) (page_of part (address / 4096)) (address / 4096) e).1
 
 -- eight bytes lie in the page of the first and in that of the last
-word_shown : (part : List (Option (List ℕ))) (address : ℕ) → word_access part address ≡ Present → AreShown part address 8
+pub word_shown : (part : List (Option (List ℕ))) (address : ℕ) → word_access part address ≡ Present → AreShown part address 8
 word_shown part address e =
     let found = found_both (leaves part address 8) (page_of part (address / 4096)) (page_of part ((address + 7) / 4096)) (address / 4096) ((address + 7) / 4096) e in
     record {
@@ -185,3 +185,69 @@ none_lacking k (None ∷ part) (page ∷ whole) parts h e =
 none_lacking k (Some bytes ∷ part) (page ∷ whole) parts h e =
     let rest : first_away (k + 1) whole parts ≡ None = none_lacking (k + 1) part whole parts h.1 e in
     rw (h.0) rest
+
+-- where a call that is not refused wants no page, its parts are shown
+some_not_away : (k : ℕ) (pages : List (Option (List ℕ))) (parts : Parts) (b : Bool) → (if b then Some k else first_away (k + 1) pages parts) ≡ None → (b ≡ false) × (first_away (k + 1) pages parts ≡ None)
+some_not_away k pages parts true e = cc
+some_not_away k pages parts false e = (refl, e)
+
+touched_there : (k : ℕ) (pages : List (Option (List ℕ))) (parts : Parts) (j : ℕ) → first_away k pages parts ≡ None → j < length pages → (touches (k + j) parts.first || touches (k + j) parts.second) ≡ true → IsSome (page_of pages j)
+touched_there k [] parts j e within t = absurd (omega arith)
+touched_there k (None ∷ pages) parts zero e within t =
+    let here = (some_not_away k pages parts (touches k parts.first || touches k parts.second) e).0 in
+    let same : (touches k parts.first || touches k parts.second) ≡ true = rw (add-zero) at t in
+    cc here
+touched_there k (None ∷ pages) parts (suc j) e within t =
+    let rest = (some_not_away k pages parts (touches k parts.first || touches k parts.second) e).1 in
+    let n : k + suc j ≡ k + 1 + j = omega arith in
+    touched_there (k + 1) pages parts j rest (omega arith) (subst (λ (x : ℕ). (touches x parts.first || touches x parts.second) ≡ true) n t)
+touched_there k (Some bytes ∷ pages) parts zero e within t = refl
+touched_there k (Some bytes ∷ pages) parts (suc j) e within t =
+    let n : k + suc j ≡ k + 1 + j = omega arith in
+    touched_there (k + 1) pages parts j e (omega arith) (subst (λ (x : ℕ). (touches x parts.first || touches x parts.second) ≡ true) n t)
+
+abbrev pub IsShown : List (Option (List ℕ)) → Option Part → Type 0
+IsShown pages None = Unit {0}
+IsShown pages (Some p) = AreShown pages p.address p.length
+
+part_touches : (p : Part) (i : ℕ) → i < p.length → touches ((p.address + i) / 4096) (Some p) ≡ true
+part_touches p i within =
+    and_from _ _ (lt-ltb 0 p.length (omega arith)) (and_from _ _ (lt-ltb p.address _ (omega arith)) (lt-ltb _ (p.address + p.length) (omega arith)))
+
+not_leaving : (pages : List (Option (List ℕ))) (p : Part) → 0 < p.length → leaves_pages pages (Some p) ≡ false → p.address + p.length ≤ 4096 * length pages
+not_leaving pages p some e =
+    let t : nat_lt 0 p.length ≡ true = lt-ltb 0 p.length some in
+    let l : leaves pages p.address p.length ≡ false = rw t at e in
+    ltb-false _ _ l
+
+is_shown : (pages : List (Option (List ℕ))) (o : Option Part) → leaves_pages pages o ≡ false → ((j : ℕ) → j < length pages → touches j o ≡ true → IsSome (page_of pages j)) → IsShown pages o
+is_shown pages None e f = tt
+is_shown pages (Some p) e f =
+    record {
+      at = λ i. λ within. (let end = not_leaving pages p (omega arith) e in f ((p.address + i) / 4096) (omega (arith, end)) (part_touches p i within));
+    }
+
+or_none : (x y : Bool) → (x || y) ≡ false → (x ≡ false) × (y ≡ false)
+or_none true y e = cc
+or_none false y e = (refl, e)
+
+or_left : (x y : Bool) → x ≡ true → (x || y) ≡ true
+or_left true y e = refl
+or_left false y e = cc
+
+or_right : (x y : Bool) → y ≡ true → (x || y) ≡ true
+or_right true y e = refl
+or_right false y e = e
+
+refused_none : (a b c : Bool) → (if a then Some Invalid else if b then Some BadName else if c then Some BadAddress else None) ≡ None → c ≡ false
+refused_none true b c e = cc
+refused_none false true c e = cc
+refused_none false false true e = cc
+refused_none false false false e = refl
+
+pub parts_shown : (pages : List (Option (List ℕ))) (parts : Parts) → refusal pages parts ≡ None → first_away 0 pages parts ≡ None → IsShown pages parts.first × IsShown pages parts.second
+parts_shown pages parts e f =
+    let ends = or_none (leaves_pages pages parts.first) (leaves_pages pages parts.second) (refused_none (too_long parts.first || too_long parts.second) (misnamed parts.first || misnamed parts.second) _ e) in
+    let first = is_shown pages parts.first ends.0 (λ j. λ within. λ t. touched_there 0 pages parts j f within (subst (λ (n : ℕ). (touches n parts.first || touches n parts.second) ≡ true) (sym (zero-add j)) (or_left _ _ t))) in
+    let second = is_shown pages parts.second ends.1 (λ j. λ within. λ t. touched_there 0 pages parts j f within (subst (λ (n : ℕ). (touches n parts.first || touches n parts.second) ≡ true) (sym (zero-add j)) (or_right _ _ t))) in
+    (first, second)

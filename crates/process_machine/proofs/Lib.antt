@@ -2,3 +2,4 @@ pub mod MemoryLaws
 pub mod MachineLaws
 pub mod StepLaws
 pub mod FillLaws
+pub mod PartLaws
