@@ -131,3 +131,152 @@ ahead_too p m last (suc n) ws h e =
       part = rest.part;
       run = ap (ahead p (filled m ws)) count ∙ (ahead_then p (filled m ws) (filled first.next here.pages) 1 n one ∙ rest.run);
     }
+
+-- a bad step of the part is one of the whole
+is_zero : (b : Bool) (next other : Machine) → (if b then AtBadStep else Moved next) ≡ AtBadStep → (if b then AtBadStep else Moved other) ≡ AtBadStep
+is_zero true next other e = refl
+is_zero false next other e = cc
+
+touched_bad : (access : Access) (next : Machine) → touching access next ≡ AtBadStep → access ≡ Outside
+touched_bad Present next e = cc
+touched_bad Outside next e = refl
+touched_bad (Away k) next e = cc
+
+jumped_bad : (b : Bool) (m : Machine) (place : ℕ) → jumped b m place ≡ AtBadStep → ⊥
+jumped_bad true m place e = cc
+jumped_bad false m place e = cc
+
+called_bad : (errno : Option Errno) (away : Option ℕ) (pages : List (Option (List ℕ))) (parts : Parts) → first_away 0 pages parts ≡ away → calling errno pages parts ≡ AtBadStep → ⊥
+called_bad None None pages parts f e = cc
+called_bad None (Some k) pages parts f e = cc
+called_bad (Some errno) away pages parts f e = cc
+
+done_bad : (i : Instruction) (m : Machine) (ws : List (Option (List ℕ))) → IsPart m.pages ws → done i m ≡ AtBadStep → done i (filled m ws) ≡ AtBadStep
+done_bad (Div d s) m ws h e = is_zero (register m s == 0) _ _ e
+done_bad (Mod d s) m ws h e = is_zero (register m s == 0) _ _ e
+done_bad (Ldb d a) m ws h e =
+    ap (λ access. touching access (put (filled m ws) d (byte_at ws (register m a)))) (byte_outside m.pages ws (register m a) h (touched_bad _ _ e))
+done_bad (Stb a s) m ws h e =
+    ap (λ access. touching access (with_pages (filled m ws) (with_byte ws (register m a) (register m s % 256)))) (byte_outside m.pages ws (register m a) h (touched_bad _ _ e))
+done_bad (Ldw d a) m ws h e =
+    ap (λ access. touching access (put (filled m ws) d (little_number 8 (bytes_at ws (register m a) 8)))) (word_outside m.pages ws (register m a) h (touched_bad _ _ e))
+done_bad (Stw a s) m ws h e =
+    ap (λ access. touching access (with_pages (filled m ws) (with_bytes ws (register m a) (little_bytes 8 (register m s))))) (word_outside m.pages ws (register m a) h (touched_bad _ _ e))
+done_bad (Jeq a b place) m ws h e = absurd (jumped_bad _ m place e)
+done_bad (Jne a b place) m ws h e = absurd (jumped_bad _ m place e)
+done_bad (Jlt a b place) m ws h e = absurd (jumped_bad _ m place e)
+done_bad (Sys called operands) m ws h e =
+    absurd (called_bad (refusal m.pages (parts_of called (arguments m operands))) _ m.pages (parts_of called (arguments m operands)) refl e)
+done_bad _ m ws h e = cc
+
+done_if_bad : (i : Option Instruction) (m : Machine) (ws : List (Option (List ℕ))) → IsPart m.pages ws → done_if i m ≡ AtBadStep → done_if i (filled m ws) ≡ AtBadStep
+done_if_bad None m ws h e = refl
+done_if_bad (Some i) m ws h e = done_bad i m ws h e
+
+pub bad_too : (p : Program) (m : Machine) (ws : List (Option (List ℕ))) → IsPart m.pages ws → step_of p m ≡ AtBadStep → step_of p (filled m ws) ≡ AtBadStep
+bad_too p m ws h e = done_if_bad (slice_get p.code m.counter) m ws h e
+
+-- a call of the part is the same call of the whole
+one_same : (part whole : List (Option (List ℕ))) (address count : ℕ) → IsPart part whole → AreShown part address count → bytes_at whole address count ≡ bytes_at part address count
+one_same part whole address count h s = shown_bytes part whole address count h s
+
+named_same : (n : SyscallName) (a : Arguments) (part whole : List (Option (List ℕ))) → IsPart part whole → IsShown part (parts_of n a).first → IsShown part (parts_of n a).second → named_call n a whole ≡ named_call n a part
+named_same name.Print a part whole h s t = ap made.Print (one_same part whole a.first a.second h s)
+named_same name.Exec a part whole h s t = ap (λ b. made.Exec b a.third) (one_same part whole a.first a.second h s)
+named_same name.Open a part whole h s t = ap (λ b. made.OpenFile b a.third) (one_same part whole a.first a.second h s)
+named_same name.Write a part whole h s t = ap (made.Write a.first) (one_same part whole a.second a.third h s)
+named_same name.Stat a part whole h s t = ap made.Stat (one_same part whole a.first a.second h s)
+named_same name.Mkdir a part whole h s t = ap made.Mkdir (one_same part whole a.first a.second h s)
+named_same name.Rmdir a part whole h s t = ap made.Rmdir (one_same part whole a.first a.second h s)
+named_same name.Unlink a part whole h s t = ap made.Unlink (one_same part whole a.first a.second h s)
+named_same name.Rename a part whole h s t =
+    ap (λ b. made.Rename b (bytes_at whole a.third a.fourth)) (one_same part whole a.first a.second h s)
+    ∙ ap (made.Rename (bytes_at part a.first a.second)) (one_same part whole a.third a.fourth h t)
+named_same name.List a part whole h s t = ap (λ b. made.List b a.fourth) (one_same part whole a.first a.second h s)
+named_same name.Chdir a part whole h s t = ap made.Chdir (one_same part whole a.first a.second h s)
+named_same name.Migrate a part whole h s t = ap made.Migrate (one_same part whole a.first a.second h s)
+named_same name.PdMake a part whole h s t = ap made.PdMake (one_same part whole a.first a.second h s)
+named_same name.PdPut a part whole h s t = ap (λ b. made.PdPut a.first b a.fourth) (one_same part whole a.second a.third h s)
+named_same name.Ioctl a part whole h s t = ap (made.Ioctl a.first a.second) (one_same part whole a.third a.fourth h s)
+named_same name.Rexec a part whole h s t =
+    ap (λ b. made.Rexec b (bytes_at whole a.third a.fourth)) (one_same part whole a.first a.second h s)
+    ∙ ap (made.Rexec (bytes_at part a.first a.second)) (one_same part whole a.third a.fourth h t)
+named_same _ a part whole h s t = refl
+
+-- the whole stands at a system call, and at the same one
+pub record CallsToo (p : Program) (m : Machine) (ws : List (Option (List ℕ))) : Type 0 where
+  pub step : step_of p (filled m ws) ≡ AtCall
+  pub call : call_at p (filled m ws) ≡ call_at p m
+
+wants_nothing : (away : Option ℕ) → wanting away ≡ AtCall → away ≡ None
+wants_nothing None e = refl
+wants_nothing (Some k) e = cc
+
+calling_same : (n : SyscallName) (a : Arguments) (part whole : List (Option (List ℕ))) (errno : Option Errno) → refusal part (parts_of n a) ≡ errno → IsPart part whole → calling errno part (parts_of n a) ≡ AtCall → (calling errno whole (parts_of n a) ≡ AtCall) × (unless_refused errno (named_call n a whole) ≡ unless_refused errno (named_call n a part))
+calling_same n a part whole (Some errno) r h e = (refl, refl)
+calling_same n a part whole None r h e =
+    let none = wants_nothing (first_away 0 part (parts_of n a)) e in
+    let shown = parts_shown part (parts_of n a) r none in
+    (ap wanting (none_lacking 0 part whole (parts_of n a) h none), named_same n a part whole h shown.0 shown.1)
+
+with_refusal : (n : SyscallName) (a : Arguments) (part whole : List (Option (List ℕ))) → IsPart part whole → calling (refusal part (parts_of n a)) part (parts_of n a) ≡ AtCall → (calling (refusal whole (parts_of n a)) whole (parts_of n a) ≡ AtCall) × (call_with n a whole ≡ call_with n a part)
+with_refusal n a part whole h e =
+    let same = same_refusal part whole (parts_of n a) h in
+    let both = calling_same n a part whole (refusal part (parts_of n a)) refl h e in
+    (ap (λ r. calling r whole (parts_of n a)) same ∙ both.0, ap (λ r. unless_refused r (named_call n a whole)) same ∙ both.1)
+
+moves_no_call : (m : Machine) → Moved m ≡ AtCall → ⊥
+moves_no_call m e = cc
+
+divided_no_call : (b : Bool) (next : Machine) → (if b then AtBadStep else Moved next) ≡ AtCall → ⊥
+divided_no_call true next e = cc
+divided_no_call false next e = cc
+
+touched_no_call : (access : Access) (next : Machine) → touching access next ≡ AtCall → ⊥
+touched_no_call Present next e = cc
+touched_no_call Outside next e = cc
+touched_no_call (Away k) next e = cc
+
+jumped_no_call : (b : Bool) (m : Machine) (place : ℕ) → jumped b m place ≡ AtCall → ⊥
+jumped_no_call true m place e = cc
+jumped_no_call false m place e = cc
+
+done_call : (i : Instruction) (m : Machine) (ws : List (Option (List ℕ))) → IsPart m.pages ws → done i m ≡ AtCall → (done i (filled m ws) ≡ AtCall) × (call_in (Some i) (filled m ws) ≡ call_in (Some i) m)
+done_call (Sys called operands) m ws h e = with_refusal called (arguments m operands) m.pages ws h e
+done_call (Div d s) m ws h e = absurd (divided_no_call _ _ e)
+done_call (Mod d s) m ws h e = absurd (divided_no_call _ _ e)
+done_call (Ldb d a) m ws h e = absurd (touched_no_call _ _ e)
+done_call (Stb a s) m ws h e = absurd (touched_no_call _ _ e)
+done_call (Ldw d a) m ws h e = absurd (touched_no_call _ _ e)
+done_call (Stw a s) m ws h e = absurd (touched_no_call _ _ e)
+done_call (Jeq a b place) m ws h e = absurd (jumped_no_call _ m place e)
+done_call (Jne a b place) m ws h e = absurd (jumped_no_call _ m place e)
+done_call (Jlt a b place) m ws h e = absurd (jumped_no_call _ m place e)
+done_call _ m ws h e = absurd (moves_no_call _ e)
+
+done_if_call : (i : Option Instruction) (m : Machine) (ws : List (Option (List ℕ))) → IsPart m.pages ws → done_if i m ≡ AtCall → (done_if i (filled m ws) ≡ AtCall) × (call_in i (filled m ws) ≡ call_in i m)
+done_if_call None m ws h e = cc
+done_if_call (Some i) m ws h e = done_call i m ws h e
+
+pub call_too : (p : Program) (m : Machine) (ws : List (Option (List ℕ))) → IsPart m.pages ws → step_of p m ≡ AtCall → CallsToo p m ws
+call_too p m ws h e =
+    let both = done_if_call (slice_get p.code m.counter) m ws h e in record { step = both.0; call = both.1 }
+
+-- an answer to the part is one to the whole
+pub record GivenToo (new m : Machine) : Type 0 where
+  pub pages : List (Option (List ℕ))
+  pub part : IsPart m.pages pages
+  pub same : new ≡ filled m pages
+
+answered_too : (address : ℕ) (m : Machine) (ws : List (Option (List ℕ))) (reply : Reply) → IsPart m.pages ws → GivenToo (answered address (filled m ws) reply) (answered address m reply)
+answered_too address m ws (Value first second bytes) h =
+    record { pages = with_bytes ws address bytes; part = bytes_part m.pages ws address bytes h; same = refl }
+answered_too address m ws (Error errno) h = record { pages = ws; part = h; same = refl }
+
+given_in_too : (i : Option Instruction) (m : Machine) (ws : List (Option (List ℕ))) (reply : Reply) → IsPart m.pages ws → GivenToo (given_in i (filled m ws) reply) (given_in i m reply)
+given_in_too None m ws reply h = record { pages = ws; part = h; same = refl }
+given_in_too (Some (Sys called operands)) m ws reply h = answered_too (answer_address called (arguments m operands)) m ws reply h
+given_in_too (Some _) m ws reply h = record { pages = ws; part = h; same = refl }
+
+pub given_too : (p : Program) (m : Machine) (ws : List (Option (List ℕ))) (reply : Reply) → IsPart m.pages ws → GivenToo (given p (filled m ws) reply) (given p m reply)
+given_too p m ws reply h = given_in_too (slice_get p.code m.counter) m ws reply h
