@@ -12,7 +12,8 @@ use Rattle.process_machine.specs.declared.memory.Access.{Access}
 use Rattle.process_machine.specs.declared.memory.Access.TheVariants.{Present, Outside, Away}
 use Rattle.process_machine.specs.Memory.{there, page_of, leaves, byte_in, byte_at, bytes_at, put_in, with_byte, with_bytes, in_page, byte_access, word_access}
 use Rattle.process_machine.specs.Parts.{too_long, misnamed, leaves_pages, refusal, touches, first_away}
-use Rattle.process_machine.specs.Facts.{IsPart}
+use Rattle.process_machine.specs.Facts.{IsPart, AllPresent}
+use Rattle.sprite_ids.proofs.ListLaws.{some_is}
 
 pub part_count : (part whole : List (Option (List ℕ))) → IsPart part whole → length whole ≡ length part
 part_count [] [] h = refl
@@ -251,3 +252,39 @@ parts_shown pages parts e f =
     let first = is_shown pages parts.first ends.0 (λ j. λ within. λ t. touched_there 0 pages parts j f within (subst (λ (n : ℕ). (touches n parts.first || touches n parts.second) ≡ true) (sym (zero-add j)) (or_left _ _ t))) in
     let second = is_shown pages parts.second ends.1 (λ j. λ within. λ t. touched_there 0 pages parts j f within (subst (λ (n : ℕ). (touches n parts.first || touches n parts.second) ≡ true) (sym (zero-add j)) (or_right _ _ t))) in
     (first, second)
+
+-- pages are a part of themselves, and stay one of the whole where a page is fetched or taken away
+pub part_same : (pages : List (Option (List ℕ))) → IsPart pages pages
+part_same [] = tt
+part_same (None ∷ pages) = part_same pages
+part_same (Some bytes ∷ pages) = (refl, part_same pages)
+
+pub part_fetched : (part whole : List (Option (List ℕ))) (k : ℕ) (page : Option (List ℕ)) → IsPart part whole → slice_get whole k ≡ Some page → IsPart (slice_set part k page) whole
+part_fetched [] [] k page h e = tt
+part_fetched [] (first ∷ whole) k page h e = absurd h
+part_fetched (here ∷ part) [] k page h e = absurd h
+part_fetched (None ∷ part) (first ∷ whole) zero None h e = h
+part_fetched (Some bytes ∷ part) (first ∷ whole) zero None h e = h.1
+part_fetched (None ∷ part) (first ∷ whole) zero (Some bytes) h e = (some_is first (Some bytes) e, h)
+part_fetched (Some more ∷ part) (first ∷ whole) zero (Some bytes) h e = (some_is first (Some bytes) e, h.1)
+part_fetched (None ∷ part) (first ∷ whole) (suc k) page h e = part_fetched part whole k page h e
+part_fetched (Some bytes ∷ part) (first ∷ whole) (suc k) page h e = (h.0, part_fetched part whole k page h.1 e)
+
+pub part_taken : (part whole : List (Option (List ℕ))) (k : ℕ) → IsPart part whole → IsPart (slice_set part k None) whole
+part_taken [] [] k h = tt
+part_taken [] (first ∷ whole) k h = absurd h
+part_taken (here ∷ part) [] k h = absurd h
+part_taken (None ∷ part) (first ∷ whole) zero h = h
+part_taken (Some bytes ∷ part) (first ∷ whole) zero h = h.1
+part_taken (None ∷ part) (first ∷ whole) (suc k) h = part_taken part whole k h
+part_taken (Some bytes ∷ part) (first ∷ whole) (suc k) h = (h.0, part_taken part whole k h.1)
+
+-- pages that are all there are the whole
+pub part_is_whole : (part whole : List (Option (List ℕ))) → IsPart part whole → AllPresent part → whole ≡ part
+part_is_whole [] [] h s = refl
+part_is_whole [] (first ∷ whole) h s = absurd h
+part_is_whole (here ∷ part) [] h s = absurd h
+part_is_whole (None ∷ part) (first ∷ whole) h s = cc (s.0)
+part_is_whole (Some bytes ∷ part) (first ∷ whole) h s =
+    let rest = part_is_whole part whole h.1 s.1 in
+    rw (h.0, rest) refl
