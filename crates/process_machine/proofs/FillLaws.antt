@@ -1,16 +1,12 @@
 -- An image of which some pages are away runs as the whole image does, for as long as it wants none of them.
-use Rattle.std.proofs.Common.{◌≡◌, ℕ, zero, suc, ◌+◌, ◌-◌, ◌*◌, ◌/◌, ◌%◌, ◌^◌, ◌<◌, ◌≤◌, ◌==◌, List, [], ◌∷◌, ◌++◌, length, Option, Some, None, IsSome, is_some, option_map, Bool, true, false, ◌&&◌, ◌||◌, cond, nat_lt, refl, ap, sym, subst, ◌∙◌, arith, slice_get, slice_set, slice_index, if◌then◌else◌, inl, inr, add-zero, zero-add}
-use Rattle.std.proofs.lemmas.Bool.{cases_Bool, cases_lt, ltb-false, ltb-true, lt-ltb, and_from}
-use Rattle.byteorder.specs.Endian.{little_number, little_bytes}
-use Rattle.sprite_ids.specs.declared.errno.Errno.{Errno}
+use Rattle.std.proofs.Common.{◌≡◌, ℕ, zero, suc, ◌+◌, ◌*◌, ◌/◌, ◌%◌, ◌<◌, ◌≤◌, List, [], ◌∷◌, length, Option, Some, None, IsSome, is_some, option_map, Bool, true, false, ◌&&◌, ◌||◌, nat_lt, refl, ap, sym, subst, ◌∙◌, arith, slice_get, slice_set, if◌then◌else◌, inl, inr, add-zero, zero-add}
+use Rattle.std.proofs.lemmas.Bool.{cases_lt, ltb-false, lt-ltb, and_from}
 use Rattle.sprite_ids.specs.declared.errno.Errno.TheVariants.{Invalid, BadName, BadAddress}
-use Rattle.process_machine.specs.declared.arguments.Arguments.{Arguments}
-use Rattle.process_machine.specs.declared.parts.PartKind.{PartKind}
 use Rattle.process_machine.specs.declared.parts.Part.{Part}
 use Rattle.process_machine.specs.declared.parts.Parts.{Parts}
 use Rattle.process_machine.specs.declared.memory.Access.{Access}
-use Rattle.process_machine.specs.declared.memory.Access.TheVariants.{Present, Outside, Away}
-use Rattle.process_machine.specs.Memory.{there, page_of, leaves, byte_in, byte_at, bytes_at, put_in, with_byte, with_bytes, in_page, byte_access, word_access}
+use Rattle.process_machine.specs.declared.memory.Access.TheVariants.{Present, Outside}
+use Rattle.process_machine.specs.Memory.{page_of, leaves, byte_in, byte_at, bytes_at, put_in, with_byte, with_bytes, in_page, byte_access, word_access}
 use Rattle.process_machine.specs.Parts.{too_long, misnamed, leaves_pages, refusal, touches, first_away}
 use Rattle.process_machine.specs.Facts.{IsPart, AllPresent}
 use Rattle.sprite_ids.proofs.ListLaws.{some_is}

@@ -1,15 +1,12 @@
 -- An image of which some pages are away does what the whole image does.
-use Rattle.std.proofs.Common.{◌≡◌, ℕ, zero, suc, ◌+◌, ◌-◌, ◌*◌, ◌/◌, ◌%◌, ◌^◌, ◌<◌, ◌≤◌, ◌==◌, List, [], ◌∷◌, ◌++◌, length, Option, Some, None, Bool, true, false, nat_lt, refl, ap, sym, subst, ◌∙◌, arith, slice_get, slice_set, slice_index, if◌then◌else◌}
+use Rattle.std.proofs.Common.{◌≡◌, ℕ, zero, suc, ◌+◌, ◌%◌, ◌==◌, List, Option, Some, None, Bool, true, false, refl, ap, sym, subst, ◌∙◌, arith, slice_get, if◌then◌else◌}
 use Rattle.byteorder.specs.Endian.{little_number, little_bytes}
 use Rattle.sprite_ids.specs.declared.errno.Errno.{Errno}
-use Rattle.sprite_ids.specs.Errno.{errno_number}
 use Rattle.process_machine.specs.declared.arguments.Arguments.{Arguments}
-use Rattle.process_machine.specs.declared.instruction.Operand.{Operand}
 use Rattle.process_machine.specs.declared.instruction.Instruction.{Instruction}
 use Rattle.process_machine.specs.declared.instruction.Instruction.TheVariants.{Set, Mov, Add, Sub, Mul, Addi, Div, Mod, Ldb, Stb, Ldw, Stw, Jmp, Jeq, Jne, Jlt, Sys}
 use Rattle.process_machine.specs.declared.instruction.SyscallName.{SyscallName}
 use Rattle.process_machine.specs.declared.instruction.SyscallName.TheVariants as name
-use Rattle.process_machine.specs.declared.call.Call.{Call}
 use Rattle.process_machine.specs.declared.call.Call.TheVariants as made
 use Rattle.process_machine.specs.declared.call.Reply.{Reply}
 use Rattle.process_machine.specs.declared.call.Reply.TheVariants.{Value, Error}
@@ -22,9 +19,9 @@ use Rattle.process_machine.specs.Memory.{byte_at, bytes_at, with_byte, with_byte
 use Rattle.process_machine.specs.Arguments.{arguments}
 use Rattle.process_machine.specs.Parts.{parts_of, refusal, first_away}
 use Rattle.process_machine.specs.Calls.{named_call, unless_refused, call_with, call_in, call_at}
-use Rattle.process_machine.specs.Steps.{Step, Moved, AtCall, AtBadStep, AtPage, divided, touching, jumped, wanting, calling, done, done_if, step_of}
-use Rattle.process_machine.specs.Runs.{moved, one_more, ahead}
-use Rattle.process_machine.specs.Replies.{answer_address, three, answered, given_in, given}
+use Rattle.process_machine.specs.Steps.{Step, Moved, AtCall, AtBadStep, touching, jumped, wanting, calling, done, done_if, step_of}
+use Rattle.process_machine.specs.Runs.{moved, ahead}
+use Rattle.process_machine.specs.Replies.{answer_address, answered, given_in, given}
 use Rattle.process_machine.specs.Facts.{IsPart, filled}
 use Rattle.process_machine.proofs.FillLaws.{byte_part, bytes_part, IsShown, AreShown, byte_shown, word_shown, shown_byte, shown_bytes, byte_present, byte_outside, word_present, word_outside, same_refusal, none_lacking, parts_shown}
 use Rattle.process_machine.proofs.StepLaws.{moved_to, divided_to, touched_to, never_moves}
