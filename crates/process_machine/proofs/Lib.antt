@@ -1,3 +1,5 @@
 pub mod MemoryLaws
 pub mod MachineLaws
 pub mod StepLaws
+pub mod FillLaws
+pub mod PartLaws

@@ -7,6 +7,9 @@ use Rattle.process_machine.specs.declared.parts.Parts.{Parts}
 use Rattle.process_machine.specs.Parts.{first_away}
 use Rattle.std.proofs.Math.ListN.{length-set}
 use Rattle.std.proofs.lemmas.Bool.{cases_lt}
+use Rattle.std.proofs.lemmas.List.Folds.{drop_split}
+use Rattle.std.proofs.Common.{drop, length-take, length-drop}
+use Rattle.std.specs.List.{slice_range}
 use Rattle.process_machine.specs.Memory.{there, page_of, byte_in, byte_at, bytes_at, put_in, with_byte, with_bytes, bytes_in}
 
 -- past the end a look-up finds nothing
@@ -29,24 +32,12 @@ byte_outside pages address few far =
     let past : length pages ≤ address / 4096 = omega arith in
     ap (λ o. byte_in (there o) (address % 4096)) (get_past pages (address / 4096) past)
 
-pub put_outside : (pages : List (Option (List ℕ))) (address byte : ℕ) → length pages ≤ 8 → 32768 ≤ address → with_byte pages address byte ≡ pages
-put_outside pages address byte few far =
-    let past : length pages ≤ address / 4096 = omega arith in
-    ap (λ o. put_in o pages (address / 4096) (address % 4096) byte) (get_past pages (address / 4096) past)
-
 -- an address that would pass 2^64 is as far outside as the highest
 pub byte_stopped : (pages : List (Option (List ℕ))) (address place stopped : ℕ) → length pages ≤ 8 → stopped ≡ min (address + place) (2 ^ 64 - 1) → byte_at pages stopped ≡ byte_at pages (address + place)
 byte_stopped pages address place stopped few e =
     elim (cases_lt (address + place) (2 ^ 64)) [
       | inl near ↦ (let same : stopped ≡ address + place = omega arith in ap (byte_at pages) same)
       | inr far ↦ byte_outside pages stopped few (omega arith) ∙ sym (byte_outside pages (address + place) few (omega arith))
-    ]
-
-pub put_stopped : (pages : List (Option (List ℕ))) (address place stopped byte : ℕ) → length pages ≤ 8 → stopped ≡ min (address + place) (2 ^ 64 - 1) → with_byte pages stopped byte ≡ with_byte pages (address + place) byte
-put_stopped pages address place stopped byte few e =
-    elim (cases_lt (address + place) (2 ^ 64)) [
-      | inl near ↦ (let same : stopped ≡ address + place = omega arith in ap (λ a. with_byte pages a byte) same)
-      | inr far ↦ put_outside pages stopped byte few (omega arith) ∙ sym (put_outside pages (address + place) byte few (omega arith))
     ]
 
 -- the step of the loop that gathers bytes
@@ -194,3 +185,49 @@ pub none_away : (k : ℕ) (pages : List (Option (List ℕ))) (parts : Parts) →
 none_away k [] parts h = refl
 none_away k (None ∷ pages) parts h = cc (h.0)
 none_away k (Some page ∷ pages) parts h = none_away (k + 1) pages parts h.1
+
+-- bytes outside the pages are left out
+put_past : (pages : List (Option (List ℕ))) (address byte : ℕ) → 4096 * length pages ≤ address → with_byte pages address byte ≡ pages
+put_past pages address byte far =
+    let past : length pages ≤ address / 4096 = omega arith in
+    ap (λ o. put_in o pages (address / 4096) (address % 4096) byte) (get_past pages (address / 4096) past)
+
+pub bytes_past : (pages : List (Option (List ℕ))) (address : ℕ) (bytes : List ℕ) → 4096 * length pages ≤ address → with_bytes pages address bytes ≡ pages
+bytes_past pages address [] far = refl
+bytes_past pages address (byte ∷ bytes) far =
+    ap (λ ps. with_bytes ps (address + 1) bytes) (put_past pages address byte far) ∙ bytes_past pages (address + 1) bytes (omega arith)
+
+-- bytes after bytes
+pub put_append : (pages : List (Option (List ℕ))) (address : ℕ) (xs ys : List ℕ) → with_bytes pages address (xs ++ ys) ≡ with_bytes (with_bytes pages address xs) (address + length xs) ys
+put_append pages address [] ys = rw add-zero refl
+put_append pages address (x ∷ xs) ys =
+    let e : address + 1 + length xs ≡ address + suc (length xs) = omega arith in
+    put_append (with_byte pages address x) (address + 1) xs ys ∙ ap (λ n. with_bytes (with_bytes (with_byte pages address x) (address + 1) xs) n ys) e
+
+-- an address that would pass 2^64 is as far outside as the highest
+put_all_stopped : (pages : List (Option (List ℕ))) (address place stopped : ℕ) (bytes : List ℕ) → length pages ≤ 8 → stopped ≡ min (address + place) (2 ^ 64 - 1) → with_bytes pages stopped bytes ≡ with_bytes pages (address + place) bytes
+put_all_stopped pages address place stopped bytes few e =
+    elim (cases_lt (address + place) (2 ^ 64)) [
+      | inl near ↦ (let same : stopped ≡ address + place = omega arith in ap (λ a. with_bytes pages a bytes) same)
+      | inr far ↦ bytes_past pages stopped bytes (omega arith) ∙ sym (bytes_past pages (address + place) bytes (omega arith))
+    ]
+
+-- the step of the loop that puts bytes, a page's part at a time
+pub put_more : (pages new old : List (Option (List ℕ))) (bytes : List ℕ) (address done stopped count : ℕ) → length pages ≤ 8 → done + count ≤ length bytes → stopped ≡ min (address + done) (2 ^ 64 - 1) → new ≡ with_bytes pages (4096 * (stopped / 4096) + stopped % 4096) (slice_range bytes done (done + count)) → with_bytes pages (address + done) (drop done bytes) ≡ with_bytes old address bytes → with_bytes new (address + (done + count)) (drop (done + count) bytes) ≡ with_bytes old address bytes
+put_more pages new old bytes address done stopped count few within e is so_far =
+    let at : 4096 * (stopped / 4096) + stopped % 4096 ≡ stopped = omega arith in
+    let piece = slice_range bytes done (done + count) in
+    let put : new ≡ with_bytes pages (address + done) piece =
+    is ∙ (ap (λ a. with_bytes pages a piece) at ∙ put_all_stopped pages address done stopped piece few e) in
+    let long : length piece ≡ count = simp (length-take, length-drop) (omega arith) in
+    let split = drop_split bytes done (done + count) (omega arith) in
+    let place : address + done + length piece ≡ address + (done + count) = omega arith in
+    ap (λ ps. with_bytes ps (address + (done + count)) (drop (done + count) bytes)) put
+    ∙ (ap (λ n. with_bytes (with_bytes pages (address + done) piece) n (drop (done + count) bytes)) (sym place)
+    ∙ (sym (put_append pages (address + done) piece (drop (done + count) bytes))
+    ∙ (ap (with_bytes pages (address + done)) (sym split) ∙ so_far)))
+
+-- bytes in one page, by its number
+pub put_piece_in : (pages : List (Option (List ℕ))) (k offset : ℕ) (page new : Option (List ℕ)) (bytes : List ℕ) → offset + length bytes ≤ 4096 → slice_get pages k ≡ Some page → new ≡ option_map (λ p. bytes_in p offset bytes) page → slice_set pages k new ≡ with_bytes pages (4096 * k + offset) bytes
+put_piece_in pages k offset page new bytes fits found is =
+    ap (slice_set pages k) is ∙ sym (in_one_page pages k offset (4096 * k + offset) page bytes refl fits found)

@@ -34,19 +34,19 @@ use Rattle.process_machine.proofs.MachineLaws.{ahead_first}
 use Rattle.sprite_ids.proofs.ListLaws.{some_is, each_set, each_get, each_replicate}
 
 -- what a step that moves moves to, by the form of the step
-moved_to : (m n : Machine) → Moved m ≡ Moved n → n ≡ m
+pub moved_to : (m n : Machine) → Moved m ≡ Moved n → n ≡ m
 moved_to m n e = cc
 
-divided_to : (divisor : ℕ) (next n : Machine) (b : Bool) → (if b then AtBadStep else Moved next) ≡ Moved n → n ≡ next
+pub divided_to : (divisor : ℕ) (next n : Machine) (b : Bool) → (if b then AtBadStep else Moved next) ≡ Moved n → n ≡ next
 divided_to divisor next n true e = cc
 divided_to divisor next n false e = cc
 
-touched_to : (access : Access) (next n : Machine) → touching access next ≡ Moved n → n ≡ next
+pub touched_to : (access : Access) (next n : Machine) → touching access next ≡ Moved n → n ≡ next
 touched_to Present next n e = cc
 touched_to Outside next n e = cc
 touched_to (Away k) next n e = cc
 
-never_moves : (errno : Option Errno) (away : Option ℕ) (pages : List (Option (List ℕ))) (parts : Parts) (n : Machine) → first_away 0 pages parts ≡ away → calling errno pages parts ≡ Moved n → ⊥
+pub never_moves : (errno : Option Errno) (away : Option ℕ) (pages : List (Option (List ℕ))) (parts : Parts) (n : Machine) → first_away 0 pages parts ≡ away → calling errno pages parts ≡ Moved n → ⊥
 never_moves None None pages parts n f e = cc
 never_moves None (Some k) pages parts n f e = cc
 never_moves (Some errno) away pages parts n f e = cc

@@ -55,9 +55,11 @@ abbrev pub unless_refused : Option Errno → Call → Call
 unless_refused None call = call
 unless_refused (Some errno) call = Refused errno
 
+-- the call of that name with these arguments
 abbrev pub call_with : SyscallName → Arguments → List (Option (List ℕ)) → Call
 call_with n a pages = unless_refused (refusal pages (parts_of n a)) (named_call n a pages)
 
+-- the call that an instruction makes
 abbrev pub call_in : Option Instruction → Machine → Call
 call_in (Some (Sys n operands)) m = call_with n (arguments m operands) m.pages
 call_in _ m = BadStep

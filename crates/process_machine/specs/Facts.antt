@@ -1,5 +1,5 @@
 -- Facts about images that runs keep.
-use Rattle.std.specs.Prelude.{◌≡◌, ℕ, ◌<◌, ◌^◌, List, length, map, Option, Some, None, IsSome, option_map}
+use Rattle.std.specs.Prelude.{◌≡◌, ℕ, ◌<◌, ◌^◌, List, [], ◌∷◌, length, map, Option, Some, None, IsSome, option_map}
 use Rattle.std.specs.List.{AllByRecursion}
 use Rattle.process_machine.specs.declared.instruction.Instruction.{Instruction}
 use Rattle.process_machine.specs.declared.instruction.Instruction.TheVariants.{Set}
@@ -17,12 +17,25 @@ shape pages = map (option_map length) pages
 abbrev pub AllPresent : List (Option (List ℕ)) → Type 0
 AllPresent pages = AllByRecursion IsSome pages
 
+-- pages of which some are away, and the whole of them
+abbrev pub IsPart : List (Option (List ℕ)) → List (Option (List ℕ)) → Type 0
+IsPart [] [] = Unit {0}
+IsPart [] (page ∷ whole) = ⊥
+IsPart (page ∷ part) [] = ⊥
+IsPart (None ∷ part) (page ∷ whole) = IsPart part whole
+IsPart (Some bytes ∷ part) (page ∷ whole) = (page ≡ Some bytes) × IsPart part whole
+
+-- the image with these pages
+abbrev pub filled : Machine → List (Option (List ℕ)) → Machine
+filled m pages = record m { pages = pages }
+
 -- the same program, as many registers, and the same pages present, as long as before
 pub record Keeps (old new : Machine) : Type 0 where
   pub number : new.number ≡ old.number
   pub registers : length new.registers ≡ length old.registers
   pub pages : shape new.pages ≡ shape old.pages
 
+-- a list of bytes
 abbrev pub AreBytes : List ℕ → Type 0
 AreBytes bytes = AllByRecursion (λ b. b < 256) bytes
 
@@ -42,6 +55,7 @@ abbrev pub FitsRegister : Instruction → Type 0
 FitsRegister (Set d n) = n < 2 ^ 64
 FitsRegister _ = Unit {0}
 
+-- a text of bytes
 abbrev pub HasText : Text → Type 0
 HasText text = AreBytes text.bytes
 

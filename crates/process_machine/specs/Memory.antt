@@ -3,6 +3,7 @@ use Rattle.process_machine.specs.declared.memory.Access.{Access}
 use Rattle.process_machine.specs.declared.memory.Access.TheVariants.{Present, Outside, Away}
 use Rattle.std.specs.Prelude.{ℕ, zero, suc, ◌+◌, ◌*◌, ◌/◌, ◌%◌, List, [], ◌∷◌, length, Option, Some, None, Bool, nat_lt, slice_get, slice_index, slice_set, option_map, if◌then◌else◌}
 
+-- what a look-up among the pages finds there
 abbrev pub there : Option (Option (List ℕ)) → Option (List ℕ)
 there None = None
 there (Some page) = page
@@ -15,6 +16,7 @@ page_of pages k = there (slice_get pages k)
 abbrev pub leaves : List (Option (List ℕ)) → ℕ → ℕ → Bool
 leaves pages address count = nat_lt (4096 * length pages) (address + count)
 
+-- a byte of a page
 abbrev pub byte_in : Option (List ℕ) → ℕ → ℕ
 byte_in None offset = 0
 byte_in (Some page) offset = slice_index page offset
@@ -28,6 +30,7 @@ abbrev pub bytes_at : List (Option (List ℕ)) → ℕ → ℕ → List ℕ
 bytes_at pages address zero = []
 bytes_at pages address (suc count) = byte_at pages address ∷ bytes_at pages (address + 1) count
 
+-- the pages with a byte put into the page that a look-up found
 abbrev pub put_in : Option (Option (List ℕ)) → List (Option (List ℕ)) → ℕ → ℕ → ℕ → List (Option (List ℕ))
 put_in None pages k offset byte = pages
 put_in (Some page) pages k offset byte = slice_set pages k (option_map (λ bytes. slice_set bytes offset byte) page)

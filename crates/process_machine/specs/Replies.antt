@@ -38,6 +38,7 @@ answered address m (Value first second bytes) =
 answered address m (Error errno) =
     record m { counter = m.counter + 1; registers = three m.registers (errno_number errno) 0 0 }
 
+-- the answer of the call that an instruction makes
 abbrev pub given_in : Option Instruction → Machine → Reply → Machine
 given_in (Some (Sys n operands)) m reply = answered (answer_address n (arguments m operands)) m reply
 given_in _ m reply = m

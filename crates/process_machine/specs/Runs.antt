@@ -16,6 +16,7 @@ moved AtCall = None
 moved AtBadStep = None
 moved (AtPage k) = None
 
+-- one instruction more
 abbrev pub one_more : Program → Option Machine → Option Machine
 one_more p None = None
 one_more p (Some m) = moved (step_of p m)
@@ -29,6 +30,7 @@ ahead p m (suc n) = one_more p (ahead p m n)
 unfoldable pub call_bound : ℕ
 call_bound = 40000000000
 
+-- a search for the first call goes on after a step that moves
 abbrev pub go_on : (Machine → Option Machine) → Machine → Step → Option Machine
 go_on next m (Moved later) = next later
 go_on next m AtCall = Some m
@@ -40,18 +42,21 @@ abbrev pub call_within : Program → ℕ → Machine → Option Machine
 call_within p zero m = go_on (λ later. None) m (step_of p m)
 call_within p (suc n) m = go_on (call_within p n) m (step_of p m)
 
+-- within the bound
 abbrev pub at_next_call : Program → Machine → Option Machine
 at_next_call p m = call_within p call_bound m
 
+-- the call at which an image stands, by its step
 abbrev pub call_there : Program → Machine → Step → Call
 call_there p m AtBadStep = BadStep
 call_there p m _ = call_at p m
 
+-- the call of an image that a search found
 abbrev pub call_of_next : Program → Option Machine → Option Call
 call_of_next p None = None
 call_of_next p (Some m) = Some (call_there p m (step_of p m))
 
--- that call
+-- the first call of a run, a bad step among them
 abbrev pub next_call : Program → Machine → Option Call
 next_call p m = call_of_next p (at_next_call p m)
 

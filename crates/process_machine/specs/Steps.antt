@@ -38,15 +38,17 @@ abbrev pub jumped : Bool → Machine → ℕ → Step
 jumped true m place = Moved (at_place m place)
 jumped false m place = Moved (at_place m (m.counter + 1))
 
--- a system call wants the pages of its parts, unless it is refused
+-- a system call wants the first absent page of its parts
 abbrev pub wanting : Option ℕ → Step
 wanting None = AtCall
 wanting (Some k) = AtPage k
 
+-- a refused call wants none
 abbrev pub calling : Option Errno → List (Option (List ℕ)) → Parts → Step
 calling None pages parts = wanting (first_away 0 pages parts)
 calling (Some errno) pages parts = AtCall
 
+-- what each instruction does
 abbrev pub done : Instruction → Machine → Step
 done (Set d n) m = Moved (put m d n)
 done (Mov d s) m = Moved (put m d (register m s))

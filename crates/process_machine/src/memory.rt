@@ -171,17 +171,6 @@ pub fn put_byte(pages: &mut Items<Option<Bytes>>, address: u64, byte: u8)
     }
 }
 
-/// Puts bytes from an address on, each where its page is there.
-pub fn put_bytes(pages: &mut Items<Option<Bytes>>, address: u64, bytes: &[u8])
-    requires { ArePages pages.old }
-    ensures value { pages.new ≡ with_bytes pages.old address bytes.now }
-    ensures stay { ArePages pages.new }
-{
-    for (place, byte) in bytes.iter().enumerate() {
-        put_byte(pages, address.saturating_add(place as u64), *byte);
-    }
-}
-
 // Puts bytes into others from an offset on.
 fn put_at(bytes: &mut [u8], offset: usize, word: &[u8])
     requires { offset + length word.now ≤ length bytes.old }
@@ -203,6 +192,34 @@ fn put_in_at(page: &mut Option<Bytes>, offset: usize, word: &[u8])
         let mut bytes = bytes.into_vec();
         put_at(bytes.as_mut_slice(), offset, word);
         *page = Some(Bytes::of_vec(bytes));
+    }
+}
+
+/// Puts bytes from an address on, each where its page is there: a page's part at once.
+pub fn put_bytes(pages: &mut Items<Option<Bytes>>, address: u64, bytes: &[u8])
+    requires { ArePages pages.old }
+    ensures value { pages.new ≡ with_bytes pages.old address bytes.now }
+    ensures stay { ArePages pages.new }
+{
+    let mut done = 0;
+    'pieces: while done < bytes.len() {
+        let at = address.saturating_add(done as u64);
+        let offset = (at % PAGE_SIZE) as usize;
+        let count = (4096 - offset).min(bytes.len() - done);
+        put_piece(pages, at / PAGE_SIZE, offset, &bytes[done..done + count]);
+        done += count;
+    }
+}
+
+// Puts bytes that lie in one page into it, where it is there.
+fn put_piece(pages: &mut Items<Option<Bytes>>, number: u64, offset: usize, piece: &[u8])
+    requires pages { ArePages pages.old }
+    requires inside { offset + length piece.now ≤ 4096 }
+    ensures value { pages.new ≡ with_bytes pages.old (4096 * number + offset) piece.now }
+    ensures stay { ArePages pages.new }
+{
+    if number < pages.len() as u64 {
+        put_in_at(pages.at_mut(number as usize), offset, piece);
     }
 }
 
