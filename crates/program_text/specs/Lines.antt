@@ -28,21 +28,25 @@ pages_of [] = None
 pages_of (word ∷ []) = option_and_then page_count (number_of word)
 pages_of (word ∷ more ∷ words) = None
 
--- the text of that address, whose bytes and what stands behind the closing quote are known
-abbrev pub closed : ℕ → List ℕ → List (List ℕ) → Option Text
-closed address bytes [] = Some (record { address = address; bytes = bytes })
-closed address bytes (word ∷ words) = None
+-- the bytes that a text in quotes wrote, where no word stands behind it
+abbrev pub alone : List ℕ → List (List ℕ) → Option (List ℕ)
+alone bytes [] = Some bytes
+alone bytes (word ∷ words) = None
 
--- a text in double quotes
-abbrev pub quoted_at : List ℕ → ℕ → Option Text
-quoted_at [] address = None
-quoted_at (b ∷ bs) address =
-    if b == 34 then option_and_then (λ read. closed address read.0 (words_of read.1)) (literal false bs) else None
+-- the bytes that a text in double quotes writes
+abbrev pub quoted_of : List ℕ → Option (List ℕ)
+quoted_of [] = None
+quoted_of (b ∷ bs) =
+    if b == 34 then option_and_then (λ read. alone read.0 (words_of read.1)) (literal false bs) else None
+
+-- a text at an address
+abbrev pub text_at : List ℕ → ℕ → Option Text
+text_at quotes address = option_map (λ bytes. record { address = address; bytes = bytes }) (quoted_of quotes)
 
 -- what stands behind `text`, of which the words are known: an address and a text in double quotes
 abbrev pub text_by : List ℕ → List (List ℕ) → Option Text
 text_by bytes [] = None
-text_by bytes (word ∷ words) = option_and_then (quoted_at (skip_spaces (past_word bytes))) (number_of word)
+text_by bytes (word ∷ words) = option_and_then (text_at (skip_spaces (past_word bytes))) (number_of word)
 
 -- what stands behind `text`
 abbrev pub text_of : List ℕ → Option Text

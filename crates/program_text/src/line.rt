@@ -1,6 +1,6 @@
 ghost use Rattle.std.specs.Prelude.{◌≡◌, IfOk};
 ghost use Rattle.program_text.specs.Words.{words_of};
-ghost use Rattle.program_text.specs.Lines.{line_of, is_comment, label_line, pages_of, text_of};
+ghost use Rattle.program_text.specs.Lines.{line_of, is_comment, label_line, pages_of, quoted_of, text_of};
 
 use super::label::label_in;
 use super::quoted::quoted;
@@ -91,7 +91,18 @@ fn read_text(alloc: Global, rest: &[u8]) -> Result<Option<Text>, NoMemory>
     let Some(address) = number(word) else {
         return Ok(None);
     };
-    let Some((first, inside)) = skip_spaces(rest).split_first() else {
+    let Some(bytes) = read_quoted(alloc, skip_spaces(rest))? else {
+        return Ok(None);
+    };
+    Ok(Some(Text { address, bytes }))
+}
+
+/// The bytes that a text in double quotes writes; None exactly where these bytes are no such text with at most spaces
+/// behind it. The one error is want of memory.
+fn read_quoted(alloc: Global, text: &[u8]) -> Result<Option<Bytes>, NoMemory>
+    ensures { IfOk result (λ read. read ≡ quoted_of text.now) }
+{
+    let Some((first, inside)) = text.split_first() else {
         return Ok(None);
     };
     if *first != b'"' {
@@ -100,8 +111,9 @@ fn read_text(alloc: Global, rest: &[u8]) -> Result<Option<Text>, NoMemory>
     let Some((bytes, behind)) = quoted(alloc, inside)? else {
         return Ok(None);
     };
-    if !is_blank(behind) {
-        return Ok(None);
+    if is_blank(behind) {
+        Ok(Some(bytes))
+    } else {
+        Ok(None)
     }
-    Ok(Some(Text { address, bytes }))
 }
