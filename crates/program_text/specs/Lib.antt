@@ -7,3 +7,4 @@ pub mod Steps
 pub mod Lines
 pub mod Readings
 pub mod Programs
+pub mod Facts

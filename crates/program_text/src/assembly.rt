@@ -1,4 +1,5 @@
 ghost use Rattle.std.specs.Prelude.{◌≡◌, ◌≤◌, IfOk, IfErr, Ok, length, map};
+ghost use Rattle.program_text.specs.Facts.{IsWithinLimits, TellsFirst};
 ghost use Rattle.program_text.specs.Programs.{line_number, aimed, jump_to, verdict, program_of, program_by, IsBadAt};
 
 use super::line::read_line;
@@ -45,9 +46,12 @@ impl From<NoMemory> for AsmEnd {
 ///
 /// A line that uses a label which no line defines is bad. The error `Line` comes exactly where the text is no program,
 /// with the first bad line; `NoMemory` is want of memory. The program's number is 1.
+#[tactic(auto, using(crate::proofs::FirstLaws::tells_first))]
 pub fn assemble(alloc: Global, text: &str, version: u8) -> Result<Program, AsmEnd>
     ensures program { IfOk result (λ program. program_of version text.now ≡ Ok program) }
     ensures bad { IfErr result (IsBadAt (program_of version text.now)) }
+    ensures limits { IfOk result IsWithinLimits }
+    ensures first { IfErr result (TellsFirst version text.now) }
 {
     let reading = read_lines(alloc, version, text.as_bytes())?;
     Ok(finish(alloc, reading)?)
