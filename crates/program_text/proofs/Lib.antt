@@ -1,0 +1,5 @@
+pub mod WordLaws
+pub mod ChoiceLaws
+pub mod PlainLaws
+pub mod LimitLaws
+pub mod FirstLaws

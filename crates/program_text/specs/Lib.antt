@@ -1,0 +1,10 @@
+pub mod Words
+pub mod Quoted
+pub mod Operands
+pub mod Calls
+pub mod Labels
+pub mod Steps
+pub mod Lines
+pub mod Readings
+pub mod Programs
+pub mod Facts
