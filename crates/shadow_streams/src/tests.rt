@@ -2,22 +2,24 @@ use crate::shadows::Shadows;
 use sprite_ids::{Kernel, StreamNo};
 use std::test::Fail;
 
+fn stream(kernel: Kernel, number: u32) -> StreamNo {
+    StreamNo { kernel, number }
+}
+
 #[test]
 fn a_stream_is_shared_until_its_last_grant(rt: HostRuntime) -> Result<(), Fail> {
     let first = Kernel::new(1).ok_or("kernel 1")?;
     let last = Kernel::new(16).ok_or("kernel 16")?;
-    let one = StreamNo {
-        kernel: first,
-        number: 5,
-    };
-    let two = StreamNo {
-        kernel: last,
-        number: 5,
-    };
+    let one = stream(first, 5);
+    let two = stream(last, 5);
     let mut shadows = Shadows::new(rt.alloc());
     assert_eq!(rt; shadows.offset(one), None);
-    shadows.share(one, 4096, &[first, last, first])?;
-    shadows.share(two, 7, &[last])?;
+    let mut holders = Vec::new(rt.alloc());
+    holders.push(last)?;
+    shadows.share(two, 7, holders.as_slice())?;
+    holders.push(first)?;
+    holders.push(first)?;
+    shadows.share(one, 4096, holders.as_slice())?;
     assert!(rt; shadows.room());
     assert_eq!(rt; shadows.offset(one), Some(4096));
     shadows.set_offset(one, 12);
