@@ -1,6 +1,6 @@
 -- Each shared stream is kept once, and is found and changed at one place.
-use Rattle.std.proofs.Common.{add-one, fold, rules, tests, ◌≡◌, ℕ, zero, suc, ◌+◌, ◌-◌, ◌≤◌, ◌<◌, ◌==◌, nat_le, nat_lt, Bool, true, false, ◌&&◌, ◌||◌, not, cond, List, [], ◌∷◌, ◌++◌, length, take, drop, Option, Some, None, refl, sym, ap, subst, ◌∙◌, arith, slice_index, slice_set, slice_index_or, option_map, get_or, is_some}
-use Rattle.std.specs.List.{AllByRecursion, filter, find, list_any, list_all, position, position_or_len, remove}
+use Rattle.std.proofs.Common.{add-one, fold, rules, tests, ◌≡◌, ℕ, zero, suc, ◌+◌, ◌-◌, ◌≤◌, ◌<◌, ◌==◌, nat_lt, Bool, true, false, ◌&&◌, ◌||◌, not, cond, List, [], ◌∷◌, ◌++◌, length, take, Option, Some, None, refl, sym, ap, ◌∙◌, arith, slice_index, slice_set, get_or, is_some}
+use Rattle.std.specs.List.{AllByRecursion, filter, find, list_any, position, position_or_len, remove}
 use Rattle.std.proofs.lemmas.List.Quantifiers.{position-Some}
 use Rattle.std.proofs.lemmas.List.Edits.{remove-append_left}
 use Rattle.std.proofs.lemmas.Bool.{and_parts, eqb-true}
@@ -8,7 +8,7 @@ use Rattle.std.proofs.lemmas.Bool.Decides.{eqb_tells}
 use Rattle.sprite_ids.specs.declared.StreamNo.{StreamNo}
 use Rattle.sprite_ids.proofs.ListLaws.{each_set, each_weaken}
 use Rattle.shadow_streams.specs.declared.shadow.Shadow.{Shadow}
-use Rattle.shadow_streams.specs.Shadows.{count_of, raised, are_roomy, is_of, without, lowered, changed, share, is_closed, close, has_room, EachOnce}
+use Rattle.shadow_streams.specs.Shadows.{count_of, raised, is_of, without, lowered, changed, share, is_closed, close, EachOnce}
 
 -- neither of two is true where not one of them is
 or_false : (a b : Bool) → (a || b) ≡ false → (a ≡ false) × (b ≡ false)

@@ -1,6 +1,6 @@
-use Rattle.std.proofs.Common.{◌≡◌, ◌≤◌, ◌+◌, ℕ, List, ap, sym, subst, ◌∙◌, replicate}
+use Rattle.std.proofs.Common.{◌≤◌, ◌+◌, ℕ, ap, sym, subst, ◌∙◌, replicate}
 use Rattle.std.specs.List.{AllByRecursion}
-use Rattle.shadow_streams.specs.Shadows.{raised, counted}
+use Rattle.shadow_streams.specs.Shadows.{raised}
 use Rattle.shadow_streams.proofs.ShadowLaws.{counted_next, raised_within}
 use Rattle.shadow_streams.proofs.shadow.counted.Goals as goal
 

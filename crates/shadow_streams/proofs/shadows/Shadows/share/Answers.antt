@@ -1,8 +1,8 @@
-use Rattle.std.proofs.Common.{◌≡◌, ◌++◌, ◌∷◌, [], ℕ, List, Some, None, true, false, sym, refl, ap, subst, ◌∙◌, option_map, slice_set}
+use Rattle.std.proofs.Common.{◌++◌, ◌∷◌, [], ℕ, List, sym, ap, subst, ◌∙◌}
 use Rattle.std.specs.List.{position, remove}
 use Rattle.shadow_streams.specs.declared.shadow.Shadow.{Shadow}
-use Rattle.shadow_streams.specs.Shadows.{is_of, held, is_last, are_none, raised, lowered, count_of, counted, changed, without, EachOnce}
-use Rattle.shadow_streams.proofs.ShadowLaws.{taken, none_taken, none_found, nothing_found, found_there, taken_before, at_most_one, without_once, share_once, changed_here, changed_once, unchanged, found_changed, closes, lowers}
+use Rattle.shadow_streams.specs.Shadows.{is_of, without, EachOnce}
+use Rattle.shadow_streams.proofs.ShadowLaws.{none_taken, none_found, taken_before, at_most_one, share_once}
 use Rattle.shadow_streams.proofs.shadows.Shadows.share.Goals as goal
 
 pub returns-in-Some-clause-ok : goal.returns-in-Some-clause-ok
