@@ -5,9 +5,13 @@ use Rattle.std.specs.Cmp.Lexicographic.{pointwise}
 use Rattle.sprite_paths.specs.Path.{is_prefix, IsPrefix}
 use Rattle.prefix_table.specs.declared.prefixes.Domain.{Domain}
 
+-- the domain of that prefix and server
+abbrev pub domain : List (List ℕ) → ℕ → Domain
+domain prefix server = record { prefix = prefix; server = server }
+
 -- whether it is the domain of that prefix
 abbrev pub is_of : List (List ℕ) → Domain → Bool
-is_of prefix domain = pointwise (pointwise nat_eq) domain.prefix prefix
+is_of prefix entry = pointwise (pointwise nat_eq) entry.prefix prefix
 
 -- whether the prefix is known
 abbrev pub knows : List Domain → List (List ℕ) → Bool
@@ -28,7 +32,7 @@ longest domains path = fold (better path) None domains
 
 -- the domains after one was learned: a known prefix keeps its place, and a new one comes last
 abbrev pub learned : List Domain → List (List ℕ) → ℕ → List Domain
-learned [] prefix server = record { prefix = prefix; server = server } ∷ []
+learned [] prefix server = domain prefix server ∷ []
 learned (first ∷ rest) prefix server = if is_of prefix first then record first { server = server } ∷ rest else first ∷ learned rest prefix server
 
 -- no prefix stands twice

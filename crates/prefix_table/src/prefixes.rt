@@ -1,6 +1,7 @@
-ghost use Rattle.std.specs.Prelude.{◌≡◌, ◌↔◌, [], IfSome, IsNone, OnOk, OnErr, length, option_map};
+ghost use Rattle.std.specs.Prelude.{◌≡◌, ◌↔◌, [], IfSome, IsNone, IsOk, IsTrue, OnOk, OnErr, length, option_map};
 ghost use Rattle.std.specs.List.{AllByRecursion, position};
-ghost use Rattle.prefix_table.specs.Prefixes.{is_of, knows, better, longest, learned, IsAmong, Matches, MatchesUpTo};
+ghost use Rattle.sprite_paths.specs.Path.{IsPrefix};
+ghost use Rattle.prefix_table.specs.Prefixes.{domain, is_of, knows, better, longest, learned, IsAmong, Matches, MatchesUpTo};
 
 use sprite_ids::{Kernel, NoMemory};
 use sprite_paths::Path;
@@ -47,10 +48,10 @@ impl Prefixes {
     /// memory.
     #[tactic(auto, using(crate::proofs::PrefixLaws::longest_covers))]
     pub fn server_of(&self, path: &Path) -> Option<(&Path, Kernel)>
-        ensures domain { option_map (λ found. record { prefix = found.0.now; server = found.1 }) result ≡ longest self.now path.now }
-        ensures found { IfSome result (λ found. IsAmong (record { prefix = found.0.now; server = found.1 }) self.now × Matches path.now (record { prefix = found.0.now; server = found.1 })) }
+        ensures domain { option_map (λ found. domain found.0.now found.1) result ≡ longest self.now path.now }
+        ensures found { IfSome result (λ found. IsAmong (domain found.0.now found.1) self.now × IsPrefix found.0.now path.now) }
         ensures longest { IfSome result (λ found. AllByRecursion (MatchesUpTo (length found.0.now) path.now) self.now) }
-        ensures none { IsNone result ↔ AllByRecursion (λ domain. Matches path.now domain → ⊥) self.now }
+        ensures none { IsNone result ↔ AllByRecursion (λ known. Matches path.now known → ⊥) self.now }
     {
         match longest(self.domains.as_slice(), path) {
             Some(domain) => Some((&domain.prefix, domain.server)),
@@ -59,10 +60,12 @@ impl Prefixes {
     }
 
     /// Learns the server of a prefix. A known prefix keeps its place, and its server is the new one from then on; a new
-    /// prefix comes last. After want of memory, the one error, all is as before and the prefix is dropped.
+    /// prefix comes last. Want of memory is the one error, and comes for a new prefix alone; after it all is as before,
+    /// and the prefix is dropped.
     pub fn learn(&mut self, prefix: Path, server: Kernel) -> Result<(), NoMemory>
         ensures ok { OnOk result (self.new ≡ learned self.old prefix server) }
         ensures err { OnErr result (self.new ≡ self.old) }
+        ensures known { IsTrue (knows self.old prefix) → IsOk result }
     {
         match place_of(self.domains.as_slice(), &prefix) {
             Some(at) => self.domains[at].server = server,

@@ -1,6 +1,6 @@
 use Rattle.std.proofs.Common.{◌++◌, ◌∷◌, [], sym, ap, subst, ◌∙◌}
 use Rattle.std.specs.List.{position}
-use Rattle.prefix_table.specs.declared.prefixes.Domain.{Domain}
+use Rattle.std.proofs.lemmas.Bool.{true≢false}
 use Rattle.prefix_table.specs.Prefixes.{is_of, EachOnce}
 use Rattle.prefix_table.proofs.PrefixLaws.{none_found, learned_here, learned_last, learned_once}
 use Rattle.prefix_table.proofs.prefixes.Prefixes.learn.Goals as goal
@@ -30,3 +30,9 @@ returns-in_ok-push-in-None-clause-ok c =
     let xs = c.self.inside.domains.items in
     let place = ap (position (is_of c.args.prefix)) (sym c.as_slice.ensures.value) ∙ sym c.place_of.ensures ∙ c.in-None.is in
     rw (← c.self.view_is) (c.in_ok-push-in-None.ensures.items ∙ sym (learned_last c.args.prefix c.args.server xs (none_found (is_of c.args.prefix) xs place)))
+
+pub returns-in_err-push-in-None-clause-known : goal.returns-in_err-push-in-None-clause-known
+returns-in_err-push-in-None-clause-known c =
+    let xs = c.self.inside.domains.items in
+    let place = ap (position (is_of c.args.prefix)) (sym c.as_slice.ensures.value) ∙ sym c.place_of.ensures ∙ c.in-None.is in
+    rw (← c.self.view_is) (λ known. absurd (true≢false (sym known ∙ none_found (is_of c.args.prefix) xs place)))
