@@ -1,10 +1,9 @@
 -- The longest prefix is found, and each prefix is kept once.
-use Rattle.std.proofs.Common.{add-one, fold, rules, tests, ◌≡◌, ◌≢◌, ◌⊎◌, ◌↔◌, inl, inr, ℕ, zero, suc, ◌+◌, ◌≤◌, ◌<◌, nat_eq, nat_lt, Bool, true, false, ◌||◌, not, cond, List, [], ◌∷◌, ◌++◌, length, map, Option, Some, None, refl, sym, ap, subst, ◌∙◌, arith, slice_set, get_or, is_some, option_map, IsTrue}
+use Rattle.std.proofs.Common.{fold, rules, tests, ◌≡◌, ◌↔◌, inl, inr, ℕ, zero, suc, ◌+◌, ◌<◌, nat_lt, Bool, true, false, ◌||◌, not, cond, List, [], ◌∷◌, ◌++◌, length, map, Option, Some, None, refl, sym, ap, subst, ◌∙◌, arith, slice_set, get_or, is_some, option_map, IsTrue}
 use Rattle.std.specs.List.{AllByRecursion, find, list_any, position, position_or_len}
-use Rattle.std.specs.Cmp.Lexicographic.{pointwise}
 use Rattle.std.proofs.lemmas.List.Quantifiers.{position-Some}
 use Rattle.std.proofs.lemmas.Bool.{ltb-true, ltb-false, true≢false}
-use Rattle.sprite_paths.specs.Path.{is_prefix, IsPrefix}
+use Rattle.sprite_paths.specs.Path.{is_prefix}
 use Rattle.sprite_paths.proofs.PathLaws.{parts_decide, prefix_decides}
 use Rattle.prefix_table.specs.declared.prefixes.Domain.{Domain}
 use Rattle.prefix_table.specs.Prefixes.{is_of, knows, longer, better, longest, learned, EachOnce, IsAmong, Matches, MatchesUpTo}

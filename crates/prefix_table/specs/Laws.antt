@@ -1,5 +1,5 @@
 -- What the prefix table keeps, for all domains and paths.
-use Rattle.std.specs.Prelude.{◌≡◌, ◌≢◌, ◌↔◌, ℕ, true, List, ◌∷◌, ◌++◌, [], length, map, Some, None, Option, option_map}
+use Rattle.std.specs.Prelude.{◌≡◌, ◌≢◌, ◌↔◌, ℕ, true, List, length, map, Some, None, Option, option_map}
 use Rattle.std.specs.List.{AllByRecursion, find}
 use Rattle.prefix_table.specs.declared.prefixes.Domain.{Domain}
 use Rattle.prefix_table.specs.Prefixes.{is_of, knows, longest, learned, IsAmong, Matches, MatchesUpTo}

@@ -1,5 +1,4 @@
-use Rattle.std.proofs.Common.{◌≡◌, List, drop, fold, option_map}
-use Rattle.prefix_table.specs.declared.prefixes.Domain.{Domain}
+use Rattle.std.proofs.Common.{◌≡◌, drop, fold, option_map}
 use Rattle.prefix_table.specs.Prefixes.{better, longest}
 use Rattle.prefix_table.proofs.prefixes.longest.Given as goal
 

@@ -1,5 +1,4 @@
-use Rattle.std.proofs.Common.{◌≡◌, Some, None, Bor, IsNone, true, false, option_map, sym, ap, refl, ◌∙◌}
-use Rattle.std.proofs.lemmas.Bool.{true≢false}
+use Rattle.std.proofs.Common.{Bor, option_map, sym, ap, refl, ◌∙◌}
 use Rattle.prefix_table.specs.declared.prefixes.Domain.{Domain}
 use Rattle.prefix_table.specs.Prefixes.{longest}
 use Rattle.prefix_table.proofs.PrefixLaws.{longest_found, none_matching, some_not_none}
