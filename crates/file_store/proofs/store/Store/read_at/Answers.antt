@@ -1,0 +1,17 @@
+use Rattle.std.proofs.Common.{◌≡◌, ◌*◌, [], ℕ, List, sym, ap, subst, refl, ◌∙◌, slice_set, IfOk, length, arith}
+use Rattle.std.specs.List.{position}
+use Rattle.file_store.specs.declared.store.Stored.{Stored}
+use Rattle.file_store.specs.Content.{read_of, written, block_put}
+use Rattle.file_store.specs.Files.{Files, is_of, held, with_bytes}
+use Rattle.file_store.proofs.FileLaws.{taken, at_most_one, without_kept, new_kept, put_there, held_there, put_kept, within_there, short_after, ok_after, written_short, block_short}
+use Rattle.file_store.proofs.store.Store.read_at.Goals as goal
+
+pub returns : goal.returns
+returns c =
+    let p = is_of c.args.file in
+    let xs = c.self.inside.files.items in
+    let at = c.place_of-at.result in
+    let place = ap (position p) (sym c.as_slice.ensures.value) ∙ c.place_of-at.ensures.place in
+    let d = c.index.result.now in
+    let is = c.index.ensures in
+    rw (← c.self.view_is) (subst (λ (held : List ℕ). IfOk c.read.result (λ bytes. bytes.items ≡ read_of held c.args.from c.args.length)) (sym (held_there c.args.file xs at d place is)) c.read.ensures)
