@@ -1,5 +1,5 @@
 -- Each file is kept once, and is found and changed at one place.
-use Rattle.std.proofs.Common.{rules, tests, ◌≡◌, ℕ, zero, suc, ◌+◌, ◌-◌, ◌*◌, ◌<◌, ◌≤◌, ◌==◌, nat_lt, Bool, true, false, ◌&&◌, ◌||◌, not, cond, List, [], ◌∷◌, ◌++◌, length, take, drop, replicate, Option, Some, None, Result, Ok, Err, OnOk, OnErr, refl, sym, ap, subst, ◌∙◌, arith, slice_set, get_or, is_some, option_map}
+use Rattle.std.proofs.Common.{rules, tests, ◌≡◌, ℕ, zero, suc, ◌+◌, ◌*◌, ◌<◌, ◌≤◌, ◌==◌, nat_lt, Bool, true, false, ◌||◌, not, cond, List, [], ◌∷◌, ◌++◌, length, Option, Some, None, Result, Ok, Err, OnOk, OnErr, refl, sym, ap, subst, ◌∙◌, arith, slice_set, get_or, is_some, option_map}
 use Rattle.std.specs.List.{filter, find, list_any, position, position_or_len, remove}
 use Rattle.std.proofs.lemmas.List.{length-append, length-replicate, length-take, length-drop}
 use Rattle.std.proofs.lemmas.List.Quantifiers.{position-Some}

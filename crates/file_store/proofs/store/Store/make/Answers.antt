@@ -1,9 +1,7 @@
-use Rattle.std.proofs.Common.{◌≡◌, ◌*◌, [], ◌∷◌, ◌++◌, ℕ, List, sym, ap, subst, refl, ◌∙◌, slice_set, IfOk, length, arith}
-use Rattle.std.specs.List.{position}
+use Rattle.std.proofs.Common.{[], ◌∷◌, ◌++◌, ℕ, List, ap, ◌∙◌}
 use Rattle.file_store.specs.declared.store.Stored.{Stored}
-use Rattle.file_store.specs.Content.{read_of, written, block_put}
-use Rattle.file_store.specs.Files.{Files, is_of, is_there, held, with_bytes}
-use Rattle.file_store.proofs.FileLaws.{taken, at_most_one, without_kept, new_kept, put_there, held_there, put_kept, within_there, short_after, ok_after, written_short, block_short}
+use Rattle.file_store.specs.Files.{Files, is_there}
+use Rattle.file_store.proofs.FileLaws.{new_kept}
 use Rattle.file_store.proofs.store.Store.make.Goals as goal
 
 pub invariant_of-self-2 : goal.invariant_of-self-2
