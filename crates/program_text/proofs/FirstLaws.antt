@@ -1,5 +1,5 @@
 -- Where the lines of a text are refused, there is a first bad one, and that is the number given.
-use Rattle.std.proofs.Common.{◌≡◌, ℕ, zero, suc, ◌+◌, List, [], ◌∷◌, take, Option, Some, None, Ok, Err, Result, refl, ap, sym, subst, ◌∙◌, arith, slice_get}
+use Rattle.std.proofs.Common.{◌≡◌, ℕ, suc, ◌+◌, List, [], ◌∷◌, take, Option, Some, None, Ok, Err, Result, refl, ap, sym, subst, ◌∙◌, arith, slice_get}
 use Rattle.std.specs.Option.{option_and_then}
 use Rattle.program_text.specs.declared.assembly.AsmEnd.{AsmEnd}
 use Rattle.program_text.specs.declared.assembly.AsmEnd.TheVariants as end
@@ -8,7 +8,7 @@ use Rattle.program_text.specs.Words.{lines_of}
 use Rattle.program_text.specs.Lines.{line_of}
 use Rattle.program_text.specs.Readings.{judged, unread, with_line}
 use Rattle.program_text.specs.Programs.{verdict, line_number, IsBadAt}
-use Rattle.program_text.specs.Facts.{IsFirstBad, IsItsNumber, TellsFirst}
+use Rattle.program_text.specs.Facts.{IsItsNumber, TellsFirst}
 
 -- the first bad one of these lines, which stand behind k lines that gave a reading
 pub record IsBadBehind (version : ℕ) (all : List (List ℕ)) (k : ℕ) (r : Reading) (lines : List (List ℕ)) (n : ℕ) : Type 0 where

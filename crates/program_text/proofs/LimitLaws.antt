@@ -1,5 +1,5 @@
 -- A reading of lines keeps within the limits, and so does its program.
-use Rattle.std.proofs.Common.{◌≡◌, ℕ, suc, ◌+◌, ◌*◌, ◌<◌, ◌≤◌, List, [], ◌∷◌, ◌++◌, length, map, Bool, true, false, ◌&&◌, ◌||◌, Option, Some, None, Ok, Err, Result, refl, ap, sym, subst, ◌∙◌, arith, rules, nat_lt, nat_le}
+use Rattle.std.proofs.Common.{◌≡◌, ℕ, ◌+◌, ◌*◌, ◌<◌, ◌≤◌, List, [], ◌∷◌, ◌++◌, length, map, Bool, true, false, ◌&&◌, ◌||◌, Option, Some, None, Ok, refl, subst, arith, rules, nat_lt, nat_le}
 use Rattle.std.specs.Bool.{if◌then◌else◌}
 use Rattle.std.specs.List.{AllByRecursion}
 use Rattle.std.specs.Option.{is_some, unwrap_or, option_and_then}
@@ -18,8 +18,8 @@ use Rattle.program_text.specs.declared.reading.Label.{Label as Defined}
 use Rattle.program_text.specs.declared.reading.Reading.{Reading}
 use Rattle.program_text.specs.Words.{same, lines_of}
 use Rattle.program_text.specs.Lines.{line_of}
-use Rattle.program_text.specs.Readings.{place_of, bytes_of, is_inside, aims, with_label, with_pages, with_text, with_step, with_line, judged, unread}
-use Rattle.program_text.specs.Programs.{aimed, jump_to, program_by, finished, verdict, program_of}
+use Rattle.program_text.specs.Readings.{place_of, bytes_of, with_label, with_pages, with_text, with_step, with_line, judged, unread}
+use Rattle.program_text.specs.Programs.{aimed, jump_to, program_by, verdict}
 use Rattle.program_text.specs.Facts.{EndsInside, GoesWithin, IsWithinLimits}
 use Rattle.program_text.proofs.PlainLaws.{IsNoJump, IsPlain, HasPlain, line_plain}
 use Rattle.program_text.proofs.ChoiceLaws.{Each, each_none, each_some, each_if, each_then}

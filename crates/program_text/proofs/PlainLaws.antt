@@ -1,13 +1,10 @@
 -- No line writes a jump as a plain instruction.
-use Rattle.std.proofs.Common.{codes, ℕ, List, [], ◌∷◌, Bool, true, false, Option, Some, None}
+use Rattle.std.proofs.Common.{codes, ℕ, List, [], ◌∷◌, Bool, Option, Some}
 use Rattle.std.specs.Bool.{if◌then◌else◌}
-use Rattle.std.specs.Option.{option_map, option_and_then}
 use Rattle.process_machine.specs.declared.instruction.Instruction.{Instruction}
 use Rattle.process_machine.specs.declared.instruction.Instruction.TheVariants.{Set, Mov, Add, Sub, Mul, Addi, Div, Mod, Ldb, Stb, Ldw, Stw, Sys, Jmp, Jeq, Jne, Jlt}
-use Rattle.process_machine.specs.declared.instruction.SyscallName.{SyscallName}
 use Rattle.program_text.specs.declared.line.Line.{Line}
 use Rattle.program_text.specs.declared.line.Line.TheVariants.{Blank, Label, Pages, Data, Code}
-use Rattle.program_text.specs.declared.step.Jump.{Jump}
 use Rattle.program_text.specs.declared.step.Jump.TheVariants.{Always}
 use Rattle.program_text.specs.declared.step.Step.{Step}
 use Rattle.program_text.specs.declared.step.Step.TheVariants.{Plain, ToLabel}
@@ -15,7 +12,7 @@ use Rattle.program_text.specs.Words.{same, words_of, past_word, number_of}
 use Rattle.program_text.specs.Operands.{register_of, operands_of}
 use Rattle.program_text.specs.Calls.{call_in}
 use Rattle.program_text.specs.Labels.{label_in}
-use Rattle.program_text.specs.Steps.{of_registers, with_register, of_two, branch_named, branch_of, jump_of, call_with, sys_of, by_count, step_of}
+use Rattle.program_text.specs.Steps.{of_registers, with_register, of_two, branch_named, branch_of, call_with, sys_of, by_count, step_of}
 use Rattle.program_text.proofs.ChoiceLaws.{Each, Any, any_holds, each_none, each_some, each_if, each_then, each_mapped}
 use Rattle.program_text.specs.Lines.{is_comment, label_or_step, line_by, line_of, text_of, pages_of}
 

@@ -1,5 +1,5 @@
 -- Labels, and the lines that define them.
-use Rattle.std.specs.Prelude.{ℕ, List, [], ◌∷◌, ◌==◌, ◌+◌, ◌&&◌, ◌||◌, not, Bool, true, false, Option, Some, None, if◌then◌else◌, nat_le, nat_lt, length}
+use Rattle.std.specs.Prelude.{ℕ, List, [], ◌∷◌, ◌==◌, ◌+◌, ◌&&◌, ◌||◌, not, Bool, false, Option, Some, None, if◌then◌else◌, nat_le, nat_lt, length}
 use Rattle.std.specs.Option.{is_some}
 use Rattle.std.specs.List.{list_all, before_first}
 use Rattle.program_text.specs.Words.{same, words_of}

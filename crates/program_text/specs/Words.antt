@@ -1,5 +1,5 @@
 -- Lines, words and numbers of a text.
-use Rattle.std.specs.Prelude.{codes, ℕ, List, [], ◌∷◌, ◌==◌, ◌&&◌, ◌+◌, ◌*◌, ◌-◌, ◌^◌, not, Bool, true, Option, Some, None, if◌then◌else◌, nat_lt, nat_eq, drop}
+use Rattle.std.specs.Prelude.{ℕ, List, [], ◌∷◌, ◌==◌, ◌&&◌, ◌+◌, ◌*◌, ◌-◌, ◌^◌, not, Bool, true, Option, Some, None, if◌then◌else◌, nat_lt, nat_eq, drop}
 use Rattle.std.specs.List.{onto_first, position_or_len}
 use Rattle.std.specs.Char.{is_ascii_digit}
 use Rattle.std.specs.Cmp.Lexicographic.{pointwise}

@@ -1,11 +1,11 @@
-mod worked;
+mod tables;
 
 use crate::{AsmEnd, assemble};
 use process_machine::{Instruction, Operand, Program, Register, SyscallName};
 use std::alloc::Global;
 use std::string::String;
 use std::test::Fail;
-use worked::WORKED;
+use tables::{BAD, CALLS, COUNTED, FIRST_BAD, LAWFUL, WORKED};
 
 // The first bad line of the text, or 0 where it is a program.
 fn first_bad_line(alloc: Global, version: u8, text: &str) -> Result<u32, Fail> {
@@ -44,114 +44,10 @@ fn repeated(
 #[test]
 fn single_lines(rt: HostRuntime) -> Result<(), Fail> {
     let alloc = rt.alloc();
-    let lawful = [
-        "",
-        "\n",
-        "   ",
-        "#",
-        "   # pages 9\t\u{e9}",
-        "#text",
-        "sys tick",
-        "sys tick\n",
-        "  sys   print   0  6  ",
-        "sys print 1 2 3 4",
-        "sys print r0 r7 00 007",
-        "set r0 0",
-        "set r0 18446744073709551615",
-        "set r0 00000000000000000000018446744073709551615",
-        "addi r7 1",
-        "mov r0 r1",
-        "a:",
-        "  a1_:  ",
-        "abcdefghijklmnop:",
-        "r8:",
-        "r00:",
-        "jmp:",
-        "text:",
-        "sys:",
-        "pages 1",
-        "pages 08",
-        "text 0 \"\"",
-        "text 4096 \"\"",
-        "text 4095 \"a\"",
-        "  text   0000   \"a b  c\"  ",
-        "text 0 \" #!~\\n\\\\\\\"\"",
-    ];
-    for (place, line) in lawful.iter().enumerate() {
+    for (place, line) in LAWFUL.iter().enumerate() {
         assert_eq!(rt; first_bad_line(alloc, 1, line)?, 0, "lawful {place}");
     }
-    let bad = [
-        "sys",
-        "sys fly",
-        "sys Tick",
-        "sys print 1 2 3 4 5",
-        "sys print 18446744073709551616",
-        "sys print r8",
-        "sys print -1",
-        "sys print 0x1",
-        "sys rexec 0 1 8 2",
-        "fly",
-        "SET r0 0",
-        "set",
-        "set r0",
-        "set r0 1 2",
-        "set r8 1",
-        "set r0 r1",
-        "set r0 18446744073709551616",
-        "set r0 +1",
-        "set 0 1",
-        "set r0 1 # one",
-        "set r0\t1",
-        "\t",
-        "mov r0 1",
-        "mov r0",
-        "addi r0 r1",
-        "jmp",
-        "jmp a b",
-        "jeq r0 r1",
-        "jeq r0 1 a",
-        "jlt r0 r1 a b",
-        ":",
-        "a :",
-        "a: b:",
-        "a::",
-        "A:",
-        "1a:",
-        "_a:",
-        "a-b:",
-        "r0:",
-        "r7:",
-        "abcdefghijklmnopq:",
-        "pages",
-        "pages 0",
-        "pages 9",
-        "pages 256",
-        "pages 257",
-        "pages 1 1",
-        "pages r1",
-        "text",
-        "text 0",
-        "text \"a\"",
-        "text 0 a",
-        "text 0\"a\"",
-        "text 0 \"",
-        "text 0 \"a",
-        "text 0 \"a\" b",
-        "text 0 \"a\"\"b\"",
-        "text 0 \"a\\\"",
-        "text 0 \"\\t\"",
-        "text 0 \"\\N\"",
-        "text 0 \"\u{7f}\"",
-        "text 0 \"\t\"",
-        "text 0 \"\u{e9}\"",
-        "text 4097 \"\"",
-        "text 4096 \"a\"",
-        "text 18446744073709551615 \"ab\"",
-        "text r0 \"a\"",
-        "text -1 \"a\"",
-        "sys tick\r",
-    ];
-    for (place, line) in bad.iter().enumerate() {
+    for (place, line) in BAD.iter().enumerate() {
         assert_eq!(rt; first_bad_line(alloc, 1, line)?, 1, "bad {place}");
     }
     Ok(())
@@ -160,65 +56,14 @@ fn single_lines(rt: HostRuntime) -> Result<(), Fail> {
 #[test]
 fn first_bad_lines(rt: HostRuntime) -> Result<(), Fail> {
     let alloc = rt.alloc();
-    let rows = [
-        (1, "jmp a\na:\n", 0),
-        (1, "a:\njmp a", 0),
-        (1, "jmp a", 1),
-        (1, "jmp A\nA:\n", 1),
-        (1, "jmp r1\nr1:\n", 1),
-        (1, "sys tick\njmp a\nsys fly\n", 2),
-        (1, "sys tick\nsys fly\njmp a\n", 2),
-        (1, "jmp a\nsys fly\na:\n", 2),
-        (1, "jmp a\nsys fly\na: # a\n", 1),
-        (1, "a:\nsys tick\na:\n", 3),
-        (1, "a:\nb:\njmp b\njne r0 r1 a\njlt r2 r3 c\n", 5),
-        (1, "pages 2\npages 2\n", 2),
-        (1, "pages 2\ntext 8191 \"a\"\ntext 8192 \"\"\n", 0),
-        (1, "pages 2\ntext 8192 \"a\"\n", 2),
-        (1, "pages 8\ntext 32767 \"a\"\n", 0),
-        (1, "text 0 \"a\"\npages 1\n", 2),
-        (1, "text 0 \"\"\npages 1\n", 2),
-        (1, "sys tick\na:\npages 2\ntext 5000 \"a\"\n", 0),
-        (1, "text 0 \"a\"\n\n# nothing\npages\n", 4),
-        (1, "\n\n\nsys fly", 4),
-        (
-            1,
-            "text 0 \"b\"\ntext 8 \"c2\"\nsys rexec 0 1 8 2\nsys exit 9\n",
-            3,
-        ),
-        (
-            2,
-            "text 0 \"b\"\ntext 8 \"c2\"\nsys rexec 0 1 8 2\nsys exit 9\n",
-            0,
-        ),
-        (1, "text 0 \"hello\\n\"\nsys fly\nsys exit 0\n", 2),
-        (1, "top:\njmp top\njmp nowhere\nsys exit 0\n", 3),
-        (1, "sys exit 0\ntext 4090 \"1234567\"\n", 2),
-        (1, "text 0 \"a\"\npages 2\nsys exit 0\n", 2),
-        (1, "sys write 0 0 1 0 0\n", 1),
-        (3, "sys rexec", 0),
-        (0, "sys rexec", 1),
-    ];
-    for (place, (version, text, line)) in rows.iter().enumerate() {
+    for (place, (version, text, line)) in FIRST_BAD.iter().enumerate() {
         assert_eq!(rt;
             first_bad_line(alloc, *version, text)?,
             *line,
             "row {place}"
         );
     }
-    let counted = [
-        ("", "sys tick\n", 512, "", 0),
-        ("", "sys tick\n", 513, "", 513),
-        ("", "sys tick\n", 512, "\n# end\nend:\n", 0),
-        ("jmp end\n", "sys tick\n", 511, "end:\n", 0),
-        ("jmp end\n", "sys tick\n", 512, "sys fly\nend:\n", 513),
-        ("jmp end\n", "sys tick\n", 512, "sys fly\n", 1),
-        ("", "text 0 \"\"\n", 64, "", 0),
-        ("", "text 0 \"\"\n", 65, "", 65),
-        ("", "text 0 \"\"\n", 64, "sys tick\n\ntext 0 \"a\"\n", 67),
-        ("", "#\n", 3000, "sys fly\n", 3001),
-    ];
-    for (place, (before, line, count, behind, bad)) in counted.iter().enumerate() {
+    for (place, (before, line, count, behind, bad)) in COUNTED.iter().enumerate() {
         let text = repeated(alloc, before, line, *count, behind)?;
         assert_eq!(rt;
             first_bad_line(alloc, 1, text.as_str())?,
@@ -273,40 +118,7 @@ fn instructions(rt: HostRuntime) -> Result<(), Fail> {
             "row {place}"
         );
     }
-    let calls = [
-        ("print", SyscallName::Print),
-        ("exit", SyscallName::Exit),
-        ("getpid", SyscallName::Getpid),
-        ("getppid", SyscallName::Getppid),
-        ("host", SyscallName::Host),
-        ("tick", SyscallName::Tick),
-        ("fork", SyscallName::Fork),
-        ("exec", SyscallName::Exec),
-        ("wait", SyscallName::Wait),
-        ("kill", SyscallName::Kill),
-        ("open", SyscallName::Open),
-        ("close", SyscallName::Close),
-        ("dup", SyscallName::Dup),
-        ("read", SyscallName::Read),
-        ("write", SyscallName::Write),
-        ("seek", SyscallName::Seek),
-        ("size", SyscallName::Size),
-        ("sync", SyscallName::Sync),
-        ("stat", SyscallName::Stat),
-        ("mkdir", SyscallName::Mkdir),
-        ("rmdir", SyscallName::Rmdir),
-        ("unlink", SyscallName::Unlink),
-        ("rename", SyscallName::Rename),
-        ("list", SyscallName::List),
-        ("chdir", SyscallName::Chdir),
-        ("migrate", SyscallName::Migrate),
-        ("pd_make", SyscallName::PdMake),
-        ("pd_get", SyscallName::PdGet),
-        ("pd_put", SyscallName::PdPut),
-        ("ioctl", SyscallName::Ioctl),
-        ("rexec", SyscallName::Rexec),
-    ];
-    for (word, name) in calls {
+    for (word, name) in CALLS {
         let text = repeated(alloc, "sys ", word, 1, " r3 5")?;
         let program = assemble(alloc, text.as_str(), 2).map_err(|_| "a program")?;
         let operands = [
