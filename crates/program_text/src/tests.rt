@@ -25,6 +25,12 @@ fn register(number: u8) -> Result<Register, Fail> {
     Ok(Register::new(number).ok_or("a register")?)
 }
 
+// The first instruction of the program of a text.
+fn first_step(alloc: Global, version: u8, text: &str) -> Result<Option<Instruction>, Fail> {
+    let program = assemble(alloc, text, version).map_err(|_| "a program")?;
+    Ok(program.code.as_slice().first().copied())
+}
+
 // So many copies of a line, with another text before and behind.
 fn repeated(
     alloc: Global,
@@ -85,6 +91,7 @@ fn instructions(rt: HostRuntime) -> Result<(), Fail> {
             Instruction::Set(r1, u64::MAX),
         ),
         ("mov r1 r2", Instruction::Mov(r1, r2)),
+        ("mov r2 r1", Instruction::Mov(r2, r1)),
         ("add r2 r1", Instruction::Add(r2, r1)),
         ("sub r1 r2", Instruction::Sub(r1, r2)),
         ("mul r1 r2", Instruction::Mul(r1, r2)),
@@ -111,16 +118,17 @@ fn instructions(rt: HostRuntime) -> Result<(), Fail> {
         ),
     ];
     for (place, (text, first)) in rows.iter().enumerate() {
-        let program = program(alloc, text)?;
-        assert_eq!(rt;
-            program.code.as_slice().first().copied(),
-            Some(*first),
-            "row {place}"
-        );
+        assert_eq!(rt; first_step(alloc, 1, text)?, Some(*first), "row {place}");
     }
+    Ok(())
+}
+
+#[test]
+fn calls(rt: HostRuntime) -> Result<(), Fail> {
+    let alloc = rt.alloc();
+    let r3 = register(3)?;
     for (word, name) in CALLS {
         let text = repeated(alloc, "sys ", word, 1, " r3 5")?;
-        let program = assemble(alloc, text.as_str(), 2).map_err(|_| "a program")?;
         let operands = [
             Some(Operand::Register(r3)),
             Some(Operand::Number(5)),
@@ -128,35 +136,56 @@ fn instructions(rt: HostRuntime) -> Result<(), Fail> {
             None,
         ];
         let sys = Instruction::Sys { name, operands };
-        assert_eq!(rt; program.code.as_slice(), [sys].as_slice(), "{word}");
+        assert_eq!(rt; first_step(alloc, 2, text.as_str())?, Some(sys), "{word}");
     }
     Ok(())
+}
+
+// Whether the program has that text at that place.
+fn has_text(program: &Program, at: usize, address: u64, bytes: &[u8]) -> bool {
+    match program.texts.as_slice().get(at) {
+        Some(text) => text.address == address && text.bytes.as_slice() == bytes,
+        None => false,
+    }
+}
+
+#[test]
+fn parts_of_a_program(rt: HostRuntime) -> Result<(), Fail> {
+    let program = program(
+        rt.alloc(),
+        "pages 3\ntext 8 \"a\\\\\\\"\\n\"\nsys tick\ntext 9 \" ~\"\nend:\njmp end\n",
+    )?;
+    let counts = (program.number, program.pages.count(), program.texts.len());
+    assert_eq!(rt; counts, (1, 3, 2));
+    assert!(rt; has_text(&program, 0, 8, b"a\\\"\n".as_slice()));
+    assert!(rt; has_text(&program, 1, 9, b" ~".as_slice()));
+    assert_eq!(rt;
+        program.code.as_slice().last().copied(),
+        Some(Instruction::Jmp(1))
+    );
+    Ok(())
+}
+
+// How many pages, texts and instructions the program of a text has.
+fn counts(alloc: Global, version: u8, text: &str) -> Result<(u8, usize, usize), Fail> {
+    let program = assemble(alloc, text, version).map_err(|_| "a program")?;
+    Ok((
+        program.pages.count(),
+        program.texts.len(),
+        program.code.len(),
+    ))
 }
 
 #[test]
 fn whole_programs(rt: HostRuntime) -> Result<(), Fail> {
     let alloc = rt.alloc();
-    let first = program(
-        alloc,
-        "pages 3\ntext 8 \"a\\\\\\\"\\n\"\nsys tick\ntext 9 \" ~\"\nend:\njmp end\n",
-    )?;
-    assert_eq!(rt; first.number, 1);
-    assert_eq!(rt; first.pages.count(), 3);
-    assert_eq!(rt; first.texts.len(), 2);
-    assert_eq!(rt; first.texts.at(0).address, 8);
-    assert_eq!(rt; first.texts.at(0).bytes.as_slice(), b"a\\\"\n".as_slice());
-    assert_eq!(rt; first.texts.at(1).address, 9);
-    assert_eq!(rt; first.texts.at(1).bytes.as_slice(), b" ~".as_slice());
-    assert_eq!(rt;
-        first.code.as_slice().last().copied(),
-        Some(Instruction::Jmp(1))
-    );
-    assert_eq!(rt; program(alloc, "sys tick")?.pages.count(), 1);
+    assert_eq!(rt; counts(alloc, 1, "sys tick")?, (1, 0, 1));
     for (place, (version, text, pages, texts, steps)) in WORKED.iter().enumerate() {
-        let program = assemble(alloc, text, *version).map_err(|_| "a program")?;
-        assert_eq!(rt; program.pages.count(), *pages, "row {place}");
-        assert_eq!(rt; program.texts.len(), *texts, "row {place}");
-        assert_eq!(rt; program.code.len(), *steps, "row {place}");
+        assert_eq!(rt;
+            counts(alloc, *version, text)?,
+            (*pages, *texts, *steps),
+            "row {place}"
+        );
     }
     let line = format!(in alloc; "{}", AsmEnd::Line(7))?;
     assert_eq!(rt; line.as_str(), "line 7 is bad");
