@@ -1,0 +1,4 @@
+pub mod Counts
+pub mod Fates
+pub mod PlanCounts
+pub mod PairLaws
