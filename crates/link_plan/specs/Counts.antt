@@ -1,5 +1,5 @@
 -- What a link counts, for each pair of kernels.
-use Rattle.std.specs.Prelude.{◌≡◌, ℕ, ◌+◌, ◌-◌, ◌^◌, ◌<◌, ◌≤◌, ◌==◌, Bool, true, false, ◌&&◌, ◌||◌, min}
+use Rattle.std.specs.Prelude.{◌≡◌, ℕ, ◌+◌, ◌-◌, ◌^◌, ◌<◌, ◌≤◌, ◌==◌, Bool, true, false, ◌&&◌, ◌||◌, List, [], ◌∷◌, min}
 use Rattle.link_plan.specs.declared.plan.Fate.{Fate}
 use Rattle.link_plan.specs.declared.plan.Fate.TheVariants.{Once, Lost, Twice, Late}
 
@@ -32,7 +32,13 @@ pub record Stay (faults asked faults_after asked_after : ℕ → ℕ → ℕ) : 
 
 -- the link was asked about one packet from one kernel to another, and answered that fate
 pub record IsAsked (faults asked faults_after asked_after : ℕ → ℕ → ℕ) (from to : ℕ) (fate : Fate) : Type 0 where
-  pub once : asked_after from to ≡ raised (asked from to)
-  pub cause : HasCause fate (faults from to) (faults_after from to)
+  pub once : (a b : ℕ) → same_pair a b from to ≡ true → asked_after a b ≡ raised (asked a b)
+  pub cause : (a b : ℕ) → same_pair a b from to ≡ true → HasCause fate (faults a b) (faults_after a b)
+  pub never_fall : (a b : ℕ) → faults a b ≤ faults_after a b
   pub other_faults : (a b : ℕ) → (1 ≤ a) × (a ≤ 16) → (1 ≤ b) × (b ≤ 16) → same_pair a b from to ≡ false → faults_after a b ≡ faults a b
   pub other_asked : (a b : ℕ) → (1 ≤ a) × (a ≤ 16) → (1 ≤ b) × (b ≤ 16) → same_pair a b from to ≡ false → asked_after a b ≡ asked a b
+
+-- the link was asked about packets from one kernel, one after the other: each to its receiver, with the fate that it got
+abbrev pub Asks : {L : Type 0} → (L → ℕ → ℕ → ℕ) → (L → ℕ → ℕ → ℕ) → ℕ → L → L → List (ℕ × Fate) → Type 0
+Asks faults asked from before after [] = before ≡ after
+Asks {L} faults asked from before after (sent ∷ rest) = (between : L) × IsAsked (faults before) (asked before) (faults between) (asked between) from sent.0 sent.1 × Asks faults asked from between after rest
