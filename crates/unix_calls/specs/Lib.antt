@@ -1,0 +1,11 @@
+pub mod Tree
+pub mod State
+pub mod Same
+pub mod Answers
+pub mod ProcessCalls
+pub mod NameCalls
+pub mod Opening
+pub mod StreamCalls
+pub mod DeviceCalls
+pub mod Boot
+pub mod After
