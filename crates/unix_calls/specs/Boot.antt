@@ -12,11 +12,8 @@ use Rattle.unix_calls.specs.declared.description.StartLine.{StartLine}
 use Rattle.unix_calls.specs.declared.description.FileLine.{FileLine}
 use Rattle.unix_calls.specs.Tree.{Boot, Node, Directory, FileNode, Named, node_at, with_name, above}
 use Rattle.unix_calls.specs.State.{File, Process, Unix, bytes_of, with_bytes, put_process, next_pid, no_descriptors}
+use Rattle.unix_calls.specs.Domains.{roots_of}
 use Rattle.unix_calls.specs.Answers.{program_at}
-
--- the paths of all domains, in file order
-abbrev pub roots_of : List KernelLine → List (List (List ℕ))
-roots_of lines = flat_map (λ (line : KernelLine). line.serves) lines
 
 -- the names with a directory, where nothing stands
 abbrev pub with_directory : List (List ℕ) → List Named → List Named
@@ -88,7 +85,7 @@ abbrev pub started : List ProgramLine → List Process → List StartLine → Li
 started programs ps [] = ps
 started programs ps (line ∷ lines) = started programs (started_by line ps (program_at programs line.program)) lines
 
--- the most bytes that a file may have: 64 blocks, and 1,024 from version 2 on
+-- the most bytes that a file may have: 262,144, and 4,194,304 from version 2 of the cluster file on
 abbrev pub limit_of : ℕ → ℕ
 limit_of version = if nat_lt 1 version then 4194304 else 262144
 

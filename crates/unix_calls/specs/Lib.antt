@@ -1,4 +1,5 @@
 pub mod Tree
+pub mod Domains
 pub mod State
 pub mod Same
 pub mod Answers
@@ -9,3 +10,4 @@ pub mod StreamCalls
 pub mod DeviceCalls
 pub mod Boot
 pub mod After
+pub mod Examples

@@ -1,5 +1,5 @@
 -- The calls on names. Each begins with its path, cleaned from the caller's cwd. BadName: the text is no path.
-use Rattle.std.specs.Prelude.{ℕ, Bool, ◌&&◌, not, if◌then◌else◌, List, [], ◌∷◌, ◌++◌, length, nat_lt, Option, Some, None}
+use Rattle.std.specs.Prelude.{ℕ, ◌==◌, Bool, ◌&&◌, not, if◌then◌else◌, List, [], ◌∷◌, ◌++◌, length, nat_lt, Option, Some, None}
 use Rattle.std.specs.List.{flat_map, list_any}
 use Rattle.std.specs.Option.{is_some}
 use Rattle.sprite_ids.specs.declared.errno.Errno.{Errno}
@@ -7,6 +7,7 @@ use Rattle.sprite_ids.specs.declared.errno.Errno.TheVariants as errno
 use Rattle.sprite_paths.specs.Path.{clean_path, is_prefix}
 use Rattle.process_machine.specs.declared.call.Reply.TheVariants.{Value}
 use Rattle.unix_calls.specs.declared.description.Description.{Description}
+use Rattle.unix_calls.specs.Domains.{begins_domain, domain_of}
 use Rattle.unix_calls.specs.Tree.{Node, Directory, FileNode, DeviceNode, same_path, node_at, with_name, without_name, above, names_in, is_full, first_of, walk}
 use Rattle.unix_calls.specs.State.{Process, Unix}
 use Rattle.unix_calls.specs.Answers.{Outcome, replies, is_done, gives, refuses, unless_refused}
@@ -68,14 +69,10 @@ unnamed path u = record u { nodes = without_name path u.nodes }
 abbrev pub mkdir : Description → Unix → Process → List (List ℕ) → Outcome
 mkdir c u p path = unless_refused c u p (new_refusal u path) (is_done c (named path Directory u) p)
 
--- whether a domain begins at the path
-abbrev pub is_root : Unix → List (List ℕ) → Bool
-is_root u path = list_any (same_path path) u.roots
-
 -- rmdir: the directory goes. Busy: a domain; walk, NoEntry, NotDir; NotEmpty: something stands below
 abbrev pub rmdir_refusal : Unix → List (List ℕ) → Option Errno
 rmdir_refusal u path =
-    first_of (refusal_if (is_root u path) errno.Busy) (first_of (walk u.nodes path) (first_of
+    first_of (refusal_if (begins_domain u.roots path) errno.Busy) (first_of (walk u.nodes path) (first_of
     (missing (node_at u.nodes path)) (first_of
     (no_directory (node_at u.nodes path))
     (refusal_if (nat_lt 0 (length (names_in u.nodes path))) errno.NotEmpty))))
@@ -91,20 +88,11 @@ unlink_refusal u path =
 abbrev pub unlink : Description → Unix → Process → List (List ℕ) → Outcome
 unlink c u p path = unless_refused c u p (unlink_refusal u path) (is_done c (unnamed path u) p)
 
--- the longer of the best domain so far and one more, where that one has the path
-abbrev pub better_root : List (List ℕ) → List (List ℕ) → List (List ℕ) → List (List ℕ)
-better_root path best root = if is_prefix root path && nat_lt (length best) (length root) then root else best
-
--- the path of the longest domain of a path; `/` is one
-abbrev pub root_of : List (List (List ℕ)) → List (List ℕ) → List (List ℕ)
-root_of [] path = []
-root_of (root ∷ roots) path = better_root path (root_of roots path) root
-
 -- rename: the file or device at the old path has the new one. XDev: two domains; walk and NoEntry of the old path;
 -- IsDir; walk of the new path; Exists; TooMany: another directory that is full
 abbrev pub rename_refusal : Unix → List (List ℕ) → List (List ℕ) → Option Errno
 rename_refusal u old new =
-    first_of (refusal_if (not (same_path (root_of u.roots old) (root_of u.roots new))) errno.XDev) (first_of
+    first_of (refusal_if (not (domain_of u.roots old == domain_of u.roots new)) errno.XDev) (first_of
     (walk u.nodes old) (first_of
     (missing (node_at u.nodes old)) (first_of
     (a_directory (node_at u.nodes old)) (first_of

@@ -81,12 +81,13 @@ creates_file c u p fd flags path =
     unless_refused c u p (create_refusal u flags path)
     (opened c (with_new_file path u) p fd (OfFile (Made u.entries)) flags.mode flags.appends)
 
--- what stands at the path is opened. IsDir: a directory. A device is opened whatever else is asked for
+-- what stands at the path is opened. IsDir: a directory. On a device
+-- a truncation and an append change nothing
 abbrev pub open_node : Description → Unix → Process → ℕ → Flags → List (List ℕ) → Option Node → Outcome
 open_node c u p fd flags path None = creates_file c u p fd flags path
 open_node c u p fd flags path (Some Directory) = refuses c u p errno.IsDir
 open_node c u p fd flags path (Some (FileNode name)) = opened c (cut flags.truncates name u) p fd (OfFile name) flags.mode flags.appends
-open_node c u p fd flags path (Some (DeviceNode place)) = opened c u p fd (OfDevice place) flags.mode false
+open_node c u p fd flags path (Some (DeviceNode place)) = opened c u p fd (OfDevice place) flags.mode flags.appends
 
 abbrev pub open_at : Description → Unix → Process → ℕ → Flags → List (List ℕ) → Outcome
 open_at c u p fd flags path = unless_refused c u p (walk u.nodes path) (open_node c u p fd flags path (node_at u.nodes path))

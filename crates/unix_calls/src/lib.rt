@@ -3,6 +3,7 @@
 #![tactic(auto)]
 
 mod description;
+mod domains;
 mod entry;
 mod event;
 
