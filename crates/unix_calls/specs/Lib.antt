@@ -10,4 +10,10 @@ pub mod StreamCalls
 pub mod DeviceCalls
 pub mod Boot
 pub mod After
+pub mod Output
+pub mod Lawful
 pub mod Examples
+pub mod FileExamples
+pub mod ProcessExamples
+pub mod DeviceExamples
+pub mod LawfulExamples

@@ -6,6 +6,7 @@ mod description;
 mod domains;
 mod entry;
 mod event;
+pub mod judged;
 
 pub use description::{Description, EvictLine, FileLine, KernelLine, ProgramLine, StartLine};
 pub use entry::{Entry, Part};
