@@ -1,0 +1,13 @@
+//! The one-kernel Unix that a cluster looks like: what describes a cluster, what a run's trace says, and the definitions of
+//! what one kernel answers to each call.
+#![tactic(auto)]
+
+mod description;
+mod domains;
+mod entry;
+mod event;
+pub mod judged;
+
+pub use description::{Description, EvictLine, FileLine, KernelLine, ProgramLine, StartLine};
+pub use entry::{Entry, Part};
+pub use event::{About, DropCause, Event, Rec, SendKind};
