@@ -1,0 +1,96 @@
+ghost use Rattle.std.specs.Prelude.{◌≡◌, ◌∷◌, ◌++◌, [], IfOk, OnOk, OnErr};
+ghost use Rattle.call_journal.specs.Journal.{journal_of};
+ghost use Rattle.call_journal.specs.Units.{units_of};
+ghost use Rattle.call_journal.specs.Counts.{AreCounts};
+
+use crate::counts::Tally;
+use sprite_ids::{Copying, Items, NoMemory};
+use std::alloc::Global;
+use std::marker::Model;
+use unix_calls::{Entry, Event, Rec};
+
+/// The records of a run, in the order in which they came to be. Contracts see the trace as their list (this project).
+#[derive(Debug, Drop)]
+pub struct Trace {
+    records: Vec<Rec>,
+    tally: Tally,
+}
+
+impl Model for Trace {
+    ghost use Rattle.std.specs.Prelude.{List};
+    ghost use Rattle.unix_calls.specs.declared.event.Rec.{Rec};
+    ghost use Rattle.call_journal.specs.Counts.{AreTold};
+
+    ghost Value = { List Rec };
+
+    ghost view = { λ trace. trace.records.items };
+
+    ghost invariant = { λ trace. AreTold trace.records.items trace.tally };
+}
+
+impl Trace {
+    /// No records.
+    pub fn new(alloc: Global) -> Trace
+        ensures { result ≡ [] }
+    {
+        Trace {
+            records: Vec::new(alloc),
+            tally: Tally::new(),
+        }
+    }
+
+    /// Puts a record at the end. After want of memory, the one error, the trace is as before; it also comes where the units are
+    /// more than a number of 64 bits tells, which no memory holds.
+    pub fn push(&mut self, rec: Rec) -> Result<(), NoMemory>
+        ensures ok { OnOk result (self.new ≡ self.old ++ rec ∷ []) }
+        ensures err { OnErr result (self.new ≡ self.old) }
+    {
+        let Some(tally) = self.tally.with(&rec.event) else {
+            return Err(NoMemory);
+        };
+        self.records.push(rec)?;
+        self.tally = tally;
+        Ok(())
+    }
+
+    /// The records, lent.
+    pub fn records(&self) -> &[Rec]
+        ensures { result.now ≡ self.now }
+    {
+        self.records.as_slice()
+    }
+
+    /// What the trace costs: one unit for a record, and one more for each 64 bytes, or part of 64, of an entry's data.
+    pub fn units(&self) -> u64
+        ensures { result ≡ units_of self.now }
+    {
+        self.tally.units
+    }
+
+    /// How many records of each kind there are, in the order Burst, Issue, Enter, Return, Send, Fault, Deliver, Expire, Grant,
+    /// Callback, Mode, Filled, Dropped, Dirtied, WroteBack, Opened, Closed, Shared, Learned, Freeze, Thaw.
+    pub fn counts(&self) -> [u64; 21]
+        ensures { AreCounts self.now result }
+    {
+        self.tally.counts
+    }
+
+    /// The journal: the entries of the records that enter one, in their order. The one error is want of memory.
+    pub fn journal(&self, alloc: Global) -> Result<Items<Entry>, NoMemory>
+        ensures { IfOk result (λ journal. journal ≡ journal_of self.now) }
+    {
+        entries(alloc, self.records.as_slice())
+    }
+}
+
+fn entries(alloc: Global, records: &[Rec]) -> Result<Items<Entry>, NoMemory>
+    ensures { IfOk result (λ journal. journal ≡ journal_of records.now) }
+{
+    let mut journal = Items::new(alloc);
+    for record in records {
+        if let Event::Enter { entry } = &record.event {
+            journal.push(entry.copy(alloc)?)?;
+        }
+    }
+    Ok(journal)
+}
