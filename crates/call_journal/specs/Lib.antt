@@ -25,3 +25,11 @@ pub mod WorthRecords
 pub mod WorthCaches
 pub mod WorthKills
 pub mod Worth
+pub mod Laws
+pub mod Examples
+pub mod CachedExample
+pub mod SyncedExample
+pub mod SharedExample
+pub mod UnreachedExample
+pub mod KilledExample
+pub mod EvictedExample

@@ -3,9 +3,12 @@
 
 mod closed;
 mod counts;
+pub mod judged;
+mod laws;
 mod trace;
 
 pub use closed::Closed;
+pub use laws::{journals_grow, pasts_are_told, units_never_fall};
 pub use trace::Trace;
 
 #[cfg(test)]
