@@ -7,7 +7,9 @@ mod domains;
 mod entry;
 mod event;
 pub mod judged;
+mod laws;
 
 pub use description::{Description, EvictLine, FileLine, KernelLine, ProgramLine, StartLine};
 pub use entry::{Entry, Part};
 pub use event::{About, DropCause, Event, Rec, SendKind};
+pub use laws::{domain_is_longest, server_serves};
