@@ -13,3 +13,6 @@ pub use description::{Description, EvictLine, FileLine, KernelLine, ProgramLine,
 pub use entry::{Entry, Part};
 pub use event::{About, DropCause, Event, Rec, SendKind};
 pub use laws::{domain_is_longest, server_serves};
+
+#[cfg(test)]
+mod tests;
