@@ -1,1 +1,7 @@
 pub mod DomainLaws
+pub mod OutcomeLaws
+pub mod ProcessCallLaws
+pub mod NameCallLaws
+pub mod StreamCallLaws
+pub mod AfterLaws
+pub mod HistoryLaws

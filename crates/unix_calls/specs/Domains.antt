@@ -1,5 +1,5 @@
 -- The domains of a cluster: the parts of the tree of names, each with one server.
-use Rattle.std.specs.Prelude.{◌≡◌, ◌≤◌, ℕ, ◌+◌, ◌-◌, Bool, true, ◌&&◌, if◌then◌else◌, List, [], ◌∷◌, length, nat_lt, slice_get, Option, Some, None}
+use Rattle.std.specs.Prelude.{◌≡◌, ◌<◌, ◌≤◌, ◌++◌, ℕ, ◌+◌, ◌-◌, Bool, true, if◌then◌else◌, List, [], ◌∷◌, length, nat_lt, slice_get, Option, Some, None}
 use Rattle.std.specs.List.{AllByRecursion, flat_map, list_any}
 use Rattle.std.specs.Option.{option_map, unwrap_or}
 use Rattle.sprite_paths.specs.Path.{is_prefix, IsPrefix}
@@ -15,16 +15,15 @@ roots_of lines = flat_map (λ (line : KernelLine). line.serves) lines
 abbrev pub begins_domain : List (List (List ℕ)) → List (List ℕ) → Bool
 begins_domain roots path = list_any (same_path path) roots
 
--- whether that many parts are more than the best domain so far has
-abbrev pub is_longer : Option Found → ℕ → Bool
-is_longer None parts = true
-is_longer (Some best) parts = nat_lt best.parts parts
+-- the longer of the best domain so far and the one at that place, whose path is the root
+abbrev pub longer : Option Found → ℕ → List (List ℕ) → Option Found
+longer None place root = Some (record { place = place; parts = length root })
+longer (Some best) place root =
+    if nat_lt best.parts (length root) then Some (record { place = place; parts = length root }) else Some best
 
--- the best domain of a path so far, after the one at that place, whose path is the root: it is better where it has the path
--- and is longer
+-- the better of the two for a path: a domain that has the path, and is longer
 abbrev pub better : List (List ℕ) → Option Found → ℕ → List (List ℕ) → Option Found
-better path best place root =
-    if is_longer best (length root) && is_prefix root path then Some (record { place = place; parts = length root }) else best
+better path best place root = if is_prefix root path then longer best place root else best
 
 -- the best domain of a path after some more, which stand from that place on
 abbrev pub best_from : List (List ℕ) → Option Found → ℕ → List (List (List ℕ)) → Option Found
@@ -55,3 +54,22 @@ pub record IsLongest (roots : List (List (List ℕ))) (path : List (List ℕ)) (
   pub there : slice_get roots place ≡ Some root
   pub prefix : IsPrefix root path
   pub others : AllByRecursion (HasUpTo (length root) path) roots
+
+-- where `/` is a domain, the place of a path's longest domain is that of its longest domain
+abbrev pub DomainIsLongest : Type 0
+DomainIsLongest = (roots : List (List (List ℕ))) (path : List (List ℕ)) → begins_domain roots [] ≡ true → IsLongest roots path (domain_of roots path)
+
+-- the kernel of that number serves the domain at the place: the place is among its own, counted on from those of the kernels
+-- before it
+pub record IsServer (lines : List KernelLine) (domain number : ℕ) : Type 0 where
+  pub before : List KernelLine
+  pub line : KernelLine
+  pub after : List KernelLine
+  pub all : lines ≡ before ++ line ∷ after
+  pub counted : number ≡ length before + 1
+  pub from : length (roots_of before) ≤ domain
+  pub to : domain < length (roots_of before) + length line.serves
+
+-- the server of a domain is the kernel that serves it
+abbrev pub ServerServes : Type 0
+ServerServes = (lines : List KernelLine) (domain : ℕ) → domain < length (roots_of lines) → IsServer lines domain (server_of lines domain)

@@ -12,6 +12,7 @@ pub mod Boot
 pub mod After
 pub mod Output
 pub mod Lawful
+pub mod Laws
 pub mod Examples
 pub mod FileExamples
 pub mod ProcessExamples

@@ -1,7 +1,8 @@
 use link_plan::Plan;
 use process_machine::Program;
-use sprite_ids::{Bytes, Items, Kernel};
+use sprite_ids::{Bytes, Copying, Items, Kernel, NoMemory};
 use sprite_paths::Path;
+use std::alloc::Global;
 
 /// What a cluster file describes, each list in file order (this project).
 #[derive(Debug, Drop)]
@@ -25,6 +26,22 @@ pub struct Description {
     pub evicts: Items<EvictLine>,
 }
 
+impl Copying for Description {
+    fn copy(&self, alloc: Global) -> Result<Description, NoMemory> {
+        Ok(Description {
+            version: self.version,
+            budget: self.budget,
+            cache: self.cache,
+            kernels: self.kernels.copy(alloc)?,
+            programs: self.programs.copy(alloc)?,
+            starts: self.starts.copy(alloc)?,
+            files: self.files.copy(alloc)?,
+            plan: self.plan.copy(alloc)?,
+            evicts: self.evicts.copy(alloc)?,
+        })
+    }
+}
+
 /// A kernel of the cluster.
 #[derive(Debug, Drop)]
 pub struct KernelLine {
@@ -34,12 +51,30 @@ pub struct KernelLine {
     pub serves: Items<Path>,
 }
 
+impl Copying for KernelLine {
+    fn copy(&self, alloc: Global) -> Result<KernelLine, NoMemory> {
+        Ok(KernelLine {
+            name: self.name.copy(alloc)?,
+            serves: self.serves.copy(alloc)?,
+        })
+    }
+}
+
 /// A program of the cluster.
 #[derive(Debug, PartialEq, Eq, Drop)]
 pub struct ProgramLine {
     /// 1 to 16 bytes of `a` to `z` and `0` to `9`, the first a letter.
     pub name: Bytes,
     pub program: Program,
+}
+
+impl Copying for ProgramLine {
+    fn copy(&self, alloc: Global) -> Result<ProgramLine, NoMemory> {
+        Ok(ProgramLine {
+            name: self.name.copy(alloc)?,
+            program: self.program.copy(alloc)?,
+        })
+    }
 }
 
 /// A process that runs from the start.
@@ -53,6 +88,12 @@ pub struct StartLine {
     pub arg: u64,
 }
 
+impl Copying for StartLine {
+    fn copy(&self, _alloc: Global) -> Result<StartLine, NoMemory> {
+        Ok(*self)
+    }
+}
+
 /// A file that is there from the start.
 #[derive(Debug, Drop)]
 pub struct FileLine {
@@ -62,10 +103,26 @@ pub struct FileLine {
     pub append: bool,
 }
 
+impl Copying for FileLine {
+    fn copy(&self, alloc: Global) -> Result<FileLine, NoMemory> {
+        Ok(FileLine {
+            path: self.path.copy(alloc)?,
+            bytes: self.bytes.copy(alloc)?,
+            append: self.append,
+        })
+    }
+}
+
 /// The foreign processes of a kernel are to leave it (Douglis and Ousterhout 1991).
 #[derive(Clone, Copy, Debug, PartialEq, Eq)]
 pub struct EvictLine {
     pub host: Kernel,
     /// At that call of the kernel's processes, counted from 1.
     pub after: u32,
+}
+
+impl Copying for EvictLine {
+    fn copy(&self, _alloc: Global) -> Result<EvictLine, NoMemory> {
+        Ok(*self)
+    }
 }

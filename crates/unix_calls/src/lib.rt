@@ -7,7 +7,15 @@ mod domains;
 mod entry;
 mod event;
 pub mod judged;
+mod laws;
 
 pub use description::{Description, EvictLine, FileLine, KernelLine, ProgramLine, StartLine};
 pub use entry::{Entry, Part};
 pub use event::{About, DropCause, Event, Rec, SendKind};
+pub use laws::{
+    death_is_of_killed, domain_is_longest, prefix_is_legal, refusal_changes_nothing, server_serves,
+    sizes_stay_within,
+};
+
+#[cfg(test)]
+mod tests;

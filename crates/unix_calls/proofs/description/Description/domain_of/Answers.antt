@@ -1,12 +1,17 @@
-use Rattle.std.proofs.Common.{◌≡◌, ◌+◌, ◌<◌, ◌^◌, length, refl, sym, arith}
-use Rattle.unix_calls.proofs.DomainLaws.{line_reached}
+use Rattle.std.proofs.Common.{◌<◌, ◌^◌, length}
+use Rattle.sprite_ids.proofs.ListLaws.{get_within}
+use Rattle.unix_calls.specs.Domains.{roots_of}
+use Rattle.unix_calls.proofs.DomainLaws.{longest_of}
 use Rattle.unix_calls.proofs.description.Description.domain_of.Goals as goal
 
-pub loop-line-preserved : goal.loop-line-preserved
-loop-line-preserved c =
-    line_reached _ c.args.self.now.kernels c.loop-line.line-index c.line-item.result c.loop-line.best _ c.loop-line.place _
-    (rw (← c.as_slice-line-items.ensures) c.loop-line-test.true)
-    (rw (← c.as_slice-line-items.ensures) c.line-item.is)
-    c.loop-line.invariant
-    (rw (← c.as_slice.ensures) c.best_in-best.ensures)
-    (λ (small : c.loop-line.place + length c.line-item.result.serves < 2 ^ 64). omega (arith, c.saturating_add-place.ensures, c.len.ensures, small))
+pub returns-clause-longest : goal.returns-clause-longest
+returns-clause-longest c =
+    let place = rw c.as_slice.ensures at c.longest_place.ensures in
+    λ (small : length (roots_of c.args.self.now.kernels) < 2 ^ 64). longest_of _ _ _ c.requires.root (place small)
+
+pub returns-clause-there : goal.returns-clause-there
+returns-clause-there c =
+    let place = rw c.as_slice.ensures at c.longest_place.ensures in
+    λ (small : length (roots_of c.args.self.now.kernels) < 2 ^ 64).
+    let is = longest_of _ _ _ c.requires.root (place small) in
+    get_within _ _ is.root is.there

@@ -1,0 +1,42 @@
+-- What holds of all histories of the one-kernel Unix.
+use Rattle.std.specs.Prelude.{◌≡◌, ◌≢◌, ◌≤◌, ℕ, Bool, true, List, [], ◌∷◌, ◌++◌, length, Option, Some, None}
+use Rattle.std.specs.List.{AllByRecursion}
+use Rattle.sprite_ids.specs.declared.errno.Errno.{Errno}
+use Rattle.process_machine.specs.declared.call.Call.{Call}
+use Rattle.process_machine.specs.declared.call.Call.TheVariants as call
+use Rattle.process_machine.specs.declared.call.Reply.{Reply}
+use Rattle.process_machine.specs.declared.call.Reply.TheVariants.{Value, Error}
+use Rattle.unix_calls.specs.declared.description.Description.{Description}
+use Rattle.unix_calls.specs.declared.entry.Entry.{Entry}
+use Rattle.unix_calls.specs.declared.entry.Part.TheVariants as part
+use Rattle.unix_calls.specs.State.{File, Stream, Process, Unix, process_at, with_process}
+use Rattle.unix_calls.specs.Answers.{Outcome, Answered, replied}
+use Rattle.unix_calls.specs.Boot.{boot_of}
+use Rattle.unix_calls.specs.After.{outcome, after, state_of, legal}
+
+-- every prefix of a legal history is legal
+abbrev pub PrefixIsLegal : Type 0
+PrefixIsLegal = (c : Description) (journal more : List Entry) → legal c (journal ++ more) ≡ true → legal c journal ≡ true
+
+-- a kill of that process is pending
+pub record IsKilled (u : Unix) (pid : ℕ) : Type 0 where
+  pub process : Process
+  pub there : process_at u.processes pid ≡ Some process
+  pub pending : process.killed ≡ true
+
+-- a death is of a process that a kill is pending for
+abbrev pub DeathIsOfKilled : Type 0
+DeathIsOfKilled = (c : Description) (u v : Unix) (e : Entry) → after c u e ≡ Some v → e.part ≡ part.Death → IsKilled u e.pid
+
+-- each file's size and each stream's offset is at most the limit
+pub record IsWithin (u : Unix) : Type 0 where
+  pub files : AllByRecursion (λ (f : File). length f.bytes ≤ u.limit) u.files
+  pub streams : AllByRecursion (λ (s : Stream). s.offset ≤ u.limit) u.streams
+
+-- sizes and offsets stay within the limit, where the files are so at the start
+abbrev pub SizesStayWithin : Type 0
+SizesStayWithin = (c : Description) (journal : List Entry) (u : Unix) → IsWithin (boot_of c) → state_of c journal ≡ Some u → IsWithin u
+
+-- a refused call changes nothing but its caller's image and number of calls
+abbrev pub RefusalChangesNothing : Type 0
+RefusalChangesNothing = (c : Description) (u v : Unix) (p : Process) (called : Call) (errno : Errno) → outcome c u p called ≡ Answered (Error errno) v → v ≡ with_process (replied c p (Error errno)) u

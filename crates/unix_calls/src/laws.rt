@@ -1,0 +1,33 @@
+ghost use Rattle.unix_calls.specs.Domains.{DomainIsLongest, ServerServes};
+ghost use Rattle.unix_calls.specs.Laws.{PrefixIsLegal, DeathIsOfKilled, SizesStayWithin, RefusalChangesNothing};
+
+/// A law: the longest domain of a path is a domain, the path begins with it, and no longer domain is one that the path begins
+/// with.
+pub fn domain_is_longest()
+    ensures { DomainIsLongest }
+{}
+
+/// A law: the server of a domain is the kernel that serves it.
+pub fn server_serves()
+    ensures { ServerServes }
+{}
+
+/// A law: every prefix of a legal history is legal.
+pub fn prefix_is_legal()
+    ensures { PrefixIsLegal }
+{}
+
+/// A law: a death is an entry only of a process that a kill is pending for.
+pub fn death_is_of_killed()
+    ensures { DeathIsOfKilled }
+{}
+
+/// A law: no file is larger than the limit, and no stream's offset is past it.
+pub fn sizes_stay_within()
+    ensures { SizesStayWithin }
+{}
+
+/// A law: a refused call changes nothing but its caller's image and its number of calls.
+pub fn refusal_changes_nothing()
+    ensures { RefusalChangesNothing }
+{}
