@@ -10,12 +10,13 @@ use Rattle.toml.specs.Data.{Items, Members}
 use Rattle.process_machine.specs.declared.instruction.Instruction.{Instruction}
 use Rattle.process_machine.specs.declared.program.Program.{Program}
 use Rattle.process_machine.specs.declared.program.Text.{Text as ProgramText}
-use Rattle.sprite_top.specs.declared.description.Description.{Description}
-use Rattle.sprite_top.specs.declared.description.ProgramLine.{ProgramLine}
+use Rattle.unix_calls.specs.declared.description.Description.{Description}
+use Rattle.unix_calls.specs.declared.description.ProgramLine.{ProgramLine}
 use Rattle.sprite_top.specs.declared.small.line.Line.{Line}
 use Rattle.sprite_top.specs.declared.small.line.Line.TheVariants.{Text, Print, Exit}
 use Rattle.sprite_top.specs.declared.small.program.Reading.{Reading}
-use Rattle.sprite_top.specs.Words.{skip_spaces, word_of, past_word, number_of, lines_of}
+use Rattle.unix_calls.specs.Output.{lines_of}
+use Rattle.sprite_top.specs.Words.{skip_spaces, word_of, past_word, number_of}
 use Rattle.sprite_top.specs.Quoted.{literal}
 use Rattle.sprite_top.specs.SmallLine.{is_inside, placed, quoted_at, text_line, print_line, exit_line, sys_line, line_of}
 use Rattle.sprite_top.specs.SmallProgram.{print_call, exit_call, with_text, with_call, with_any, with_line, with_lines, unread, finished, small_program}

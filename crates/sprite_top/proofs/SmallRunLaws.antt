@@ -1,33 +1,41 @@
 -- A run of a small description: what holds between two calls holds after the next one, and after the exit it is over.
-use Rattle.std.proofs.Common.{◌≡◌, ℕ, zero, suc, ◌+◌, ◌<◌, ◌≤◌, ◌==◌, ◌%◌, List, [], ◌∷◌, ◌++◌, Bool, true, false, Option, Some, cond, map, length, refl, ap, sym, ◌∙◌, subst, arith, length-append, append_assoc}
-use Rattle.std.specs.List.{AllByRecursion}
+use Rattle.std.proofs.Common.{◌≡◌, ℕ, zero, suc, ◌+◌, ◌<◌, ◌≤◌, ◌==◌, ◌%◌, ◌&&◌, List, [], ◌∷◌, ◌++◌, Bool, true, false, IsTrue, Option, Some, None, cond, length, nat_eq, refl, ap, sym, ◌∙◌, subst, arith, length-append, append_assoc}
+use Rattle.std.proofs.lemmas.Bool.Decides.{nat_tests}
+use Rattle.std.specs.Option.{option_map, is_some}
+use Rattle.std.specs.Cmp.Lexicographic.{pointwise, bytes_decides}
 use Rattle.sprite_ids.proofs.ListLaws.{some_is}
 use Rattle.process_machine.specs.declared.call.Call.{Call}
+use Rattle.sprite_ids.specs.declared.running.Ending.TheVariants as ending
 use Rattle.process_machine.specs.declared.call.Call.TheVariants.{Print, Exit}
 use Rattle.process_machine.specs.declared.program.Program.{Program}
 use Rattle.process_machine.specs.Machine.{Machine}
 use Rattle.process_machine.specs.Memory.{bytes_at}
 use Rattle.process_machine.specs.Steps.{Moved, AtCall, step_of}
-use Rattle.process_machine.specs.Runs.{ahead}
+use Rattle.process_machine.specs.Runs.{ahead, at_next_call, call_of_next, call_there as call_there_of}
 use Rattle.process_machine.specs.Calls.{call_at}
 use Rattle.process_machine.specs.Replies.{given_in, given}
 use Rattle.process_machine.specs.declared.instruction.Instruction.{Instruction}
 use Rattle.process_machine.specs.Fresh.{fresh_machine}
-use Rattle.process_machine.proofs.MachineLaws.{ahead_first, at_call, next_found, next_is_call}
+use Rattle.process_machine.proofs.MachineLaws.{ahead_first, at_call, next_found}
 use Rattle.process_machine.proofs.StepLaws.{given_keeps, present_given, fresh_present, fresh_count}
 use Rattle.process_machine.proofs.MemoryLaws.{same_count}
-use Rattle.sprite_top.specs.declared.description.Description.{Description}
-use Rattle.sprite_top.specs.declared.entry.Entry.{Entry}
-use Rattle.sprite_top.specs.declared.event.Event.{Event}
-use Rattle.sprite_top.specs.declared.event.Rec.{Rec}
+use Rattle.unix_calls.specs.declared.description.Description.{Description}
+use Rattle.unix_calls.specs.declared.entry.Entry.{Entry}
+use Rattle.unix_calls.specs.declared.event.Event.TheVariants.{Enter}
+use Rattle.unix_calls.specs.declared.event.Rec.{Rec}
 use Rattle.sprite_top.specs.declared.run.Running.{Running}
 use Rattle.sprite_top.specs.SmallProgram.{exit_call}
-use Rattle.sprite_top.specs.Journal.{journal_of}
-use Rattle.sprite_top.specs.Unix.{Unix, boot_of, put_process, program_at}
-use Rattle.sprite_top.specs.After.{nothing, IsReply, after_call, counted, process_after, processes_with, after, Allowed, state_of, LegalFrom, Legal}
-use Rattle.sprite_top.specs.Once.{Progress, Between, pid_of, InTurns, events_of}
-use Rattle.sprite_top.specs.SmallRun.{IsSmall, IsSmallCode, code_of, entry_of, call_records, return_record, alone, reached, running_process, Stands, IsOver}
-use Rattle.sprite_top.proofs.HistoryLaws.{journal_of-append, state_from-append, LegalFrom-append, reached-append, InTurns-append, events_of-append, filter_same}
+use Rattle.call_journal.specs.Journal.{journal_of}
+use Rattle.unix_calls.specs.State.{Unix}
+use Rattle.unix_calls.specs.Same.{same_call}
+use Rattle.unix_calls.specs.Answers.{nothing, program_at, given_by}
+use Rattle.unix_calls.specs.Boot.{boot_of}
+use Rattle.unix_calls.specs.After.{counted, next_is, at_image, at_program, after_whole, after, state_from, state_of}
+use Rattle.call_journal.specs.Once.{Progress, Between, Issued, Entered, if_so, is_in_turn, call_events, progress_from, progress_of, once_of}
+use Rattle.call_journal.proofs.GrowthLaws.{journals_grow}
+use Rattle.sprite_top.specs.Ends.{all_ended}
+use Rattle.sprite_top.specs.SmallRun.{IsSmall, IsSmallCode, code_of, entry_of, call_records, return_record, alone, process_of, running_process, Stands, IsOver}
+use Rattle.sprite_top.proofs.HistoryLaws.{state_from-append, progress_from-append, call_events-append}
 use Rattle.sprite_top.proofs.SmallCallLaws.{print_there, exit_at, exit_there, prints, exits, standing}
 
 -- the program of a small description, and its code
@@ -72,65 +80,77 @@ burst_stays p m last (suc n) at e =
     let moves : step_of p m ≡ Moved first.next = first.step in
     cc
 
--- one more call is lawful for the one process
-abbrev lawful_call : Description → Program → Running → Call → Type 0
-lawful_call c p r call = (step_of p r.image ≡ AtCall) × (call_at p r.image ≡ call) × IsReply call nothing
+-- one more call of the one process
+pub record IsCall (p : Program) (r : Running) (call : Call) : Type 0 where
+  pub at : step_of p r.image ≡ AtCall
+  pub is : call_at p r.image ≡ call
+  pub same : same_call call call ≡ true
 
-allowed : (c : Description) (p : Program) (r : Running) (call : Call) → Runs c p → Stands c r → lawful_call c p r call → Allowed c (alone (running_process r)) (entry_of 1001 (r.calls + 1) call)
-allowed c p r call known stands lawful =
-    record {
-      process = running_process r;
-      program = p;
-      call = call;
-      reply = nothing;
-      found = refl;
-      runs = ap (program_at c.programs) stands.number ∙ known.at_one;
-      lives = refl;
-      whole = refl;
-      numbered = refl;
-      called = refl;
-      next = next_is_call p r.image r.image 0 (omega arith) refl lawful.0 ∙ ap Some lawful.1;
-      answered = refl;
-      lawful = lawful.2;
-    }
+same_number : (n : ℕ) → n == n ≡ true
+same_number n = grind (arith, nat_tests)
 
--- the state after it
-after_call_of : (c : Description) (p : Program) (r : Running) (call : Call) → Runs c p → Stands c r → lawful_call c p r call → after c (alone (running_process r)) (entry_of 1001 (r.calls + 1) call) ≡ record { processes = put_process (counted (after_call p (running_process r) r.image call nothing)) (running_process r ∷ []) }
-after_call_of c p r call known stands lawful =
-    let process = running_process r in
-    let entry = entry_of 1001 (r.calls + 1) call in
-    ap (λ (o : Option Program). let u : Unix = record { processes = processes_with (process ∷ []) entry process o } in u) (ap (program_at c.programs) stands.number ∙ known.at_one)
-    ∙ ap (λ (o : Option Machine). let u : Unix = record { processes = put_process (process_after p process o (Some call) (Some nothing)) (process ∷ []) } in u) (next_found p r.image r.image 0 (omega arith) refl (at_call p r.image lawful.0))
+same_bytes : (bytes : List ℕ) → pointwise nat_eq bytes bytes ≡ true
+same_bytes bytes = (bytes_decides bytes bytes).1 refl
 
--- the journal and the state of a trace with one more entry
-pub record Grown (c : Description) (trace : List Rec) (u : Unix) : Type 0 where
-  pub legal : Legal c (journal_of trace)
-  pub state : state_of c (journal_of trace) ≡ u
+-- the state after it is that of its outcome
+after_call : (c : Description) (p : Program) (r : Running) (call : Call) → Runs c p → Stands c r → IsCall p r call → after c (alone r.calls (running_process r)) (entry_of 1001 (r.calls + 1) call) ≡ option_map counted (after_whole c (alone r.calls (running_process r)) (running_process r) call nothing)
+after_call c p r call known stands standing =
+    let u = alone r.calls (running_process r) in
+    let q = running_process r in
+    let e = entry_of 1001 (r.calls + 1) call in
+    let found : at_next_call p r.image ≡ Some r.image = next_found p r.image r.image 0 (omega arith) refl (at_call p r.image standing.at) in
+    let called : call_of_next p (Some r.image) ≡ Some call = ap (λ s. Some (call_there_of p r.image s)) standing.at ∙ ap Some standing.is in
+    ap (λ b. option_map counted (cond b (at_program c u q e call (program_at c.programs q.image.number)) None)) (same_number (r.calls + 1))
+    ∙ ap (λ o. option_map counted (at_program c u q e call o)) (ap (program_at c.programs) stands.number ∙ known.at_one)
+    ∙ ap (λ o. option_map counted (at_image c u q e p call o)) found
+    ∙ ap (λ o. option_map counted (next_is c u q e call o r.image)) called
+    ∙ ap (λ b. option_map counted (cond b (after_whole c u q call nothing) None)) standing.same
 
-grown : (c : Description) (trace more : List Rec) (u : Unix) (e : Entry) → Grown c trace u → journal_of more ≡ e ∷ [] → Allowed c u e → Grown c (trace ++ more) (after c u e)
-grown c trace more u e before one allowed_now =
-    let journal : journal_of (trace ++ more) ≡ journal_of trace ++ e ∷ [] = journal_of-append trace more ∙ ap (λ es. journal_of trace ++ es) one in
-    record {
-      legal = rw journal (LegalFrom-append c (boot_of c) (journal_of trace) (e ∷ []) before.legal (subst (λ (v : Unix). LegalFrom c v (e ∷ [])) (sym before.state) (allowed_now, tt)));
-      state = rw journal (state_from-append c (boot_of c) (journal_of trace) (e ∷ []) ∙ ap (λ (v : Unix). after c v e) before.state);
-    }
+-- the process after a print, and after an exit
+after_print : (c : Description) (p : Program) (r : Running) (bytes : List ℕ) → Runs c p → Stands c r → IsCall p r (Print bytes) → after c (alone r.calls (running_process r)) (entry_of 1001 (r.calls + 1) (Print bytes)) ≡ Some (alone (r.calls + 1) (process_of (given p r.image nothing) (r.calls + 1) None (r.console ++ bytes)))
+after_print c p r bytes known stands standing =
+    after_call c p r (Print bytes) known stands standing
+    ∙ ap (λ (o : Option Program). Some (alone (r.calls + 1) (process_of (given_by o r.image nothing) (r.calls + 1) None (r.console ++ bytes)))) (ap (program_at c.programs) stands.number ∙ known.at_one)
 
--- the turns of a trace with more events of the one process
-kept_turns : (b : Bool) (s : Progress) (es : List Event) → (b ≡ true → InTurns s es) → InTurns s (cond b es [])
-kept_turns true s es h = h refl
-kept_turns false s es h = tt
+after_exit : (c : Description) (p : Program) (r : Running) (code : ℕ) → Runs c p → Stands c r → IsCall p r (Exit code) → after c (alone r.calls (running_process r)) (entry_of 1001 (r.calls + 1) (Exit code)) ≡ Some (alone (r.calls + 1) (process_of r.image (r.calls + 1) (Some (ending.Exit code)) r.console))
+after_exit c p r code known stands standing = after_call c p r (Exit code) known stands standing
 
-events_more : (pid : ℕ) (trace more : List Rec) → AllByRecursion (λ (e : Event). pid_of e == pid ≡ (1001 == pid)) (map (λ (rec : Rec). rec.event) more) → events_of pid (trace ++ more) ≡ events_of pid trace ++ cond (1001 == pid) (map (λ (rec : Rec). rec.event) more) []
-events_more pid trace more each =
-    events_of-append pid trace more ∙ ap (λ es. events_of pid trace ++ es) (filter_same (1001 == pid) (λ e. pid_of e == pid) (map (λ (rec : Rec). rec.event) more) each)
+-- the state of a trace with one more entry
+grown : (c : Description) (trace more : List Rec) (u : Unix) (e : Entry) → state_of c (journal_of trace) ≡ Some u → journal_of more ≡ e ∷ [] → state_of c (journal_of (trace ++ more)) ≡ after c u e
+grown c trace more u e before one =
+    ap (state_of c) (journals_grow trace more ∙ ap (λ es. journal_of trace ++ es) one)
+    ∙ state_from-append c (Some (boot_of c)) (journal_of trace) (e ∷ [])
+    ∙ ap (λ o. state_from c o (e ∷ [])) before
 
-turns_more : (pid : ℕ) (trace more : List Rec) → AllByRecursion (λ (e : Event). pid_of e == pid ≡ (1001 == pid)) (map (λ (rec : Rec). rec.event) more) → InTurns (Between 0) (events_of pid trace) → (1001 == pid ≡ true → InTurns (reached (Between 0) (events_of pid trace)) (map (λ (rec : Rec). rec.event) more)) → InTurns (Between 0) (events_of pid (trace ++ more))
-turns_more pid trace more each before now =
-    rw (events_more pid trace more each) (InTurns-append (Between 0) (events_of pid trace) _ before (kept_turns (1001 == pid) _ _ now))
+-- how far the process is, after a trace with more events of its calls
+progress_more : (trace more : List Rec) (s : Progress) → progress_of 1001 trace ≡ Some s → progress_of 1001 (trace ++ more) ≡ progress_from (Some s) (call_events 1001 more)
+progress_more trace more s before =
+    ap (progress_from (Some (Between 0))) (call_events-append 1001 trace more)
+    ∙ progress_from-append (Some (Between 0)) (call_events 1001 trace) (call_events 1001 more)
+    ∙ ap (λ t. progress_from t (call_events 1001 more)) before
 
-reached_more : (pid : ℕ) (trace more : List Rec) (s : Progress) → AllByRecursion (λ (e : Event). pid_of e == pid ≡ (1001 == pid)) (map (λ (rec : Rec). rec.event) more) → 1001 == pid ≡ true → reached (Between 0) (events_of pid trace) ≡ s → reached (Between 0) (events_of pid (trace ++ more)) ≡ reached s (map (λ (rec : Rec). rec.event) more)
-reached_more pid trace more s each here before =
-    rw (events_more pid trace more each, here) (reached-append (Between 0) (events_of pid trace) (map (λ (rec : Rec). rec.event) more) ∙ ap (λ (t : Progress). reached t (map (λ (rec : Rec). rec.event) more)) before)
+-- other processes have no events
+others_more : (pid : ℕ) (trace more : List Rec) → call_events pid trace ≡ [] → call_events pid more ≡ [] → call_events pid (trace ++ more) ≡ []
+others_more pid trace more before none = call_events-append pid trace more ∙ ap (λ es. es ++ call_events pid more) before ∙ none
+
+-- the events of a call are those of its process alone
+no_call : (pid number count : ℕ) (call : Call) → 1001 == pid ≡ false → call_events pid (call_records 1 1001 number count call) ≡ []
+no_call pid number count call other = rw other refl
+
+no_return : (pid number : ℕ) → 1001 == pid ≡ false → call_events pid (return_record 1 1001 number ∷ []) ≡ []
+no_return pid number other = rw other refl
+
+-- the process is then at the entry of its call
+entered : (number count : ℕ) (call : Call) → same_call call call ≡ true → progress_from (Some (Between number)) (call_events 1001 (call_records 1 1001 (number + 1) count call)) ≡ Some (Entered (number + 1) call nothing)
+entered number count call same =
+    let n = number + 1 in
+    ap (λ b. progress_from (if_so b (Some (Issued n call))) (Enter (entry_of 1001 n call) ∷ [])) (same_number n)
+    ∙ ap (λ b. if_so (b && same_call call call) (Some (Entered n call nothing))) (same_number n)
+    ∙ ap (λ b. if_so b (Some (Entered n call nothing))) same
+
+-- behind the return of a print it goes on
+returned : (number : ℕ) (bytes : List ℕ) → progress_from (Some (Entered number (Print bytes) nothing)) (call_events 1001 (return_record 1 1001 number ∷ [])) ≡ Some (Between number)
+returned number bytes = ap (λ b. if_so (b && true) (Some (Between number))) (same_number number)
 
 -- after a print the run stands between two calls again
 abbrev pub print_records : ℕ → ℕ → Call → List Rec
@@ -145,10 +165,16 @@ printed p r count bytes =
       calls = r.calls + 1;
     }
 
+print_progress : (number count : ℕ) (bytes : List ℕ) → progress_from (Some (Between number)) (call_events 1001 (print_records count (number + 1) (Print bytes))) ≡ Some (Between (number + 1))
+print_progress number count bytes =
+    ap (progress_from (Some (Between number))) (call_events-append 1001 (call_records 1 1001 (number + 1) count (Print bytes)) (return_record 1 1001 (number + 1) ∷ []))
+    ∙ progress_from-append (Some (Between number)) (call_events 1001 (call_records 1 1001 (number + 1) count (Print bytes))) (call_events 1001 (return_record 1 1001 (number + 1) ∷ []))
+    ∙ ap (λ t. progress_from t (call_events 1001 (return_record 1 1001 (number + 1) ∷ []))) (entered number count (Print bytes) (same_bytes bytes))
+    ∙ returned (number + 1) bytes
+
 pub stands_on : (c : Description) (p : Program) (r : Running) (count : ℕ) (bytes : List ℕ) → Runs c p → Stands c r → step_of p r.image ≡ AtCall → call_at p r.image ≡ Print bytes → r.image.counter + 1 < length p.code → (given p r.image nothing).counter ≡ r.image.counter + 1 → Stands c (printed p r count bytes)
 stands_on c p r count bytes known stands at call later next =
     let records = print_records count (r.calls + 1) (Print bytes) in
-    let now = grown c r.trace records (alone (running_process r)) (entry_of 1001 (r.calls + 1) (Print bytes)) (record { legal = stands.legal; state = stands.state }) refl (allowed c p r (Print bytes) known stands (at, call, refl)) in
     let keeps = given_keeps p r.image nothing in
     record {
       present = present_given p r.image nothing stands.present;
@@ -156,10 +182,9 @@ stands_on c p r count bytes known stands at call later next =
       number = keeps.number ∙ stands.number;
       within = rw next (subst (λ code. r.image.counter + 1 < length code) known.code later);
       counted = ap (λ n. n + 1) stands.counted ∙ sym next;
-      legal = now.legal;
-      turns = λ pid. turns_more pid r.trace records (refl, (refl, (refl, (refl, tt)))) (stands.turns pid) (λ here. rw (stands.progress pid here) (tt, (refl, ((refl, refl, refl), ((refl, refl), tt)))));
-      progress = λ pid here. reached_more pid r.trace records (Between r.calls) (refl, (refl, (refl, (refl, tt)))) here (stands.progress pid here);
-      state = now.state ∙ after_call_of c p r (Print bytes) known stands (at, call, refl);
+      progress = progress_more r.trace records (Between r.calls) stands.progress ∙ print_progress r.calls count bytes;
+      others = λ pid other. others_more pid r.trace records (stands.others pid other) (others_more pid (call_records 1 1001 (r.calls + 1) count (Print bytes)) (return_record 1 1001 (r.calls + 1) ∷ []) (no_call pid (r.calls + 1) count (Print bytes) other) (no_return pid (r.calls + 1) other));
+      state = grown c r.trace records (alone r.calls (running_process r)) (entry_of 1001 (r.calls + 1) (Print bytes)) stands.state refl ∙ after_print c p r bytes known stands (record { at = at; is = call; same = same_bytes bytes });
     }
 
 -- after an exit it is over
@@ -172,14 +197,26 @@ exited r count code =
       calls = r.calls + 1;
     }
 
+-- each process's calls came in turn, where the one process's did and no other one has any
+in_turn : (t : Bool) (pid : ℕ) (trace : List Rec) (s : Progress) → 1001 == pid ≡ t → (1001 == pid ≡ true → 1001 ≡ pid) → progress_of 1001 trace ≡ Some s → (1001 == pid ≡ false → call_events pid trace ≡ []) → IsTrue (once_of pid trace)
+in_turn true pid trace s here same progress others =
+    subst (λ (n : ℕ). IsTrue (once_of n trace)) (same here) (ap is_in_turn progress)
+in_turn false pid trace s here same progress others = ap (λ es. is_in_turn (progress_from (Some (Between 0)) es)) (others here)
+
+one_number : (pid : ℕ) → 1001 == pid ≡ true → 1001 ≡ pid
+one_number pid here = grind (arith, nat_tests)
+
 pub is_over : (c : Description) (p : Program) (r : Running) (count code : ℕ) → Runs c p → Stands c r → step_of p r.image ≡ AtCall → call_at p r.image ≡ Exit code → IsOver c code (exited r count code)
 is_over c p r count code known stands at call =
-    let now = grown c r.trace (call_records 1 1001 (r.calls + 1) count (Exit code)) (alone (running_process r)) (entry_of 1001 (r.calls + 1) (Exit code)) (record { legal = stands.legal; state = stands.state }) refl (allowed c p r (Exit code) known stands (at, call, refl)) in
+    let records = call_records 1 1001 (r.calls + 1) count (Exit code) in
+    let progress = progress_more r.trace records (Between r.calls) stands.progress ∙ entered r.calls count (Exit code) (same_number code) in
+    let ended = grown c r.trace records (alone r.calls (running_process r)) (entry_of 1001 (r.calls + 1) (Exit code)) stands.state refl ∙ after_exit c p r code known stands (record { at = at; is = call; same = same_number code }) in
     record {
       number = stands.number;
-      legal = now.legal;
-      once = λ pid. turns_more pid r.trace (call_records 1 1001 (r.calls + 1) count (Exit code)) (refl, (refl, (refl, tt))) (stands.turns pid) (λ here. rw (stands.progress pid here) (tt, (refl, ((refl, refl, refl), tt))));
-      ended = now.state ∙ after_call_of c p r (Exit code) known stands (at, call, refl);
+      legal = ap is_some ended;
+      once = λ pid. in_turn (1001 == pid) pid (r.trace ++ records) (Entered (r.calls + 1) (Exit code) nothing) refl (one_number pid) progress (λ other. others_more pid r.trace records (stands.others pid other) (no_call pid (r.calls + 1) count (Exit code) other));
+      all_ended = ap all_ended ended;
+      ended = ended;
     }
 
 -- the image after a burst stands at the same call
@@ -261,10 +298,10 @@ few_calls c r small stands =
 some_code : (code : List Instruction) → IsSmallCode code → 0 < length code
 some_code code small = subst (λ (xs : List Instruction). 0 < length xs) (sym small.is) (omega (arith, length-append small.prints (exit_call small.last ∷ [])))
 
-boot_is : (c : Description) (p : Program) → IsSmall c → program_at c.programs 1 ≡ Some p → boot_of c ≡ alone (running_process (run_of (fresh_machine p 0) [] [] 0))
+boot_is : (c : Description) (p : Program) → IsSmall c → program_at c.programs 1 ≡ Some p → boot_of c ≡ alone 0 (running_process (run_of (fresh_machine p 0) [] [] 0))
 boot_is c p small found =
     let same : small.line.program ≡ p = some_is small.line.program p (sym (ap (λ (d : Description). program_at d.programs 1) small.is) ∙ found) in
-    ap boot_of small.is ∙ ap (λ (q : Program). alone (running_process (run_of (fresh_machine q 0) [] [] 0))) same
+    ap boot_of small.is ∙ ap (λ (q : Program). alone 0 (running_process (run_of (fresh_machine q 0) [] [] 0))) same
 
 pub stands_first : (c : Description) (p : Program) → IsSmall c → program_at c.programs 1 ≡ Some p → (image : Machine) → image ≡ fresh_machine p 0 → (trace : List Rec) → trace ≡ [] → (console : List ℕ) → console ≡ [] → Stands c (run_of image trace console 0)
 stands_first c p small found image fresh trace empty console blank =
@@ -277,8 +314,7 @@ stands_first c p small found image fresh trace empty console blank =
       number = subst (λ (q : Program). q.number ≡ 1) program small.number;
       within = subst (λ (code : List Instruction). 0 < length code) known.code (some_code p.code known.small);
       counted = refl;
-      legal = tt;
-      turns = λ pid. tt;
-      progress = λ pid here. refl;
-      state = boot_is c p small found;
+      progress = refl;
+      others = λ pid other. refl;
+      state = ap Some (boot_is c p small found);
     })

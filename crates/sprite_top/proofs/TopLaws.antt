@@ -7,7 +7,7 @@ use Rattle.sprite_ids.specs.declared.no_memory.NoMemory.{NoMemory}
 use Rattle.sprite_top.specs.declared.top.Answer.{Answer}
 use Rattle.sprite_top.specs.declared.top.Status.{Status}
 use Rattle.sprite_top.specs.declared.top.Status.TheVariants as status
-use Rattle.sprite_top.specs.declared.closed.Closed.{Closed}
+use Rattle.call_journal.specs.declared.closed.Closed.{Closed}
 use Rattle.sprite_top.specs.Top.{spelled, run_words, Causes, FileCauses}
 
 -- one word is `run` exactly where its bytes are

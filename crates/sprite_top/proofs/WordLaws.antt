@@ -3,7 +3,7 @@ use Rattle.std.proofs.Common.{◌≡◌, ℕ, suc, ◌+◌, ◌-◌, ◌<◌, �
 use Rattle.std.specs.Bool.{if◌then◌else◌}
 use Rattle.std.specs.List.{position_or_len, onto_first}
 use Rattle.std.proofs.lemmas.List.{take_rest, drop_all}
-use Rattle.sprite_top.specs.Words.{lines_of}
+use Rattle.unix_calls.specs.Output.{lines_of}
 
 -- the text as its only line, where it isn't empty
 abbrev pub one_line : List ℕ → List (List ℕ)

@@ -1,7 +1,4 @@
-pub mod After
-pub mod Journal
-pub mod Once
-pub mod Output
+pub mod Ends
 pub mod Quoted
 pub mod SmallCluster
 pub mod SmallLine
@@ -9,5 +6,4 @@ pub mod SmallProgram
 pub mod SmallRun
 pub mod Tables
 pub mod Top
-pub mod Unix
 pub mod Words

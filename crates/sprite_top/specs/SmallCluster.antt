@@ -7,8 +7,8 @@ use Rattle.toml.specs.Data.{Items, Members, as_str, as_table}
 use Rattle.std.specs.Ordering.{int_eq}
 use Rattle.toml.specs.Parse.{parse_document}
 use Rattle.process_machine.specs.declared.program.Program.{Program}
-use Rattle.sprite_top.specs.declared.description.Description.{Description}
-use Rattle.sprite_top.specs.declared.description.ProgramLine.{ProgramLine}
+use Rattle.unix_calls.specs.declared.description.Description.{Description}
+use Rattle.unix_calls.specs.declared.description.ProgramLine.{ProgramLine}
 use Rattle.sprite_top.specs.SmallProgram.{small_program}
 use Rattle.sprite_top.specs.Tables.{member_count, item_count, text_at, number_at, array_at, item_at}
 
@@ -106,10 +106,15 @@ kernel_names array =
 abbrev pub described : List ℕ → List ℕ → ProgramLine → Description
 described client server line =
     record {
+      version = 1;
       budget = 1000000;
-      kernels = record { name = client } ∷ record { name = server } ∷ [];
+      cache = 64;
+      kernels = record { name = client; serves = [] } ∷ record { name = server; serves = [] ∷ [] } ∷ [];
       programs = line ∷ [];
       starts = record { host = 1; program = 1; arg = 0 } ∷ [];
+      files = [];
+      plan = record { entries = [] };
+      evicts = [];
     }
 
 -- the description of these kernels and this program, where the one process is theirs

@@ -10,7 +10,7 @@ use Rattle.process_machine.specs.declared.program.Text.{Text as ProgramText}
 use Rattle.sprite_top.specs.declared.small.line.Line.{Line}
 use Rattle.sprite_top.specs.declared.small.line.Line.TheVariants.{Text, Print, Exit}
 use Rattle.sprite_top.specs.declared.small.program.Reading.{Reading}
-use Rattle.sprite_top.specs.Words.{lines_of}
+use Rattle.unix_calls.specs.Output.{lines_of}
 use Rattle.sprite_top.specs.SmallLine.{line_of}
 
 -- a call of print on bytes of the page

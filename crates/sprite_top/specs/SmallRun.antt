@@ -1,25 +1,28 @@
 -- Runs of small descriptions.
-use Rattle.std.specs.Prelude.{◌≡◌, ℕ, ◌+◌, List, [], ◌∷◌, ◌++◌, ◌≤◌, ◌<◌, ◌==◌, ◌⊎◌, true, Some, None, length}
+use Rattle.std.specs.Prelude.{◌≡◌, ℕ, ◌+◌, List, [], ◌∷◌, ◌++◌, ◌≤◌, ◌<◌, ◌==◌, ◌⊎◌, false, IsTrue, Option, Some, None, length}
 use Rattle.std.specs.List.{AllByRecursion}
+use Rattle.sprite_ids.specs.declared.running.Ending.{Ending}
 use Rattle.sprite_ids.specs.declared.running.Ending.TheVariants as ending
 use Rattle.process_machine.specs.declared.call.Call.{Call}
 use Rattle.process_machine.specs.declared.instruction.Instruction.{Instruction}
 use Rattle.process_machine.specs.Facts.{AllPresent}
-use Rattle.sprite_top.specs.declared.description.Description.{Description}
-use Rattle.sprite_top.specs.declared.description.ProgramLine.{ProgramLine}
-use Rattle.sprite_top.specs.declared.entry.Entry.{Entry}
-use Rattle.sprite_top.specs.declared.entry.Part.TheVariants.{Whole}
-use Rattle.sprite_top.specs.declared.event.Event.TheVariants.{Burst, Issue, Enter, Return}
-use Rattle.sprite_top.specs.declared.event.Rec.{Rec}
+use Rattle.process_machine.specs.Machine.{Machine}
+use Rattle.unix_calls.specs.declared.description.Description.{Description}
+use Rattle.unix_calls.specs.declared.description.ProgramLine.{ProgramLine}
+use Rattle.unix_calls.specs.declared.entry.Entry.{Entry}
+use Rattle.unix_calls.specs.declared.entry.Part.TheVariants.{Whole}
+use Rattle.unix_calls.specs.declared.event.Event.TheVariants.{Burst, Issue, Enter, Return}
+use Rattle.unix_calls.specs.declared.event.Rec.{Rec}
 use Rattle.sprite_top.specs.declared.run.Outcome.{Outcome}
 use Rattle.sprite_top.specs.declared.run.Running.{Running}
-use Rattle.sprite_top.specs.declared.event.Event.{Event}
 use Rattle.sprite_top.specs.SmallProgram.{print_call, exit_call}
 use Rattle.sprite_top.specs.SmallCluster.{described}
-use Rattle.sprite_top.specs.Journal.{journal_of}
-use Rattle.sprite_top.specs.Unix.{Process, Unix}
-use Rattle.sprite_top.specs.After.{nothing, state_of, Legal}
-use Rattle.sprite_top.specs.Once.{Progress, Between, progress_after, InTurns, events_of, Once}
+use Rattle.call_journal.specs.Journal.{journal_of}
+use Rattle.unix_calls.specs.State.{Process, Unix, no_descriptors}
+use Rattle.unix_calls.specs.Answers.{nothing}
+use Rattle.unix_calls.specs.After.{state_of, legal}
+use Rattle.call_journal.specs.Once.{Between, call_events, progress_of, Once}
+use Rattle.sprite_top.specs.Ends.{all_ended}
 
 -- a call of print on no bytes, or on bytes of the page
 pub record IsPrintCall (i : Instruction) : Type 0 where
@@ -62,23 +65,45 @@ call_records kernel pid number count call =
 abbrev pub return_record : ℕ → ℕ → ℕ → Rec
 return_record kernel pid number = record { kernel = kernel; event = Return pid number nothing }
 
--- a state of one process
-abbrev pub alone : Process → Unix
-alone p = record { processes = p ∷ [] }
+-- a state of one process and no file, after so many entries
+abbrev pub alone : ℕ → Process → Unix
+alone entries p =
+    record {
+      nodes = [];
+      files = [];
+      streams = [];
+      processes = p ∷ [];
+      devices = [];
+      ticks = 0 ∷ 0 ∷ [];
+      roots = [] ∷ [];
+      limit = 262144;
+      entries = entries;
+    }
 
--- how far the events bring a process
-abbrev pub reached : Progress → List Event → Progress
-reached progress [] = progress
-reached progress (event ∷ events) = reached (progress_after progress event) events
+-- the first process of the first kernel, which has opened nothing
+abbrev pub process_of : Machine → ℕ → Option Ending → List ℕ → Process
+process_of image calls end console =
+    record {
+      pid = 1001;
+      image = image;
+      descriptors = no_descriptors;
+      cwd = [];
+      parent = None;
+      calls = calls;
+      asking = None;
+      killed = false;
+      ending = end;
+      waited = false;
+      console = console;
+    }
 
 -- the process that the run keeps
 abbrev pub running_process : Running → Process
-running_process r = record { pid = 1001; image = r.image; calls = r.calls; ending = None; console = r.console }
+running_process r = process_of r.image r.calls None r.console
 
 -- that process, ended with a code
 abbrev pub ended_process : Running → ℕ → Process
-ended_process r code =
-    record { pid = 1001; image = r.image; calls = r.calls; ending = Some (ending.Exit code); console = r.console }
+ended_process r code = process_of r.image r.calls (Some (ending.Exit code)) r.console
 
 abbrev pub code_in : List ProgramLine → List Instruction
 code_in [] = []
@@ -95,17 +120,17 @@ pub record Stands (c : Description) (r : Running) : Type 0 where
   pub number : r.image.number ≡ 1
   pub within : r.image.counter < length (code_of c)
   pub counted : r.calls ≡ r.image.counter
-  pub legal : Legal c (journal_of r.trace)
-  pub turns : (pid : ℕ) → InTurns (Between 0) (events_of pid r.trace)
-  pub progress : (pid : ℕ) → 1001 == pid ≡ true → reached (Between 0) (events_of pid r.trace) ≡ Between r.calls
-  pub state : state_of c (journal_of r.trace) ≡ alone (running_process r)
+  pub progress : progress_of 1001 r.trace ≡ Some (Between r.calls)
+  pub others : (pid : ℕ) → 1001 == pid ≡ false → call_events pid r.trace ≡ []
+  pub state : state_of c (journal_of r.trace) ≡ Some (alone r.calls (running_process r))
 
 -- the run has come to its end: the process has called `exit` with that code
 pub record IsOver (c : Description) (code : ℕ) (r : Running) : Type 0 where
   pub number : r.image.number ≡ 1
-  pub legal : Legal c (journal_of r.trace)
+  pub legal : IsTrue (legal c (journal_of r.trace))
   pub once : Once r.trace
-  pub ended : state_of c (journal_of r.trace) ≡ alone (ended_process r code)
+  pub all_ended : IsTrue (all_ended (state_of c (journal_of r.trace)))
+  pub ended : state_of c (journal_of r.trace) ≡ Some (alone r.calls (ended_process r code))
 
 -- the whole run of a small description
 abbrev pub IsRun : Description → Outcome → Type 0

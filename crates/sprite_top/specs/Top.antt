@@ -1,17 +1,18 @@
 -- What the top call promises for each status.
-use Rattle.std.specs.Prelude.{codes, ◌≡◌, ℕ, ◌<◌, ◌≤◌, ◌⊎◌, List, [], ◌∷◌, Option, Some, None, length, map, take, String, string_bytes}
+use Rattle.std.specs.Prelude.{codes, IsTrue, ◌≡◌, ℕ, ◌<◌, ◌≤◌, ◌⊎◌, List, [], ◌∷◌, Option, Some, None, length, map, take, String, string_bytes}
 use Rattle.std.specs.Io.KnownBytes.{Consumes, Appends, IsAtEnd}
 use Rattle.std.specs.declared.alloc.Global.{Global}
 use Rattle.sprite_ids.specs.declared.running.Finish.TheVariants.{AllEnded as EveryOneEnded}
 use Rattle.sprite_bytes.specs.Counts.{Rose}
-use Rattle.sprite_top.specs.declared.closed.Closed.{Closed}
+use Rattle.call_journal.specs.declared.closed.Closed.{Closed}
 use Rattle.sprite_top.specs.declared.top.Status.{Status}
 use Rattle.sprite_top.specs.declared.top.Status.TheVariants as status
 use Rattle.sprite_top.specs.SmallCluster.{Describes, DescribesNone}
-use Rattle.sprite_top.specs.Journal.{journal_of}
-use Rattle.sprite_top.specs.After.{state_of, Legal, AllEnded}
-use Rattle.sprite_top.specs.Once.{Once}
-use Rattle.sprite_top.specs.Output.{output_of}
+use Rattle.call_journal.specs.Journal.{journal_of}
+use Rattle.unix_calls.specs.After.{state_of, legal}
+use Rattle.call_journal.specs.Once.{Once}
+use Rattle.sprite_top.specs.Ends.{all_ended}
+use Rattle.unix_calls.specs.Output.{output_of}
 
 -- the words as texts
 abbrev pub spelled : List (String Global) → List (List ℕ)
@@ -37,10 +38,10 @@ pub record IsRunOf (bytes : List ℕ) (closed : Option Closed) (due : List ℕ) 
   pub run : Closed
   pub kept : closed ≡ Some run
   pub described : Describes bytes run.description
-  pub legal : Legal run.description (journal_of run.trace)
+  pub legal : IsTrue (legal run.description (journal_of run.trace))
   pub once : Once run.trace
   pub finished : run.finish ≡ EveryOneEnded
-  pub all_ended : AllEnded (state_of run.description (journal_of run.trace)).processes
+  pub all_ended : IsTrue (all_ended (state_of run.description (journal_of run.trace)))
   pub output : due ≡ output_of run.description (journal_of run.trace) run.finish
 
 -- nothing was run, and that line is due

@@ -1,12 +1,7 @@
--- Lines, words and numbers of a text.
+-- Words and numbers of a text.
 use Rattle.std.specs.Prelude.{ℕ, List, [], ◌∷◌, ◌==◌, ◌&&◌, ◌+◌, ◌*◌, ◌-◌, ◌^◌, not, Option, Some, None, if◌then◌else◌, nat_lt, drop}
-use Rattle.std.specs.List.{onto_first, position_or_len, before_first}
+use Rattle.std.specs.List.{position_or_len, before_first}
 use Rattle.std.specs.Char.{is_ascii_digit}
-
--- the lines of a text: each ends with byte 10, and a last one without it counts
-abbrev pub lines_of : List ℕ → List (List ℕ)
-lines_of [] = []
-lines_of (b ∷ bs) = if b == 10 then [] ∷ lines_of bs else onto_first b (lines_of bs)
 
 -- the bytes from the first one on that is no space
 abbrev pub skip_spaces : List ℕ → List ℕ

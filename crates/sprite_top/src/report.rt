@@ -1,8 +1,7 @@
 ghost use Rattle.std.specs.Prelude.{codes, ◌≡◌, ◌<◌, ◌++◌, OnOk};
 ghost use Rattle.std.specs.List.{flat_map};
 ghost use Rattle.std.specs.Fmt.{decimal};
-ghost use Rattle.sprite_top.specs.Words.{lines_of};
-ghost use Rattle.sprite_top.specs.Output.{hexadecimal, escape, console_line, process_line};
+ghost use Rattle.unix_calls.specs.Output.{lines_of, hexadecimal, escape, console_line, process_line};
 
 use crate::small::words::first_line;
 use sprite_ids::NoMemory;

@@ -1,15 +1,12 @@
 ghost use Rattle.std.specs.Prelude.{◌≡◌, ◌+◌, ◌∷◌, ◌++◌, [], IfOk, OnOk, MatchOption};
-ghost use Rattle.sprite_top.specs.After.{nothing};
-ghost use Rattle.sprite_top.specs.Unix.{program_at};
+ghost use Rattle.unix_calls.specs.Answers.{nothing, program_at};
 ghost use Rattle.sprite_top.specs.SmallRun.{IsSmall, Stands, IsOver, IsRun, call_records, return_record};
 
-use crate::description::Description;
-use crate::entry::{Entry, Part};
-use crate::event::{Event, Rec};
-use crate::trace::Trace;
+use call_journal::Trace;
 use process_machine::{Call, Image, Program, Reply, burst, call_of, give};
 use sprite_ids::{Bytes, Copying, Kernel, NoMemory, Pid};
 use std::alloc::Global;
+use unix_calls::{Description, Entry, Event, Part, Rec};
 
 /// How many instructions a burst does at most.
 const BURST_LIMIT: u32 = 10_000;

@@ -2,19 +2,19 @@ ghost use Rattle.std.specs.Prelude.{◌≡◌, ◌++◌, ◌↔◌, None, IsTrue
 ghost use Rattle.std.specs.Io.KnownBytes.{Consumes, Appends, IsAtEnd};
 ghost use Rattle.sprite_ids.specs.declared.running.Finish.TheVariants.{AllEnded};
 ghost use Rattle.sprite_bytes.specs.Counts.{Rose};
-ghost use Rattle.sprite_top.specs.Journal.{journal_of};
-ghost use Rattle.sprite_top.specs.Output.{output_of};
+ghost use Rattle.unix_calls.specs.Output.{output_of};
+ghost use Rattle.call_journal.specs.Journal.{journal_of};
 ghost use Rattle.sprite_top.specs.SmallRun.{IsSmall, IsRun};
 ghost use Rattle.sprite_top.specs.Top.{spelled, run_words, IsEnded, IsRefused, IsUsage, IsReadFault, Causes, FileCauses, Wrote, Broke, status_number};
 
-use crate::closed::Closed;
-use crate::description::Description;
 use crate::report::{push_console, push_process};
 use crate::run::{Outcome, run};
 use crate::small::cluster::read_description;
+use call_journal::Closed;
 use sprite_bytes::{ReadEnd, Sink, Source, read_all, write_all};
 use sprite_ids::{Bytes, Finish, NoMemory};
 use std::alloc::Global;
+use unix_calls::Description;
 
 /// How many bytes a cluster file may have.
 const FILE_BYTES: usize = 1_048_576;

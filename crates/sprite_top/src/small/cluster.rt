@@ -6,13 +6,18 @@ ghost use Rattle.sprite_top.specs.SmallCluster.{program_of, is_start, kernels_of
 use super::names::{client_of, name_in, server_of};
 use super::program::read_program;
 use super::tables::{array_at, element_count, key_count, number_at, table_in, text_at};
-use crate::description::{Description, KernelLine, ProgramLine, StartLine};
+use link_plan::Plan;
 use sprite_ids::{Bytes, Items, Kernel, NoMemory};
+use sprite_paths::Path;
 use std::alloc::Global;
 use toml::{Table, Value};
+use unix_calls::{Description, KernelLine, ProgramLine, StartLine};
 
 /// The budget of a description that names none, in units.
 const BUDGET: u32 = 1_000_000;
+
+/// How many blocks a client of a description caches that doesn't say it.
+const CACHE: u16 = 64;
 
 /// The small description that the bytes of a cluster file spell; None exactly where they spell none. The one error is
 /// want of memory.
@@ -162,12 +167,16 @@ fn describe(
         Some(host) => host,
         None => unreachable!(),
     };
+    let mut roots = Items::new(alloc);
+    roots.push(Path::root(alloc))?;
     let mut kernels = Items::new(alloc);
     kernels.push(KernelLine {
         name: Bytes::of_slice(alloc, client)?,
+        serves: Items::new(alloc),
     })?;
     kernels.push(KernelLine {
         name: Bytes::of_slice(alloc, server)?,
+        serves: roots,
     })?;
     let mut programs = Items::new(alloc);
     programs.push(line)?;
@@ -178,9 +187,16 @@ fn describe(
         arg: 0,
     })?;
     Ok(Description {
+        version: 1,
         budget: BUDGET,
+        cache: CACHE,
         kernels,
         programs,
         starts,
+        files: Items::new(alloc),
+        plan: Plan {
+            entries: Items::new(alloc),
+        },
+        evicts: Items::new(alloc),
     })
 }

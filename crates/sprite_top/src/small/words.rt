@@ -1,6 +1,7 @@
 ghost use Rattle.std.specs.Prelude.{◌≡◌, ◌<◌, ◌≤◌, ◌∷◌, ◌==◌, not, length};
 ghost use Rattle.std.specs.List.{position_or_len};
-ghost use Rattle.sprite_top.specs.Words.{lines_of, skip_spaces, word_of, past_word, number_of};
+ghost use Rattle.unix_calls.specs.Output.{lines_of};
+ghost use Rattle.sprite_top.specs.Words.{skip_spaces, word_of, past_word, number_of};
 
 /// The first line of the text, without its byte 10, and what stands behind it.
 pub fn first_line(text: &[u8]) -> (&[u8], &[u8])

@@ -1,7 +1,7 @@
 use Rattle.std.proofs.Common.{◌≡◌, ◌++◌, length}
 use Rattle.std.specs.List.{flat_map}
-use Rattle.sprite_top.specs.Words.{lines_of}
-use Rattle.sprite_top.specs.Output.{console_line}
+use Rattle.unix_calls.specs.Output.{lines_of}
+use Rattle.unix_calls.specs.Output.{console_line}
 use Rattle.sprite_top.proofs.report.push_console.Given as goal
 
 -- what was put so far, and then the lines of the rest, is all that is to be put

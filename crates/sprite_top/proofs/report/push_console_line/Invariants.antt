@@ -1,6 +1,6 @@
 use Rattle.std.proofs.Common.{codes, ◌≡◌, ◌++◌, take}
 use Rattle.std.specs.List.{flat_map}
-use Rattle.sprite_top.specs.Output.{escape}
+use Rattle.unix_calls.specs.Output.{escape}
 use Rattle.sprite_top.proofs.report.push_console_line.Given as goal
 
 -- the bytes of the line so far are put as they print

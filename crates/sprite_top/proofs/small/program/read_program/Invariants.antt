@@ -1,5 +1,5 @@
 use Rattle.std.proofs.Common.{◌≡◌, length, Some}
-use Rattle.sprite_top.specs.Words.{lines_of}
+use Rattle.unix_calls.specs.Output.{lines_of}
 use Rattle.sprite_top.specs.SmallProgram.{with_lines, unread}
 use Rattle.sprite_top.proofs.small.program.read_program.Given as goal
 
