@@ -1,12 +1,10 @@
 -- How the one-kernel Unix begins.
 use Rattle.std.specs.Prelude.{ℕ, ◌+◌, false, if◌then◌else◌, List, [], ◌∷◌, ◌++◌, length, replicate, nat_lt, Option, Some, None}
-use Rattle.std.specs.List.{flat_map}
 use Rattle.std.specs.Option.{is_some}
 use Rattle.process_machine.specs.declared.program.Program.{Program}
 use Rattle.process_machine.specs.Machine.{Machine}
 use Rattle.process_machine.specs.Fresh.{fresh_machine}
 use Rattle.unix_calls.specs.declared.description.Description.{Description}
-use Rattle.unix_calls.specs.declared.description.KernelLine.{KernelLine}
 use Rattle.unix_calls.specs.declared.description.ProgramLine.{ProgramLine}
 use Rattle.unix_calls.specs.declared.description.StartLine.{StartLine}
 use Rattle.unix_calls.specs.declared.description.FileLine.{FileLine}

@@ -1,5 +1,5 @@
 -- Small histories of pseudo-devices.
-use Rattle.std.specs.Prelude.{List, [], ◌∷◌, ◌++◌, codes}
+use Rattle.std.specs.Prelude.{List, [], ◌∷◌, codes}
 use Rattle.sprite_ids.specs.declared.errno.Errno.TheVariants as errno
 use Rattle.process_machine.specs.declared.instruction.Operand.TheVariants.{Number}
 use Rattle.process_machine.specs.declared.instruction.SyscallName.TheVariants as name
@@ -7,10 +7,9 @@ use Rattle.process_machine.specs.declared.call.Call.TheVariants as call
 use Rattle.process_machine.specs.declared.call.Reply.TheVariants.{Value, Error}
 use Rattle.process_machine.specs.declared.program.Program.{Program}
 use Rattle.unix_calls.specs.declared.description.Description.{Description}
-use Rattle.unix_calls.specs.declared.description.ProgramLine.{ProgramLine}
 use Rattle.unix_calls.specs.declared.entry.Entry.{Entry}
 use Rattle.unix_calls.specs.Answers.{value, nothing}
-use Rattle.unix_calls.specs.Examples.{sys, text_at, program_of, second_program_of, cluster_of, cluster_with, whole, calls, gives, death, ask, done}
+use Rattle.unix_calls.specs.Examples.{sys, text_at, program_of, second_program_of, cluster_of, whole, ask, done}
 
 -- a master answers a command of another process
 abbrev pub master_program : Program

@@ -1,14 +1,12 @@
 -- What a description keeps that was read from a cluster file, in whichever of the two versions.
-use Rattle.std.specs.Prelude.{ℕ, zero, suc, slice_get, ◌+◌, ◌*◌, ◌^◌, ◌==◌, Bool, true, false, ◌&&◌, ◌||◌, not, if◌then◌else◌, IsTrue, List, [], ◌∷◌, ◌++◌, length, map, sum, nat_le, nat_lt, Option, Some, None}
+use Rattle.std.specs.Prelude.{ℕ, zero, suc, slice_get, ◌+◌, ◌*◌, ◌^◌, ◌==◌, Bool, true, false, ◌&&◌, ◌||◌, not, if◌then◌else◌, IsTrue, List, [], ◌∷◌, length, map, sum, nat_le, nat_lt, Option, Some, None}
 use Rattle.std.specs.List.{list_all, list_any}
 use Rattle.sprite_paths.specs.Path.{clean_path, text_of, is_prefix}
 use Rattle.link_plan.specs.declared.plan.Fate.{Fate}
 use Rattle.link_plan.specs.declared.plan.Fate.TheVariants as fate
 use Rattle.link_plan.specs.declared.plan.PlanEntry.{PlanEntry}
 use Rattle.process_machine.specs.declared.instruction.Instruction.{Instruction}
-use Rattle.process_machine.specs.declared.instruction.Instruction.TheVariants.{Set, Addi, Jmp, Jeq, Jne, Jlt, Sys}
-use Rattle.process_machine.specs.declared.instruction.Operand.{Operand}
-use Rattle.process_machine.specs.declared.instruction.Operand.TheVariants.{Number}
+use Rattle.process_machine.specs.declared.instruction.Instruction.TheVariants.{Jmp, Jeq, Jne, Jlt, Sys}
 use Rattle.process_machine.specs.declared.instruction.SyscallName.{SyscallName}
 use Rattle.process_machine.specs.declared.instruction.SyscallName.TheVariants as name
 use Rattle.process_machine.specs.declared.program.Program.{Program}

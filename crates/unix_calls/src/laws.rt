@@ -1,5 +1,5 @@
 ghost use Rattle.unix_calls.specs.Domains.{DomainIsLongest, ServerServes};
-ghost use Rattle.unix_calls.specs.Laws.{PrefixIsLegal, DeathIsOfKilled, SizesStayWithin, RefusalChangesNothing};
+ghost use Rattle.unix_calls.specs.Laws.{PrefixIsLegal, DeathIsOfKilled, SizesStayWithin, RefusalChangesNothing, OthersStay, EndedIsSilent};
 
 /// A law: the longest domain of a path is a domain, the path begins with it, and no longer domain is one that the path begins
 /// with.
@@ -30,4 +30,14 @@ pub fn sizes_stay_within()
 /// A law: a refused call changes nothing but its caller's image and its number of calls.
 pub fn refusal_changes_nothing()
     ensures { RefusalChangesNothing }
+{}
+
+/// A law: an entry changes no other process's image and ends no other process; a fork's child is a new one.
+pub fn others_stay()
+    ensures { OthersStay }
+{}
+
+/// A law: behind the exit, the bad step or the death of a process stands no entry of it.
+pub fn ended_is_silent()
+    ensures { EndedIsSilent }
 {}
