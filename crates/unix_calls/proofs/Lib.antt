@@ -8,3 +8,4 @@ pub mod HistoryLaws
 pub mod ProcessLaws
 pub mod NumberLaws
 pub mod EndLaws
+pub mod LawfulLaws

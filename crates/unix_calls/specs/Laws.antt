@@ -12,6 +12,7 @@ use Rattle.unix_calls.specs.declared.entry.Part.TheVariants as part
 use Rattle.unix_calls.specs.State.{File, Stream, Process, Unix, process_at, with_process}
 use Rattle.unix_calls.specs.Answers.{Answered, replied}
 use Rattle.unix_calls.specs.Boot.{boot_of}
+use Rattle.unix_calls.specs.Lawful.{Lawful}
 use Rattle.unix_calls.specs.After.{outcome, after, state_of, legal}
 
 -- every prefix of a legal history is legal
@@ -37,6 +38,14 @@ pub record IsWithin (u : Unix) : Type 0 where
 abbrev pub SizesStayWithin : Type 0
 SizesStayWithin = (c : Description) (journal : List Entry) (u : Unix) → IsWithin (boot_of c) → state_of c journal ≡ Some u → IsWithin u
 
+-- a lawful description's files are within the limit, and at most 200 processes start, as many as one home may make
+pub record BeginsWithin (c : Description) : Type 0 where
+  pub files : IsWithin (boot_of c)
+  pub starts : length c.starts ≤ 200
+
+abbrev pub LawfulBeginsWithin : Type 0
+LawfulBeginsWithin = (c : Description) → Lawful c → BeginsWithin c
+
 -- a refused call changes nothing but its caller's image and number of calls
 abbrev pub RefusalChangesNothing : Type 0
 RefusalChangesNothing = (c : Description) (u v : Unix) (p : Process) (called : Call) (errno : Errno) → outcome c u p called ≡ Answered (Error errno) v → v ≡ with_process (replied c p (Error errno)) u
@@ -48,7 +57,7 @@ pub record StaysAs (before : Process) (v : Unix) : Type 0 where
   pub image : after.image ≡ before.image
   pub ending : after.ending ≡ before.ending
 
--- an entry changes no other process's image and ends no other process, where no home can have made more than its number of processes
+-- an entry changes no other process's image and ends no other process, where at most 200 processes start. A fork's child is new
 abbrev pub OthersStay : Type 0
 OthersStay = (c : Description) (journal : List Entry) (u v : Unix) (e : Entry) (other : Process) → length c.starts ≤ 200 → state_of c journal ≡ Some u → after c u e ≡ Some v → process_at u.processes other.pid ≡ Some other → other.pid ≢ e.pid → StaysAs other v
 

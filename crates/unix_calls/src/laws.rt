@@ -1,5 +1,5 @@
 ghost use Rattle.unix_calls.specs.Domains.{DomainIsLongest, ServerServes};
-ghost use Rattle.unix_calls.specs.Laws.{PrefixIsLegal, DeathIsOfKilled, SizesStayWithin, RefusalChangesNothing, OthersStay, EndedIsSilent};
+ghost use Rattle.unix_calls.specs.Laws.{PrefixIsLegal, DeathIsOfKilled, SizesStayWithin, LawfulBeginsWithin, RefusalChangesNothing, OthersStay, EndedIsSilent};
 
 /// A law: the longest domain of a path is a domain, the path begins with it, and no longer domain is one that the path begins
 /// with.
@@ -22,9 +22,14 @@ pub fn death_is_of_killed()
     ensures { DeathIsOfKilled }
 {}
 
-/// A law: no file is larger than the limit, and no stream's offset is past it.
+/// A law: no file is ever larger than the limit, and no stream's offset past it, where the files are so at the start.
 pub fn sizes_stay_within()
     ensures { SizesStayWithin }
+{}
+
+/// A law: a lawful description's files are within the limit, and it starts no more processes than a home may make.
+pub fn lawful_begins_within()
+    ensures { LawfulBeginsWithin }
 {}
 
 /// A law: a refused call changes nothing but its caller's image and its number of calls.
