@@ -1,5 +1,5 @@
 -- What a lawful description begins with.
-use Rattle.std.proofs.Common.{◌≡◌, ◌≤◌, ℕ, ◌+◌, Bool, true, false, cond, List, [], ◌∷◌, ◌++◌, length, refl, sym, arith, nat_le}
+use Rattle.std.proofs.Common.{◌≡◌, ◌≤◌, ℕ, ◌+◌, Bool, true, false, cond, List, [], ◌∷◌, length, refl, sym, arith, nat_le}
 use Rattle.std.specs.Prelude.{◌&&◌}
 use Rattle.std.specs.List.{AllByRecursion, list_all}
 use Rattle.std.proofs.lemmas.Bool.{leb-true, true≢false}
@@ -7,10 +7,10 @@ use Rattle.sprite_ids.proofs.ListLaws.{each_push}
 use Rattle.unix_calls.specs.declared.description.Description.{Description}
 use Rattle.unix_calls.specs.declared.description.FileLine.{FileLine}
 use Rattle.unix_calls.specs.State.{File}
-use Rattle.unix_calls.specs.Boot.{Filed, bytes_at, with_file_line, filed, first_files, limit_of, boot_of}
+use Rattle.unix_calls.specs.Boot.{Filed, bytes_at, with_file_line, filed, limit_of}
 use Rattle.unix_calls.specs.Domains.{roots_of}
-use Rattle.unix_calls.specs.Lawful.{Lawful, is_within, has_sizes, size_of}
-use Rattle.unix_calls.specs.Laws.{IsWithin, BeginsWithin}
+use Rattle.unix_calls.specs.Lawful.{Lawful, is_within, size_of}
+use Rattle.unix_calls.specs.Laws.{BeginsWithin}
 
 and_left : (a b : Bool) → (a && b) ≡ true → a ≡ true
 and_left true b h = refl

@@ -8,8 +8,8 @@ use Rattle.unix_calls.specs.declared.description.Description.{Description}
 use Rattle.unix_calls.specs.declared.description.ProgramLine.{ProgramLine}
 use Rattle.unix_calls.specs.declared.description.StartLine.{StartLine}
 use Rattle.unix_calls.specs.declared.description.FileLine.{FileLine}
-use Rattle.unix_calls.specs.Tree.{same_path, Boot, Node, Directory, FileNode, Named, node_at, with_name, above}
-use Rattle.unix_calls.specs.State.{File, Process, Unix, bytes_of, with_bytes, put_process, next_pid, no_descriptors}
+use Rattle.unix_calls.specs.Tree.{same_path, Boot, Directory, FileNode, Named, node_at, with_name, above}
+use Rattle.unix_calls.specs.State.{File, Process, Unix, put_process, next_pid, no_descriptors}
 use Rattle.unix_calls.specs.Domains.{roots_of}
 use Rattle.unix_calls.specs.Answers.{program_at}
 

@@ -1,5 +1,5 @@
 -- What a description keeps that was read from a cluster file, in whichever of the two versions.
-use Rattle.std.specs.Prelude.{ℕ, zero, suc, slice_get, ◌+◌, ◌*◌, ◌^◌, ◌==◌, Bool, true, false, ◌&&◌, ◌||◌, not, if◌then◌else◌, IsTrue, List, [], ◌∷◌, length, map, sum, nat_le, nat_lt, Option, Some, None}
+use Rattle.std.specs.Prelude.{ℕ, zero, suc, slice_get, ◌+◌, ◌*◌, ◌^◌, ◌==◌, Bool, true, false, ◌&&◌, ◌||◌, not, IsTrue, List, [], ◌∷◌, length, map, sum, nat_le, nat_lt, Option, Some, None}
 use Rattle.std.specs.List.{list_all, list_any}
 use Rattle.sprite_paths.specs.Path.{clean_path, text_of, is_prefix}
 use Rattle.link_plan.specs.declared.plan.Fate.{Fate}
