@@ -9,3 +9,4 @@ pub mod ProcessLaws
 pub mod NumberLaws
 pub mod EndLaws
 pub mod LawfulLaws
+pub mod SameLaws

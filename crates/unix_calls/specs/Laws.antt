@@ -1,9 +1,10 @@
 -- What holds of all histories of the one-kernel Unix.
-use Rattle.std.specs.Prelude.{◌≡◌, ◌≢◌, ◌≤◌, ℕ, Bool, true, false, List, ◌∷◌, ◌++◌, length, Option, Some}
+use Rattle.std.specs.Prelude.{◌≡◌, ◌↔◌, ◌≢◌, ◌≤◌, ℕ, Bool, true, false, List, ◌∷◌, ◌++◌, length, Option, Some}
 use Rattle.std.specs.List.{AllByRecursion}
 use Rattle.sprite_ids.specs.declared.errno.Errno.{Errno}
 use Rattle.process_machine.specs.declared.call.Call.{Call}
 use Rattle.process_machine.specs.declared.call.Call.TheVariants as call
+use Rattle.process_machine.specs.declared.call.Reply.{Reply}
 use Rattle.process_machine.specs.declared.call.Reply.TheVariants.{Error}
 use Rattle.unix_calls.specs.declared.description.Description.{Description}
 use Rattle.unix_calls.specs.declared.entry.Entry.{Entry}
@@ -11,6 +12,7 @@ use Rattle.unix_calls.specs.declared.entry.Part.{Part}
 use Rattle.unix_calls.specs.declared.entry.Part.TheVariants as part
 use Rattle.unix_calls.specs.State.{File, Stream, Process, Unix, process_at, with_process}
 use Rattle.unix_calls.specs.Answers.{Answered, replied}
+use Rattle.unix_calls.specs.Same.{same_call, same_reply}
 use Rattle.unix_calls.specs.Boot.{boot_of}
 use Rattle.unix_calls.specs.Lawful.{Lawful}
 use Rattle.unix_calls.specs.After.{outcome, after, state_of, legal}
@@ -79,3 +81,8 @@ is_last e = is_last_part e.part e.call
 -- behind the entry by which a process ends stands no entry of that process
 abbrev pub EndedIsSilent : Type 0
 EndedIsSilent = (c : Description) (before behind : List Entry) (e : Entry) → length c.starts ≤ 200 → legal c (before ++ e ∷ behind) ≡ true → is_last e ≡ true → AllByRecursion (λ (later : Entry). later.pid ≢ e.pid) behind
+
+-- the tests of calls and replies tell whether they are equal
+pub record TestsTell : Type 0 where
+  pub calls : (one two : Call) → (same_call one two ≡ true) ↔ (one ≡ two)
+  pub replies : (one two : Reply) → (same_reply one two ≡ true) ↔ (one ≡ two)

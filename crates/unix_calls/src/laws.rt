@@ -1,5 +1,5 @@
 ghost use Rattle.unix_calls.specs.Domains.{DomainIsLongest, ServerServes};
-ghost use Rattle.unix_calls.specs.Laws.{PrefixIsLegal, DeathIsOfKilled, SizesStayWithin, LawfulBeginsWithin, RefusalChangesNothing, OthersStay, EndedIsSilent};
+ghost use Rattle.unix_calls.specs.Laws.{PrefixIsLegal, DeathIsOfKilled, SizesStayWithin, LawfulBeginsWithin, RefusalChangesNothing, OthersStay, EndedIsSilent, TestsTell};
 
 /// A law: the longest domain of a path is a domain, the path begins with it, and no longer domain is one that the path begins
 /// with.
@@ -45,4 +45,9 @@ pub fn others_stay()
 /// A law: behind the exit, the bad step or the death of a process stands no entry of it.
 pub fn ended_is_silent()
     ensures { EndedIsSilent }
+{}
+
+/// A law: the tests of calls and of replies, by which an entry is compared with what is due, tell whether they are equal.
+pub fn tests_tell()
+    ensures { TestsTell }
 {}
