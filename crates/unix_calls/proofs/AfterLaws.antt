@@ -1,8 +1,7 @@
 -- What an entry may change.
-use Rattle.std.proofs.Common.{◌≡◌, ℕ, ◌+◌, Bool, true, false, not, cond, List, [], ◌∷◌, ◌++◌, Option, Some, None, refl, sym, ap, subst, ◌∙◌, arith}
+use Rattle.std.proofs.Common.{◌≡◌, ℕ, ◌+◌, Bool, true, false, not, cond, [], ◌∷◌, ◌++◌, Option, Some, None, refl, sym, subst, ◌∙◌}
 use Rattle.std.specs.Prelude.{◌==◌, ◌&&◌}
 use Rattle.std.specs.Option.{option_map, option_and_then, is_some}
-use Rattle.std.proofs.lemmas.Bool.{true≢false}
 use Rattle.sprite_ids.specs.Pid.{home_of}
 use Rattle.sprite_ids.specs.declared.errno.Errno.{Errno}
 use Rattle.sprite_ids.specs.declared.running.Ending.TheVariants as ending
@@ -18,14 +17,14 @@ use Rattle.unix_calls.specs.declared.description.Description.{Description}
 use Rattle.unix_calls.specs.declared.entry.Entry.{Entry}
 use Rattle.unix_calls.specs.declared.entry.Part.{Part}
 use Rattle.unix_calls.specs.declared.entry.Part.TheVariants as part
-use Rattle.unix_calls.specs.State.{Device, Process, Unix, process_at, put_process, with_process, device_at, with_device, lives, no_descriptors}
-use Rattle.unix_calls.specs.Answers.{Outcome, Answered, GoesTo, Waits, program_at, replied, replies, refuses}
+use Rattle.unix_calls.specs.State.{Device, Process, Unix, process_at, with_process, device_at, with_device, lives, no_descriptors}
+use Rattle.unix_calls.specs.Answers.{Outcome, Answered, GoesTo, Waits, program_at, replied, refuses}
 use Rattle.unix_calls.specs.NameCalls.{stat, mkdir, rmdir, unlink, rename, list, chdir, at_path}
 use Rattle.unix_calls.specs.DeviceCalls.{answer_for}
 use Rattle.unix_calls.specs.Same.{same_call, same_reply}
-use Rattle.unix_calls.specs.After.{outcome, may_fail, is_death, state_in, failed, with_reply, after_whole, asked, after_ask, answer_due, fetched, done_with, done_at, after_done, after_death, after_part, next_is, at_image, at_program, after_living, after_of, counted, after}
+use Rattle.unix_calls.specs.After.{outcome, may_fail, is_death, state_in, failed, with_reply, after_whole, asked, after_ask, answer_due, fetched, done_with, done_at, after_death, after_part, next_is, at_image, at_program, after_living, after_of, counted, after}
 use Rattle.unix_calls.specs.Laws.{IsWithin, IsKilled}
-use Rattle.unix_calls.proofs.OutcomeLaws.{IsAmong, Others, Nobody, Child, Marked, IsRefusal, Does, DoesIn, Fine, fine_refuses, fine_replies, fine_own, fine_if, fine_unless}
+use Rattle.unix_calls.proofs.OutcomeLaws.{Others, Nobody, DoesIn, Fine, fine_refuses, fine_own}
 use Rattle.unix_calls.proofs.ProcessCallLaws.{fine_print, fine_ends, fine_getppid, fine_host, fine_tick, fine_fork, fine_exec, fine_wait, fine_kill, fine_migrate, fine_rexec}
 use Rattle.unix_calls.proofs.NameCallLaws.{fine_at_path, fine_stat, fine_mkdir, fine_rmdir, fine_unlink, fine_rename, fine_list, fine_chdir, fine_open, fine_pd_make}
 use Rattle.unix_calls.proofs.StreamCallLaws.{fine_close, fine_dup, fine_read, fine_write, fine_seek, fine_size, fine_sync, fine_ioctl, fine_pd_get, fine_pd_put}
@@ -96,10 +95,10 @@ Holds P (Some later) = P later
 pub record Yields (P : Unix → Type 0) (o : Option Unix) : Type 0 where
   pub holds : Holds P o
 
-none_yields : (P : Unix → Type 0) → Yields P None
+pub none_yields : (P : Unix → Type 0) → Yields P None
 none_yields P = record { holds = tt }
 
-yields_if : (P : Unix → Type 0) (b : Bool) (x y : Option Unix) → (b ≡ true → Yields P x) → (b ≡ false → Yields P y) → Yields P (cond b x y)
+pub yields_if : (P : Unix → Type 0) (b : Bool) (x y : Option Unix) → (b ≡ true → Yields P x) → (b ≡ false → Yields P y) → Yields P (cond b x y)
 yields_if P true x y yes_so no_so = yes_so refl
 yields_if P false x y yes_so no_so = no_so refl
 
@@ -200,41 +199,42 @@ part_steps c u pid p part.Ask called None s =
 part_steps c u pid p part.Ask called (Some reply) s = none_yields (Steps u pid)
 part_steps c u pid p part.Death called reply s = none_yields (Steps u pid)
 
--- a fact of the state after an entry, from the fact for its part, whoever makes it, and from the fact for a death
-abbrev PartYields : (Unix → Type 0) → Description → Unix → Entry → Type 0
-PartYields P c u e = (q : Process) (called : Call) → Stands u e.pid q → Yields P (after_part c u q e.part called e.reply)
+-- a fact of the state after an entry, from the fact for its part, whoever makes it: the entry's call is the same as his
+abbrev pub PartYields : (Unix → Type 0) → Description → Unix → Entry → Type 0
+PartYields P c u e = (q : Process) (claimed called : Call) → e.call ≡ Some claimed → same_call claimed called ≡ true → Stands u e.pid q → Yields P (after_part c u q e.part called e.reply)
 
-next_yields : (P : Unix → Type 0) (c : Description) (u : Unix) (p : Process) (e : Entry) (claimed : Call) (found : Option Call) (image : Machine) → PartYields P c u e → Stands u e.pid p → Yields P (next_is c u p e claimed found image)
-next_yields P c u p e claimed None image by_part s = none_yields P
-next_yields P c u p e claimed (Some called) image by_part s =
+next_yields : (P : Unix → Type 0) (c : Description) (u : Unix) (p : Process) (e : Entry) (claimed : Call) (found : Option Call) (image : Machine) → PartYields P c u e → e.call ≡ Some claimed → Stands u e.pid p → Yields P (next_is c u p e claimed found image)
+next_yields P c u p e claimed None image by_part is s = none_yields P
+next_yields P c u p e claimed (Some called) image by_part is s =
     yields_if P (same_call claimed called) _ _
-    (λ on. by_part (record p { image = image }) called (record { before = s.before; there = s.there; alive = s.alive; same = s.same }))
+    (λ on. by_part (record p { image = image }) claimed called is on (record { before = s.before; there = s.there; alive = s.alive; same = s.same }))
     (λ off. none_yields P)
 
-image_yields : (P : Unix → Type 0) (c : Description) (u : Unix) (p : Process) (e : Entry) (program : Program) (called : Call) (found : Option Machine) → PartYields P c u e → Stands u e.pid p → Yields P (at_image c u p e program called found)
-image_yields P c u p e program called None by_part s = none_yields P
-image_yields P c u p e program called (Some image) by_part s = next_yields P c u p e called (call_of_next program (Some image)) image by_part s
+image_yields : (P : Unix → Type 0) (c : Description) (u : Unix) (p : Process) (e : Entry) (program : Program) (claimed : Call) (found : Option Machine) → PartYields P c u e → e.call ≡ Some claimed → Stands u e.pid p → Yields P (at_image c u p e program claimed found)
+image_yields P c u p e program claimed None by_part is s = none_yields P
+image_yields P c u p e program claimed (Some image) by_part is s =
+    next_yields P c u p e claimed (call_of_next program (Some image)) image by_part is s
 
-program_yields : (P : Unix → Type 0) (c : Description) (u : Unix) (p : Process) (e : Entry) (called : Call) (found : Option Program) → PartYields P c u e → Stands u e.pid p → Yields P (at_program c u p e called found)
-program_yields P c u p e called None by_part s = none_yields P
-program_yields P c u p e called (Some program) by_part s = image_yields P c u p e program called (at_next_call program p.image) by_part s
+program_yields : (P : Unix → Type 0) (c : Description) (u : Unix) (p : Process) (e : Entry) (claimed : Call) (found : Option Program) → PartYields P c u e → e.call ≡ Some claimed → Stands u e.pid p → Yields P (at_program c u p e claimed found)
+program_yields P c u p e claimed None by_part is s = none_yields P
+program_yields P c u p e claimed (Some program) by_part is s = image_yields P c u p e program claimed (at_next_call program p.image) by_part is s
 
-living_yields : (P : Unix → Type 0) (c : Description) (u : Unix) (p : Process) (e : Entry) (called : Option Call) → PartYields P c u e → Yields P (after_death u p) → Stands u e.pid p → Yields P (after_living c u p e called)
-living_yields P c u p e None by_part by_death s = yields_if P (is_death e) _ _ (λ on. by_death) (λ off. none_yields P)
-living_yields P c u p e (Some called) by_part by_death s =
-    yields_if P (e.number == p.calls + 1) _ _ (λ on. program_yields P c u p e called (program_at c.programs p.image.number) by_part s) (λ off. none_yields P)
+living_yields : (P : Unix → Type 0) (c : Description) (u : Unix) (p : Process) (e : Entry) (claimed : Option Call) → PartYields P c u e → Yields P (after_death u p) → e.call ≡ claimed → Stands u e.pid p → Yields P (after_living c u p e claimed)
+living_yields P c u p e None by_part by_death is s = yields_if P (is_death e) _ _ (λ on. by_death) (λ off. none_yields P)
+living_yields P c u p e (Some claimed) by_part by_death is s =
+    yields_if P (e.number == p.calls + 1) _ _ (λ on. program_yields P c u p e claimed (program_at c.programs p.image.number) by_part is s) (λ off. none_yields P)
 
-found_yields : (P : Unix → Type 0) (c : Description) (u : Unix) (e : Entry) (found : Option Process) → PartYields P c u e → ((q : Process) → Stands u e.pid q → process_at u.processes e.pid ≡ Some q → Yields P (after_death u q)) → process_at u.processes e.pid ≡ found → Yields P (after_of c u e found)
+pub found_yields : (P : Unix → Type 0) (c : Description) (u : Unix) (e : Entry) (found : Option Process) → PartYields P c u e → ((q : Process) → Stands u e.pid q → process_at u.processes e.pid ≡ Some q → Yields P (after_death u q)) → process_at u.processes e.pid ≡ found → Yields P (after_of c u e found)
 found_yields P c u e None by_part by_death there = none_yields P
 found_yields P c u e (Some p) by_part by_death there =
     yields_if P (lives p) _ _
-    (λ on. let s : Stands u e.pid p = record { before = p; there = there; alive = on; same = refl } in living_yields P c u p e e.call by_part (by_death p s there) s)
+    (λ on. let s : Stands u e.pid p = record { before = p; there = there; alive = on; same = refl } in living_yields P c u p e e.call by_part (by_death p s there) refl s)
     (λ off. none_yields P)
 
 -- an entry is a step
 entry_steps : (c : Description) (u : Unix) (e : Entry) → Yields (Steps u e.pid) (after_of c u e (process_at u.processes e.pid))
 entry_steps c u e =
-    found_yields (Steps u e.pid) c u e (process_at u.processes e.pid) (λ q called s. part_steps c u e.pid q e.part called e.reply s) (λ q s there. death_steps u e.pid q s) refl
+    found_yields (Steps u e.pid) c u e (process_at u.processes e.pid) (λ q claimed called is same s. part_steps c u e.pid q e.part called e.reply s) (λ q s there. death_steps u e.pid q s) refl
 
 -- an entry's state is that of a step, with one entry more
 pub record Entered (u : Unix) (pid : ℕ) (v : Unix) : Type 0 where
@@ -275,4 +275,4 @@ yielded_by P (Some w) v h e = (w, h.holds)
 pub death_is_of_killed : (c : Description) (u v : Unix) (e : Entry) → after c u e ≡ Some v → e.part ≡ part.Death → IsKilled u e.pid
 death_is_of_killed c u v e is dead =
     (yielded_by (λ (w : Unix). IsKilled u e.pid) (after_of c u e (process_at u.processes e.pid)) v
-    (found_yields (λ (w : Unix). IsKilled u e.pid) c u e (process_at u.processes e.pid) (λ q called s. dead_part (λ (w : Unix). IsKilled u e.pid) c u q e.part called e.reply dead) (λ q s there. killed_death u e.pid q there) refl) is).1
+    (found_yields (λ (w : Unix). IsKilled u e.pid) c u e (process_at u.processes e.pid) (λ q claimed called is same s. dead_part (λ (w : Unix). IsKilled u e.pid) c u q e.part called e.reply dead) (λ q s there. killed_death u e.pid q there) refl) is).1

@@ -1,30 +1,19 @@
 -- What holds along a history.
-use Rattle.std.proofs.Common.{◌≡◌, ◌≤◌, ℕ, ◌+◌, Bool, true, false, not, cond, List, [], ◌∷◌, ◌++◌, length, Option, Some, None, refl, sym, ap, subst, ◌∙◌}
-use Rattle.std.specs.Prelude.{◌==◌, ◌&&◌}
-use Rattle.std.specs.Option.{option_map, is_some}
-use Rattle.std.specs.List.{AllByRecursion}
+use Rattle.std.proofs.Common.{◌≡◌, true, List, [], ◌∷◌, ◌++◌, Option, Some, None, refl, sym, ap, subst, ◌∙◌}
+use Rattle.std.specs.Option.{is_some}
 use Rattle.std.proofs.lemmas.Bool.{true≢false}
 use Rattle.sprite_ids.proofs.ListLaws.{some_is}
-use Rattle.process_machine.specs.declared.call.Call.{Call}
-use Rattle.process_machine.specs.declared.call.Reply.{Reply}
-use Rattle.process_machine.specs.declared.program.Program.{Program}
-use Rattle.process_machine.specs.Machine.{Machine}
-use Rattle.process_machine.specs.Runs.{at_next_call, call_of_next}
 use Rattle.unix_calls.specs.declared.description.Description.{Description}
 use Rattle.unix_calls.specs.declared.entry.Entry.{Entry}
-use Rattle.unix_calls.specs.declared.entry.Part.{Part}
-use Rattle.unix_calls.specs.declared.entry.Part.TheVariants as part
-use Rattle.unix_calls.specs.State.{File, Stream, Process, Unix, process_at, with_process, lives}
-use Rattle.unix_calls.specs.Answers.{program_at}
-use Rattle.unix_calls.specs.Same.{same_call}
+use Rattle.unix_calls.specs.State.{Process, Unix, with_process}
 use Rattle.unix_calls.specs.Boot.{boot_of}
-use Rattle.unix_calls.specs.After.{after, after_of, after_living, after_death, is_death, after_part, next_is, at_image, at_program, counted, state_from, state_of, legal}
-use Rattle.unix_calls.specs.Laws.{IsWithin, IsKilled}
-use Rattle.unix_calls.proofs.AfterLaws.{Steps, Entered, entered}
+use Rattle.unix_calls.specs.After.{after, counted, state_from, state_of, legal}
+use Rattle.unix_calls.specs.Laws.{IsWithin}
+use Rattle.unix_calls.proofs.AfterLaws.{entered}
 
 -- ---- prefixes
 
-none_goes_on : (c : Description) (journal : List Entry) → state_from c None journal ≡ None
+pub none_goes_on : (c : Description) (journal : List Entry) → state_from c None journal ≡ None
 none_goes_on c [] = refl
 none_goes_on c (e ∷ es) = refl
 

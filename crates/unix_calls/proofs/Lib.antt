@@ -5,3 +5,8 @@ pub mod NameCallLaws
 pub mod StreamCallLaws
 pub mod AfterLaws
 pub mod HistoryLaws
+pub mod ProcessLaws
+pub mod NumberLaws
+pub mod EndLaws
+pub mod LawfulLaws
+pub mod SameLaws

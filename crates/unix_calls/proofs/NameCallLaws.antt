@@ -1,20 +1,19 @@
 -- What the calls on names may change, and those that make a stream.
-use Rattle.std.proofs.Common.{◌≡◌, ◌≤◌, ℕ, ◌+◌, Bool, true, false, not, cond, List, [], ◌∷◌, ◌++◌, length, map, Option, Some, None, refl, subst, arith, nat_lt, nat_le}
+use Rattle.std.proofs.Common.{◌≡◌, ◌≤◌, ℕ, Bool, true, false, cond, List, [], ◌∷◌, length, Option, Some, None, refl, arith}
 use Rattle.std.specs.List.{AllByRecursion}
-use Rattle.sprite_ids.specs.declared.errno.Errno.{Errno}
 use Rattle.sprite_ids.specs.declared.errno.Errno.TheVariants as errno
 use Rattle.sprite_ids.specs.declared.names.Mode.{Mode}
 use Rattle.sprite_ids.specs.declared.names.Mode.TheVariants as mode
 use Rattle.sprite_ids.proofs.ListLaws.{each_push}
 use Rattle.sprite_paths.specs.Path.{clean_path}
 use Rattle.unix_calls.specs.declared.description.Description.{Description}
-use Rattle.unix_calls.specs.Tree.{FileName, Made, Node, Directory, FileNode, DeviceNode, node_at, names_in, walk}
+use Rattle.unix_calls.specs.Tree.{FileName, Made, Node, Directory, FileNode, DeviceNode, node_at, walk}
 use Rattle.unix_calls.specs.State.{Object, OfFile, OfDevice, OfMaster, File, Stream, Process, Unix, same_file, with_bytes, free_descriptor}
 use Rattle.unix_calls.specs.Answers.{Outcome, replies, value}
-use Rattle.unix_calls.specs.NameCalls.{with_path, at_path, stat, stat_of, new_refusal, named, unnamed, mkdir, rmdir, rmdir_refusal, unlink, unlink_refusal, rename, rename_refusal, moved_to, list, list_refusal, listing, chdir, chdir_refusal}
-use Rattle.unix_calls.specs.Opening.{Flags, flags_of, at_descriptor, with_new_stream, opened, cut, with_new_file, create_refusal, creates_file, open_node, open_at, open_with, open_by, open_file, with_new_device, make_at, make_with, pd_make}
+use Rattle.unix_calls.specs.NameCalls.{with_path, at_path, stat, stat_of, new_refusal, named, unnamed, mkdir, rmdir, rmdir_refusal, unlink, unlink_refusal, rename, rename_refusal, moved_to, list, list_refusal, chdir, chdir_refusal}
+use Rattle.unix_calls.specs.Opening.{Flags, flags_of, at_descriptor, with_new_stream, opened, cut, with_new_file, create_refusal, open_node, open_at, open_with, open_by, open_file, with_new_device, make_at, make_with, pd_make}
 use Rattle.unix_calls.specs.Laws.{IsWithin}
-use Rattle.unix_calls.proofs.OutcomeLaws.{Others, Nobody, Fine, fine_refuses, fine_replies, fine_own, fine_if, fine_unless}
+use Rattle.unix_calls.proofs.OutcomeLaws.{Nobody, Fine, fine_refuses, fine_replies, fine_own, fine_unless}
 
 fine_with_path : (c : Description) (u : Unix) (p : Process) (found : Option (List (List ℕ))) (rest : List (List ℕ) → Outcome) → ((path : List (List ℕ)) → Fine c u p (rest path)) → Fine c u p (with_path c u p found rest)
 fine_with_path c u p None rest h = fine_refuses c u p errno.BadName

@@ -1,14 +1,12 @@
 -- What each call's outcome may change.
-use Rattle.std.proofs.Common.{◌≡◌, ◌≢◌, ◌≤◌, ℕ, suc, zero, ◌+◌, ◌-◌, Bool, true, false, not, cond, List, [], ◌∷◌, ◌++◌, length, take, drop, replicate, map, filter, Option, Some, None, refl, sym, ap, subst, ◌∙◌, arith, inl, inr, nat_lt, nat_le}
-use Rattle.std.specs.Prelude.{◌⊎◌, if◌then◌else◌, ◌==◌, ◌<◌}
-use Rattle.std.specs.List.{AllByRecursion}
+use Rattle.std.proofs.Common.{◌≡◌, ℕ, Bool, true, false, cond, List, [], ◌∷◌, Option, Some, None, refl}
+use Rattle.std.specs.Prelude.{◌⊎◌, ◌<◌}
 use Rattle.sprite_ids.specs.declared.errno.Errno.{Errno}
 use Rattle.sprite_ids.specs.Pid.{home_of}
-use Rattle.process_machine.specs.declared.call.Call.{Call}
 use Rattle.process_machine.specs.declared.call.Reply.{Reply}
 use Rattle.process_machine.specs.declared.call.Reply.TheVariants.{Value, Error}
 use Rattle.unix_calls.specs.declared.description.Description.{Description}
-use Rattle.unix_calls.specs.State.{Process, Unix, process_at, put_process, with_process, births, next_pid}
+use Rattle.unix_calls.specs.State.{Process, Unix, put_process, with_process, births, next_pid}
 use Rattle.unix_calls.specs.Answers.{Outcome, Answered, GoesTo, Waits, replied, replies, refuses, unless_refused}
 use Rattle.unix_calls.specs.Laws.{IsWithin}
 

@@ -1,21 +1,18 @@
 -- What the calls on processes may change.
-use Rattle.std.proofs.Common.{◌≡◌, ℕ, ◌+◌, Bool, true, false, cond, List, [], ◌∷◌, ◌++◌, length, filter, Option, Some, None, refl, subst, inl, inr, nat_lt, nat_le, arith}
-use Rattle.std.specs.Prelude.{◌==◌, ◌<◌}
+use Rattle.std.proofs.Common.{◌≡◌, ℕ, Bool, true, false, cond, List, [], ◌∷◌, ◌++◌, length, Option, Some, None, refl, inl, inr, nat_lt, nat_le, arith}
+use Rattle.std.specs.Prelude.{◌==◌}
 use Rattle.std.specs.List.{AllByRecursion}
 use Rattle.std.specs.Option.{is_some}
 use Rattle.std.proofs.lemmas.Bool.{leb-false}
 use Rattle.sprite_ids.specs.Pid.{home_of}
-use Rattle.sprite_ids.specs.declared.errno.Errno.{Errno}
 use Rattle.sprite_ids.specs.declared.errno.Errno.TheVariants as errno
 use Rattle.sprite_ids.specs.declared.running.Ending.{Ending}
 use Rattle.sprite_ids.proofs.ListLaws.{each_filter, each_weaken}
 use Rattle.process_machine.specs.declared.program.Program.{Program}
 use Rattle.unix_calls.specs.declared.description.Description.{Description}
-use Rattle.unix_calls.specs.State.{Process, Unix, process_at, put_process, births, next_pid, lives}
-use Rattle.unix_calls.specs.Answers.{Outcome, replied, value, nothing}
-use Rattle.unix_calls.specs.ProcessCalls.{print, ends, ended, getppid, host, host_named, kernel_name, tick, fork, forked, child_of, exec, exec_of, program_named, wait, waits_for, unwaited, ended_ones, is_unwaited, status_of, kill, kill_of, with_kill, move_refusal, migrate, rexec, rexec_of}
-use Rattle.unix_calls.specs.Laws.{IsWithin}
-use Rattle.unix_calls.proofs.OutcomeLaws.{IsAmong, Others, Nobody, Child, Marked, Fine, fine_refuses, fine_replies, fine_put, fine_own, fine_waits, fine_if, fine_unless}
+use Rattle.unix_calls.specs.State.{Process, Unix, process_at, births, next_pid, lives}
+use Rattle.unix_calls.specs.ProcessCalls.{print, ends, ended, getppid, host, kernel_name, tick, fork, child_of, exec, exec_of, program_named, wait, waits_for, unwaited, ended_ones, is_unwaited, kill, kill_of, with_kill, move_refusal, migrate, rexec, rexec_of}
+use Rattle.unix_calls.proofs.OutcomeLaws.{IsAmong, Nobody, Child, Marked, Fine, fine_refuses, fine_replies, fine_put, fine_own, fine_waits, fine_if, fine_unless}
 
 pub fine_print : (c : Description) (u : Unix) (p : Process) (bytes : List ℕ) → Fine c u p (print c u p bytes)
 fine_print c u p bytes = fine_own c u p (record p { console = p.console ++ bytes }) 0 0 [] refl

@@ -1,25 +1,23 @@
 -- What the calls on descriptors may change.
-use Rattle.std.proofs.Common.{◌≡◌, ◌≤◌, ℕ, ◌+◌, ◌-◌, Bool, true, false, cond, List, [], ◌∷◌, ◌++◌, length, take, drop, replicate, Option, Some, None, refl, sym, subst, arith, nat_lt, nat_le, length-append, length-take, length-drop}
+use Rattle.std.proofs.Common.{◌≡◌, ◌≤◌, ℕ, ◌+◌, Bool, true, false, cond, List, [], ◌∷◌, length, take, drop, Option, Some, None, refl, subst, arith, nat_lt, length-append, length-take, length-drop}
 use Rattle.std.proofs.lemmas.List.{length-replicate}
-use Rattle.std.specs.Prelude.{◌==◌, ◌<◌, slice_get, slice_set}
+use Rattle.std.specs.Prelude.{◌==◌, slice_get, slice_set}
 use Rattle.std.specs.List.{AllByRecursion}
 use Rattle.std.specs.Option.{option_and_then, is_some}
 use Rattle.std.proofs.lemmas.Bool.{ltb-false}
-use Rattle.sprite_ids.specs.declared.errno.Errno.{Errno}
 use Rattle.sprite_ids.specs.declared.errno.Errno.TheVariants as errno
 use Rattle.sprite_ids.proofs.ListLaws.{some_is}
-use Rattle.process_machine.specs.declared.call.Call.{Call}
 use Rattle.process_machine.specs.declared.call.Reply.{Reply}
-use Rattle.process_machine.specs.declared.call.Reply.TheVariants.{Value, Error}
+use Rattle.process_machine.specs.declared.call.Reply.TheVariants.{Value}
 use Rattle.unix_calls.specs.declared.description.Description.{Description}
 use Rattle.unix_calls.specs.Tree.{FileName}
-use Rattle.unix_calls.specs.State.{Object, OfFile, OfDevice, OfMaster, File, Stream, Ask, Device, Process, Unix, same_file, bytes_of, with_bytes, stream_at, with_stream, with_device, device_at, joined_option, stream_of, free_descriptor}
-use Rattle.unix_calls.specs.Answers.{Outcome, replies, value, gives, is_done}
+use Rattle.unix_calls.specs.State.{Object, OfFile, OfDevice, OfMaster, File, Stream, Ask, Device, Process, Unix, same_file, bytes_of, with_bytes, stream_at, with_stream, with_device, joined_option, stream_of, free_descriptor}
+use Rattle.unix_calls.specs.Answers.{Outcome, replies, gives, is_done}
 use Rattle.unix_calls.specs.Opening.{reads, writes}
-use Rattle.unix_calls.specs.StreamCalls.{with_found, at_stream, with_file, close, dup, dup_at, at_offset, read_bytes, read_file, read_object, read_stream, read, written, begins_at, write_from, write_file, write_object, write_stream, write, seek_to, seek, size, sync}
-use Rattle.unix_calls.specs.DeviceCalls.{ioctl, ioctl_object, with_device_of, device_of, at_master, takes, takes_first, taken, asked_bytes, kind_of, get_from, pd_get, answer_of, left, puts, put_to, pd_put}
+use Rattle.unix_calls.specs.StreamCalls.{with_found, at_stream, with_file, close, dup, dup_at, at_offset, read_file, read_object, read_stream, read, written, begins_at, write_from, write_object, write_stream, write, seek_to, seek, size, sync}
+use Rattle.unix_calls.specs.DeviceCalls.{ioctl, ioctl_object, with_device_of, device_of, at_master, takes_first, taken, asked_bytes, get_from, pd_get, answer_of, left, puts, put_to, pd_put}
 use Rattle.unix_calls.specs.Laws.{IsWithin}
-use Rattle.unix_calls.proofs.OutcomeLaws.{Others, Nobody, Fine, fine_refuses, fine_replies, fine_own, fine_waits, fine_goes, fine_if, fine_unless}
+use Rattle.unix_calls.proofs.OutcomeLaws.{Nobody, Fine, fine_refuses, fine_replies, fine_own, fine_waits, fine_goes, fine_if}
 
 -- ---- streams and files within the limit
 

@@ -1,17 +1,15 @@
 -- How the one-kernel Unix begins.
 use Rattle.std.specs.Prelude.{ℕ, ◌+◌, false, if◌then◌else◌, List, [], ◌∷◌, ◌++◌, length, replicate, nat_lt, Option, Some, None}
-use Rattle.std.specs.List.{flat_map}
 use Rattle.std.specs.Option.{is_some}
 use Rattle.process_machine.specs.declared.program.Program.{Program}
 use Rattle.process_machine.specs.Machine.{Machine}
 use Rattle.process_machine.specs.Fresh.{fresh_machine}
 use Rattle.unix_calls.specs.declared.description.Description.{Description}
-use Rattle.unix_calls.specs.declared.description.KernelLine.{KernelLine}
 use Rattle.unix_calls.specs.declared.description.ProgramLine.{ProgramLine}
 use Rattle.unix_calls.specs.declared.description.StartLine.{StartLine}
 use Rattle.unix_calls.specs.declared.description.FileLine.{FileLine}
-use Rattle.unix_calls.specs.Tree.{Boot, Node, Directory, FileNode, Named, node_at, with_name, above}
-use Rattle.unix_calls.specs.State.{File, Process, Unix, bytes_of, with_bytes, put_process, next_pid, no_descriptors}
+use Rattle.unix_calls.specs.Tree.{same_path, Boot, Directory, FileNode, Named, node_at, with_name, above}
+use Rattle.unix_calls.specs.State.{File, Process, Unix, put_process, next_pid, no_descriptors}
 use Rattle.unix_calls.specs.Domains.{roots_of}
 use Rattle.unix_calls.specs.Answers.{program_at}
 
@@ -39,24 +37,25 @@ pub record Filed : Type 0 where
   pub nodes : List Named
   pub files : List File
 
--- a line that makes a file, with the directories above it
-abbrev pub with_file_line : ℕ → FileLine → Filed → Filed
-with_file_line place line f =
+-- the bytes of all lines of a path, in file order
+abbrev pub bytes_at : List FileLine → List (List ℕ) → List ℕ
+bytes_at [] path = []
+bytes_at (line ∷ lines) path = (if same_path line.path path then line.bytes else []) ++ bytes_at lines path
+
+-- the line at a place makes a file of these bytes, with the directories above it
+abbrev pub with_file_line : ℕ → List (List ℕ) → List ℕ → Filed → Filed
+with_file_line place path bytes f =
     record {
-      nodes = with_name (record { path = line.path; node = FileNode (Boot place) }) (with_directories (above line.path) f.nodes);
-      files = f.files ++ record { name = Boot place; bytes = line.bytes } ∷ [];
+      nodes = with_name (record { path = path; node = FileNode (Boot place) }) (with_directories (above path) f.nodes);
+      files = f.files ++ record { name = Boot place; bytes = bytes } ∷ [];
     }
 
--- a line that joins the file at its path
-abbrev pub joined_at : Option Node → FileLine → Filed → Filed
-joined_at (Some (FileNode name)) line f = record f { files = with_bytes name (bytes_of f.files name ++ line.bytes) f.files }
-joined_at _ line f = f
-
--- the lines one after another; a line's place counts those before it
-abbrev pub filed : ℕ → List FileLine → Filed → Filed
-filed place [] f = f
-filed place (line ∷ lines) f =
-    filed (place + 1) lines (if line.append then joined_at (node_at f.nodes line.path) line f else with_file_line place line f)
+-- the lines one after another, from a place on: one that joins another's file makes none, and any other one a file with the
+-- bytes of all lines of its path
+abbrev pub filed : List FileLine → ℕ → List FileLine → Filed → Filed
+filed all place [] f = f
+filed all place (line ∷ lines) f =
+    filed all (place + 1) lines (if line.append then f else with_file_line place line.path (bytes_at all line.path) f)
 
 -- a process that has done nothing so far
 abbrev pub new_process : ℕ → Machine → Process
@@ -91,7 +90,7 @@ limit_of version = if nat_lt 1 version then 4194304 else 262144
 
 -- the tree and the files at the start
 abbrev pub first_files : Description → Filed
-first_files c = filed 0 c.files (record { nodes = with_roots (roots_of c.kernels) []; files = [] })
+first_files c = filed c.files 0 c.files (record { nodes = with_roots (roots_of c.kernels) []; files = [] })
 
 -- the state at the start
 abbrev pub boot_of : Description → Unix

@@ -1,15 +1,11 @@
 -- Words for small clusters and journals.
-use Rattle.std.specs.Prelude.{ℕ, ◌+◌, Bool, ◌&&◌, List, [], ◌∷◌, ◌++◌, map, take, replicate, Option, Some, None, codes}
+use Rattle.std.specs.Prelude.{ℕ, ◌+◌, List, [], ◌∷◌, ◌++◌, map, take, replicate, Some, None, codes}
 use Rattle.process_machine.specs.declared.instruction.Instruction.{Instruction}
 use Rattle.process_machine.specs.declared.instruction.Instruction.TheVariants.{Sys}
 use Rattle.process_machine.specs.declared.instruction.Operand.{Operand}
-use Rattle.process_machine.specs.declared.instruction.Operand.TheVariants.{Number}
 use Rattle.process_machine.specs.declared.instruction.SyscallName.{SyscallName}
-use Rattle.process_machine.specs.declared.instruction.SyscallName.TheVariants as name
 use Rattle.process_machine.specs.declared.call.Call.{Call}
-use Rattle.process_machine.specs.declared.call.Call.TheVariants as call
 use Rattle.process_machine.specs.declared.call.Reply.{Reply}
-use Rattle.process_machine.specs.declared.call.Reply.TheVariants.{Value, Error}
 use Rattle.process_machine.specs.declared.program.Program.{Program}
 use Rattle.process_machine.specs.declared.program.Text.{Text}
 use Rattle.unix_calls.specs.declared.description.Description.{Description}
@@ -18,10 +14,6 @@ use Rattle.unix_calls.specs.declared.description.ProgramLine.{ProgramLine}
 use Rattle.unix_calls.specs.declared.description.StartLine.{StartLine}
 use Rattle.unix_calls.specs.declared.entry.Entry.{Entry}
 use Rattle.unix_calls.specs.declared.entry.Part.TheVariants as part
-use Rattle.sprite_ids.specs.declared.running.Finish.TheVariants.{AllEnded}
-use Rattle.unix_calls.specs.Same.{same_text}
-use Rattle.unix_calls.specs.After.{legal}
-use Rattle.unix_calls.specs.Output.{output_of}
 
 -- a system call with its operands
 abbrev pub sys : SyscallName → List Operand → Instruction

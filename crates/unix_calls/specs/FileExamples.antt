@@ -1,17 +1,16 @@
 -- Small histories of files and names.
-use Rattle.std.specs.Prelude.{List, [], ◌∷◌, ◌++◌, codes}
+use Rattle.std.specs.Prelude.{List, [], ◌∷◌, codes}
 use Rattle.sprite_ids.specs.declared.errno.Errno.TheVariants as errno
-use Rattle.process_machine.specs.declared.instruction.Instruction.TheVariants.{Mov, Add, Jmp, Jeq}
+use Rattle.process_machine.specs.declared.instruction.Instruction.TheVariants.{Mov, Add}
 use Rattle.process_machine.specs.declared.instruction.Operand.TheVariants.{Number, Register}
 use Rattle.process_machine.specs.declared.instruction.SyscallName.TheVariants as name
 use Rattle.process_machine.specs.declared.call.Call.TheVariants as call
 use Rattle.process_machine.specs.declared.call.Reply.TheVariants.{Value, Error}
 use Rattle.process_machine.specs.declared.program.Program.{Program}
 use Rattle.unix_calls.specs.declared.description.Description.{Description}
-use Rattle.unix_calls.specs.declared.description.ProgramLine.{ProgramLine}
 use Rattle.unix_calls.specs.declared.entry.Entry.{Entry}
 use Rattle.unix_calls.specs.Answers.{value, nothing}
-use Rattle.unix_calls.specs.Examples.{sys, text_at, program_of, cluster_of, cluster_with, whole, calls, gives, death, ask, done}
+use Rattle.unix_calls.specs.Examples.{sys, text_at, program_of, cluster_with, calls, gives}
 
 -- a file is written, and read back from its start
 abbrev pub file_program : Program

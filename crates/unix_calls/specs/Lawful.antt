@@ -1,14 +1,12 @@
 -- What a description keeps that was read from a cluster file, in whichever of the two versions.
-use Rattle.std.specs.Prelude.{ℕ, zero, suc, slice_get, ◌+◌, ◌*◌, ◌^◌, ◌==◌, Bool, true, false, ◌&&◌, ◌||◌, not, if◌then◌else◌, IsTrue, List, [], ◌∷◌, ◌++◌, length, map, sum, nat_le, nat_lt, Option, Some, None}
+use Rattle.std.specs.Prelude.{ℕ, zero, suc, slice_get, ◌+◌, ◌*◌, ◌^◌, ◌==◌, Bool, true, false, ◌&&◌, ◌||◌, not, IsTrue, List, [], ◌∷◌, length, map, sum, nat_le, nat_lt, Option, Some, None}
 use Rattle.std.specs.List.{list_all, list_any}
 use Rattle.sprite_paths.specs.Path.{clean_path, text_of, is_prefix}
 use Rattle.link_plan.specs.declared.plan.Fate.{Fate}
 use Rattle.link_plan.specs.declared.plan.Fate.TheVariants as fate
 use Rattle.link_plan.specs.declared.plan.PlanEntry.{PlanEntry}
 use Rattle.process_machine.specs.declared.instruction.Instruction.{Instruction}
-use Rattle.process_machine.specs.declared.instruction.Instruction.TheVariants.{Set, Addi, Jmp, Jeq, Jne, Jlt, Sys}
-use Rattle.process_machine.specs.declared.instruction.Operand.{Operand}
-use Rattle.process_machine.specs.declared.instruction.Operand.TheVariants.{Number}
+use Rattle.process_machine.specs.declared.instruction.Instruction.TheVariants.{Jmp, Jeq, Jne, Jlt, Sys}
 use Rattle.process_machine.specs.declared.instruction.SyscallName.{SyscallName}
 use Rattle.process_machine.specs.declared.instruction.SyscallName.TheVariants as name
 use Rattle.process_machine.specs.declared.program.Program.{Program}
@@ -22,7 +20,7 @@ use Rattle.unix_calls.specs.declared.description.EvictLine.{EvictLine}
 use Rattle.unix_calls.specs.Tree.{same_path}
 use Rattle.unix_calls.specs.Same.{same_text}
 use Rattle.unix_calls.specs.Domains.{roots_of, begins_domain}
-use Rattle.unix_calls.specs.Boot.{limit_of}
+use Rattle.unix_calls.specs.Boot.{bytes_at, limit_of}
 
 -- whether a number lies between two others, or is one of them
 abbrev pub is_within : ℕ → ℕ → ℕ → Bool
@@ -201,11 +199,6 @@ are_joined earlier (line ∷ lines) =
 abbrev pub has_joins : Description → Bool
 has_joins c = are_joined [] c.files && (nat_lt 1 c.version || not (list_any (λ (line : FileLine). line.append) c.files))
 
--- how many bytes the lines of a path have together
-abbrev pub size_at : List FileLine → List (List ℕ) → ℕ
-size_at [] path = 0
-size_at (line ∷ lines) path = (if same_path line.path path then length line.bytes else 0) + size_at lines path
-
 -- how many bytes all lines have
 abbrev pub size_of : List FileLine → ℕ
 size_of lines = sum (map (λ (line : FileLine). length line.bytes) lines)
@@ -213,7 +206,7 @@ size_of lines = sum (map (λ (line : FileLine). length line.bytes) lines)
 -- a file has at most as many bytes as the version allows, and all have 67,108,864 together at most
 abbrev pub has_sizes : Description → Bool
 has_sizes c =
-    list_all (λ (line : FileLine). nat_le (size_at c.files line.path) (limit_of c.version)) c.files && nat_le (size_of c.files) 67108864
+    list_all (λ (line : FileLine). nat_le (length (bytes_at c.files line.path)) (limit_of c.version)) c.files && nat_le (size_of c.files) 67108864
 
 -- a lawful description keeps all of this
 pub record Lawful (c : Description) : Type 0 where

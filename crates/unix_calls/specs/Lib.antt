@@ -17,4 +17,5 @@ pub mod Examples
 pub mod FileExamples
 pub mod ProcessExamples
 pub mod DeviceExamples
+pub mod DomainExamples
 pub mod LawfulExamples

@@ -1,10 +1,10 @@
 -- The calls on names. Each begins with its path, cleaned from the caller's cwd. BadName: the text is no path.
 use Rattle.std.specs.Prelude.{ℕ, ◌==◌, Bool, ◌&&◌, not, if◌then◌else◌, List, [], ◌∷◌, ◌++◌, length, nat_lt, Option, Some, None}
-use Rattle.std.specs.List.{flat_map, list_any}
+use Rattle.std.specs.List.{flat_map}
 use Rattle.std.specs.Option.{is_some}
 use Rattle.sprite_ids.specs.declared.errno.Errno.{Errno}
 use Rattle.sprite_ids.specs.declared.errno.Errno.TheVariants as errno
-use Rattle.sprite_paths.specs.Path.{clean_path, is_prefix}
+use Rattle.sprite_paths.specs.Path.{clean_path}
 use Rattle.process_machine.specs.declared.call.Reply.TheVariants.{Value}
 use Rattle.unix_calls.specs.declared.description.Description.{Description}
 use Rattle.unix_calls.specs.Domains.{begins_domain, domain_of}

@@ -1,5 +1,5 @@
 -- Small histories of processes.
-use Rattle.std.specs.Prelude.{List, [], ◌∷◌, ◌++◌, codes}
+use Rattle.std.specs.Prelude.{List, [], ◌∷◌, codes}
 use Rattle.sprite_ids.specs.declared.errno.Errno.TheVariants as errno
 use Rattle.process_machine.specs.declared.instruction.Instruction.TheVariants.{Set, Sub, Jmp, Jeq}
 use Rattle.process_machine.specs.declared.instruction.Operand.TheVariants.{Number, Register}
@@ -8,10 +8,9 @@ use Rattle.process_machine.specs.declared.call.Call.TheVariants as call
 use Rattle.process_machine.specs.declared.call.Reply.TheVariants.{Value, Error}
 use Rattle.process_machine.specs.declared.program.Program.{Program}
 use Rattle.unix_calls.specs.declared.description.Description.{Description}
-use Rattle.unix_calls.specs.declared.description.ProgramLine.{ProgramLine}
 use Rattle.unix_calls.specs.declared.entry.Entry.{Entry}
 use Rattle.unix_calls.specs.Answers.{value, nothing}
-use Rattle.unix_calls.specs.Examples.{sys, text_at, program_of, cluster_of, cluster_with, whole, calls, gives, death, ask, done}
+use Rattle.unix_calls.specs.Examples.{sys, text_at, program_of, cluster_of, cluster_with, whole, calls, gives, death}
 
 -- a line is printed
 abbrev pub hello_program : Program
@@ -145,4 +144,37 @@ kill_journal =
     death 1002 1 ∷
     whole 1001 3 call.Wait (Value 1002 257 []) ∷
     whole 1001 4 (call.Exit 1) nothing ∷
+    []
+
+-- a child kills its parent, whose wait is broken off
+abbrev pub kin_program : Program
+kin_program =
+    program_of ([])
+    (sys name.Fork [] ∷
+    Jeq 1 5 4 ∷
+    sys name.Wait [] ∷
+    Jmp 3 ∷
+    sys name.Getppid [] ∷
+    sys name.Kill (Register 1 ∷ []) ∷
+    sys name.Exit (Number 0 ∷ []) ∷
+    [])
+
+abbrev pub kin_cluster : Description
+kin_cluster = cluster_with kin_program
+
+abbrev pub kin_journal : List Entry
+kin_journal =
+    whole 1001 1 call.Fork (value 1002) ∷
+    whole 1002 1 call.Getppid (value 1001) ∷
+    whole 1002 2 (call.Kill 1001) nothing ∷
+    whole 1001 2 call.Wait (Error errno.Interrupted) ∷
+    death 1001 3 ∷
+    whole 1002 3 (call.Exit 0) nothing ∷
+    []
+
+-- a call is broken off that no kill breaks off
+abbrev pub broken_off_getppid_journal : List Entry
+broken_off_getppid_journal =
+    whole 1001 1 call.Fork (value 1002) ∷
+    whole 1002 1 call.Getppid (Error errno.Interrupted) ∷
     []

@@ -15,6 +15,12 @@ pub enum Part {
     Death,
 }
 
+impl Copying for Part {
+    fn copy(&self, _alloc: Global) -> Result<Part, NoMemory> {
+        Ok(*self)
+    }
+}
+
 /// One step of the one-kernel Unix: a process's call and its reply (this project).
 #[derive(Debug, PartialEq, Eq, Drop)]
 pub struct Entry {

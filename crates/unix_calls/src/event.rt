@@ -1,8 +1,11 @@
 use crate::entry::Entry;
 use link_plan::Fate;
 use process_machine::{Call, Reply};
-use sprite_ids::{BlockNo, CacheMode, CallKind, FileId, Kernel, Mode, Pid, StreamNo, TxNo};
+use sprite_ids::{
+    BlockNo, CacheMode, CallKind, Copying, FileId, Kernel, Mode, NoMemory, Pid, StreamNo, TxNo,
+};
 use sprite_paths::Path;
+use std::alloc::Global;
 
 /// A call of a process, for whose sake a packet goes.
 #[derive(Clone, Copy, Debug, PartialEq, Eq)]
@@ -10,6 +13,12 @@ pub struct About {
     pub pid: Pid,
     /// The process's calls are numbered from 1.
     pub number: u32,
+}
+
+impl Copying for About {
+    fn copy(&self, _alloc: Global) -> Result<About, NoMemory> {
+        Ok(*self)
+    }
 }
 
 /// What a request is for.
@@ -27,6 +36,26 @@ pub enum SendKind {
     Other,
 }
 
+impl Copying for SendKind {
+    fn copy(&self, alloc: Global) -> Result<SendKind, NoMemory> {
+        Ok(match self {
+            SendKind::Op { file } => SendKind::Op { file: *file },
+            SendKind::Fetch { file, block } => SendKind::Fetch {
+                file: *file,
+                block: *block,
+            },
+            SendKind::WriteBack { file, block } => SendKind::WriteBack {
+                file: *file,
+                block: *block,
+            },
+            SendKind::Broadcast { prefix } => SendKind::Broadcast {
+                prefix: prefix.copy(alloc)?,
+            },
+            SendKind::Other => SendKind::Other,
+        })
+    }
+}
+
 /// Why a block was dropped.
 #[derive(Clone, Copy, Debug, PartialEq, Eq)]
 pub enum DropCause {
@@ -36,6 +65,12 @@ pub enum DropCause {
     Stop,
     /// The file's version is another one.
     Version,
+}
+
+impl Copying for DropCause {
+    fn copy(&self, _alloc: Global) -> Result<DropCause, NoMemory> {
+        Ok(*self)
+    }
 }
 
 /// What a kernel did in one step of a run (this project).

@@ -6,9 +6,10 @@ ghost use Rattle.sprite_ids.specs.declared.running.Finish.TheVariants.{AllEnded}
 ghost use Rattle.unix_calls.specs.After.{legal};
 ghost use Rattle.unix_calls.specs.Output.{output_of};
 ghost use Rattle.unix_calls.specs.Lawful.{Lawful, has_joins, has_file_paths, serves_the_root, has_kernel_names, has_domains, has_starts, has_programs};
-ghost use Rattle.unix_calls.specs.ProcessExamples.{hello_cluster, hello_journal, pid_cluster, pid_journal, fork_cluster, fork_journal, kill_cluster, kill_journal, wrong_pid_journal, twice_journal, other_call_journal, ended_journal, unkilled_journal, interrupted_journal, early_wait_journal};
+ghost use Rattle.unix_calls.specs.ProcessExamples.{hello_cluster, hello_journal, pid_cluster, pid_journal, fork_cluster, fork_journal, kill_cluster, kill_journal, wrong_pid_journal, twice_journal, other_call_journal, ended_journal, unkilled_journal, interrupted_journal, early_wait_journal, kin_cluster, kin_journal, broken_off_getppid_journal};
 ghost use Rattle.unix_calls.specs.FileExamples.{file_cluster, file_journal, limit_cluster, limit_journal, append_cluster, append_journal, unreachable_cluster, unreachable_journal, names_cluster, names_journal, unwritten_journal, unreachable_read_journal, passed_limit_journal};
-ghost use Rattle.unix_calls.specs.DeviceExamples.{device_cluster, device_journal, unanswered_journal, wrong_answer_journal, no_server_journal, whole_journal};
+ghost use Rattle.unix_calls.specs.DeviceExamples.{device_cluster, device_journal, unanswered_journal, wrong_answer_journal, no_server_journal, whole_journal, dead_cluster, dead_journal};
+ghost use Rattle.unix_calls.specs.DomainExamples.{domains_cluster, domains_journal, joined_files_cluster, joined_files_journal, launch_cluster, launch_journal, not_launched_journal};
 ghost use Rattle.unix_calls.specs.LawfulExamples.{joined_cluster, twice_cluster, nothing_joined_cluster, old_joined_cluster, below_cluster, rootless_cluster, two_names_cluster, two_domains_cluster, started_on_server_cluster, unknown_program_cluster, rexec_cluster};
 
 /// A process prints a line and ends.
@@ -69,6 +70,36 @@ pub fn lists_names_in_order()
 pub fn answers_an_ask()
     ensures legal { legal device_cluster device_journal ≡ true }
     ensures output { output_of device_cluster device_journal AllEnded ≡ codes "pid 1001 m c1 exit 0\npid 1002 u c1 exit 0\n| PING\n" }
+{}
+
+/// A child kills its parent, whose wait is Interrupted, and which dies then.
+pub fn kills_its_parent()
+    ensures legal { legal kin_cluster kin_journal ≡ true }
+    ensures output { output_of kin_cluster kin_journal AllEnded ≡ codes "pid 1001 p c1 killed\npid 1002 p c1 exit 0\n" }
+{}
+
+/// An ask of a device whose master has ended is NoServer.
+pub fn asks_the_dead()
+    ensures legal { legal dead_cluster dead_journal ≡ true }
+    ensures output { output_of dead_cluster dead_journal AllEnded ≡ codes "pid 1001 m c1 exit 0\npid 1002 u c1 exit 16\n" }
+{}
+
+/// A domain is Busy for a rmdir, and a rename between two domains is XDev.
+pub fn keeps_domains_apart()
+    ensures legal { legal domains_cluster domains_journal ≡ true }
+    ensures output { output_of domains_cluster domains_journal AllEnded ≡ codes "pid 1001 p c1 exit 23\n| hi\n" }
+{}
+
+/// Two lines of the cluster file give one file.
+pub fn joins_files()
+    ensures legal { legal joined_files_cluster joined_files_journal ≡ true }
+    ensures output { output_of joined_files_cluster joined_files_journal AllEnded ≡ codes "pid 1001 p c1 exit 0\n| abcd\n" }
+{}
+
+/// A process begins another program on another host.
+pub fn begins_elsewhere()
+    ensures legal { legal launch_cluster launch_journal ≡ true }
+    ensures output { output_of launch_cluster launch_journal AllEnded ≡ codes "pid 1001 b c1 exit 0\n| b\n" }
 {}
 
 /// Not legal: a reply that is off by one.
@@ -139,6 +170,16 @@ pub fn no_dead_device_that_lives()
 /// Not legal: an operation on a device without its ask.
 pub fn no_whole_call_of_a_device()
     ensures { legal device_cluster whole_journal ≡ false }
+{}
+
+/// Not legal: a call that is broken off where a kill breaks off none of its kind.
+pub fn no_broken_off_getppid()
+    ensures { legal kin_cluster broken_off_getppid_journal ≡ false }
+{}
+
+/// Not legal: a program that goes on behind its rexec.
+pub fn no_program_past_rexec()
+    ensures { legal launch_cluster not_launched_journal ≡ false }
 {}
 
 /// Lawful: a cluster of one program, one of two programs, and one with two lines of one file.

@@ -13,8 +13,8 @@ pub use description::{Description, EvictLine, FileLine, KernelLine, ProgramLine,
 pub use entry::{Entry, Part};
 pub use event::{About, DropCause, Event, Rec, SendKind};
 pub use laws::{
-    death_is_of_killed, domain_is_longest, prefix_is_legal, refusal_changes_nothing, server_serves,
-    sizes_stay_within,
+    death_is_of_killed, domain_is_longest, ended_is_silent, lawful_begins_within, others_stay,
+    prefix_is_legal, refusal_changes_nothing, server_serves, sizes_stay_within, tests_tell,
 };
 
 #[cfg(test)]

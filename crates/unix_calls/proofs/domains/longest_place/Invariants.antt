@@ -1,4 +1,4 @@
-use Rattle.std.specs.Prelude.{drop, None}
+use Rattle.std.specs.Prelude.{drop}
 use Rattle.unix_calls.specs.Domains.{roots_of}
 use Rattle.unix_calls.proofs.DomainLaws.{Reached}
 use Rattle.unix_calls.proofs.domains.longest_place.Given as goal

@@ -1,5 +1,4 @@
-use Rattle.std.proofs.Common.{◌≡◌, ◌+◌, ◌≤◌, length, ◌∙◌, arith}
-use Rattle.unix_calls.specs.Domains.{server_of}
+use Rattle.std.proofs.Common.{◌≤◌, length, ◌∙◌, arith}
 use Rattle.unix_calls.proofs.DomainLaws.{server_is}
 use Rattle.unix_calls.proofs.description.Description.server_at.Goals as goal
 
