@@ -1,4 +1,4 @@
-ghost use Rattle.std.specs.Prelude.{IsTrue};
+ghost use Rattle.std.specs.Prelude.{IsTrue, IfSome};
 ghost use Rattle.stream_table.specs.Entries.{is_placed};
 
 use crate::end::StreamEnd;
@@ -74,7 +74,9 @@ const STEPS: [Step; 44] = [
 ];
 
 // A stream of a file of kernel 2, or the device's.
-fn stream_of(number: u32, grants: u32) -> Option<Stream> {
+fn stream_of(number: u32, grants: u32) -> Option<Stream>
+    ensures { IfSome result (λ stream. IsTrue (is_placed stream)) }
+{
     let kernel = Kernel::new(2)?;
     let object = if number == 9 {
         Object::Device(DeviceId { kernel, number })
