@@ -1,0 +1,14 @@
+use Rattle.std.proofs.Common.{Some, None, Option, ◌≡◌, true, IfSome, IsTrue, ap, sym, refl, ◌∙◌}
+use Rattle.stream_table.specs.declared.stream.Stream.{Stream}
+use Rattle.stream_table.specs.Entries.{is_of, is_placed, is_placed_in, stream_of}
+use Rattle.stream_table.proofs.FoundLaws.{placed_found}
+use Rattle.stream_table.proofs.streams.Streams.stream.Goals as goal
+
+if_placed : (o : Option Stream) → is_placed_in o ≡ true → IfSome o (λ stream. IsTrue (is_placed stream))
+if_placed (Some s) h = h
+if_placed None h = tt
+
+pub returns-clause-placed : goal.returns-clause-placed
+returns-clause-placed c =
+    let found = c.stream_of.ensures ∙ ap (λ es. stream_of es c.args.number) c.as_slice.ensures.value in
+    if_placed c.stream_of.result (ap is_placed_in found ∙ placed_found (is_of c.args.number) c.self.inside.entries.items c.self.invariant.are_placed)

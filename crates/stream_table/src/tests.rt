@@ -1,0 +1,236 @@
+ghost use Rattle.std.specs.Prelude.{IsTrue, IfSome};
+ghost use Rattle.stream_table.specs.Entries.{is_placed};
+
+use crate::end::StreamEnd;
+use crate::stream::{Carried, Place, Stream};
+use crate::streams::Streams;
+use sprite_ids::{DeviceId, FileId, Kernel, Mode, Object, Pid, StreamNo};
+use std::test::Fail;
+
+// One call, with what it must answer. Processes are 1001, 1002 and so on, streams of kernel 1 are named by their numbers;
+// stream 9 is of a device, any other of a file.
+#[derive(Clone, Copy)]
+enum Step {
+    Add(u32, u32, Result<u8, StreamEnd>),
+    Get(u32, u64, u32),
+    Dup(u32, u64, Result<u8, StreamEnd>),
+    Fork(u32, u32),
+    // The number of the stream that goes; 0 for none.
+    Close(u32, u8, u32),
+    Lock(u32, u32, bool),
+    Unlock(u32),
+    // The process that has the lock; 0 for none.
+    Holder(u32, u32),
+    Move(u32, u32),
+    // The place of the stream; None where it isn't here.
+    At(u32, Option<Place>),
+}
+
+const STEPS: [Step; 44] = [
+    Step::At(5, None),
+    Step::Get(1, 0, 0),
+    Step::Dup(1, 0, Err(StreamEnd::BadFd)),
+    Step::Add(1, 5, Ok(0)),
+    Step::Add(1, 9, Ok(1)),
+    Step::Add(1, 6, Ok(2)),
+    Step::Get(1, 0, 5),
+    Step::Get(1, 1, 9),
+    Step::Get(1, 16, 0),
+    Step::Get(1, 4294967296, 0),
+    Step::Get(2, 0, 0),
+    Step::Close(1, 1, 9),
+    Step::At(9, None),
+    Step::Close(1, 1, 0),
+    Step::Dup(1, 2, Ok(1)),
+    Step::Get(1, 1, 6),
+    Step::Close(1, 2, 0),
+    Step::Dup(1, 2, Err(StreamEnd::BadFd)),
+    Step::At(6, Some(Place::Local(0))),
+    Step::Move(6, 12),
+    Step::At(6, Some(Place::Local(12))),
+    Step::Fork(1, 2),
+    Step::Get(2, 1, 6),
+    Step::Get(2, 2, 0),
+    Step::Lock(6, 1, true),
+    Step::Lock(6, 1, true),
+    Step::Lock(6, 2, false),
+    Step::Lock(5, 2, true),
+    Step::Holder(6, 1),
+    Step::Close(1, 1, 0),
+    Step::Close(2, 1, 6),
+    Step::At(6, None),
+    Step::Lock(6, 2, false),
+    Step::Add(3, 6, Ok(0)),
+    Step::Lock(6, 3, false),
+    Step::Unlock(6),
+    Step::Lock(6, 3, true),
+    Step::Holder(6, 3),
+    Step::Unlock(8),
+    Step::Lock(8, 3, true),
+    Step::Lock(8, 4, false),
+    Step::Unlock(8),
+    Step::Lock(8, 4, true),
+    Step::At(5, Some(Place::Local(0))),
+];
+
+// A stream of a file of kernel 2, or the device's.
+fn stream_of(number: u32, grants: u32) -> Option<Stream>
+    ensures { IfSome result (λ stream. IsTrue (is_placed stream)) }
+{
+    let kernel = Kernel::new(2)?;
+    let object = if number == 9 {
+        Object::Device(DeviceId { kernel, number })
+    } else {
+        Object::File(FileId {
+            server: kernel,
+            number,
+        })
+    };
+    Some(Stream {
+        object,
+        mode: Mode::Both,
+        place: Place::Local(0),
+        grants,
+        append: false,
+    })
+}
+
+// That process of kernel 1.
+fn process(birth: u32) -> Option<Pid> {
+    Pid::new(Kernel::new(1)?, birth)
+}
+
+// That stream of kernel 1.
+fn named(number: u32) -> Option<StreamNo> {
+    let kernel = Kernel::new(1)?;
+    Some(StreamNo { kernel, number })
+}
+
+// Makes the call; true where it answers so, and None where memory is wanting.
+fn does(streams: &mut Streams, step: Step) -> Option<bool> {
+    Some(match step {
+        Step::Add(birth, number, wanted) => {
+            let stream = stream_of(number, 1)?;
+            streams.add(process(birth)?, named(number)?, stream) == wanted
+        }
+        Step::Get(birth, fd, number) => match streams.get(process(birth)?, fd) {
+            Some(known) => known.number == number,
+            None => number == 0,
+        },
+        Step::Dup(birth, fd, wanted) => streams.dup(process(birth)?, fd) == wanted,
+        Step::Fork(parent, child) => streams.fork(process(parent)?, process(child)?).is_ok(),
+        Step::Close(birth, fd, number) => match streams.close(process(birth)?, fd) {
+            Some((known, _)) => known.number == number,
+            None => number == 0,
+        },
+        Step::Lock(number, birth, wanted) => {
+            streams.lock(named(number)?, process(birth)?) == Ok(wanted)
+        }
+        Step::Unlock(number) => {
+            streams.unlock(named(number)?);
+            true
+        }
+        Step::Holder(number, birth) => streams.holder(named(number)?) == process(birth),
+        Step::Move(number, offset) => moves(streams, &named(number)?, Place::Local(offset)),
+        Step::At(number, place) => match streams.stream(named(number)?) {
+            Some(stream) => place == Some(stream.place),
+            None => place.is_none(),
+        },
+    })
+}
+
+// Moves the offset of a file's stream.
+fn moves(streams: &mut Streams, number: &StreamNo, place: Place) -> bool {
+    match streams.stream(*number) {
+        Some(stream) if matches!(stream.object, Object::File(_)) => {
+            streams.set_place(*number, place);
+            true
+        }
+        _ => false,
+    }
+}
+
+// The first step that answers otherwise.
+fn first_wrong(streams: &mut Streams) -> Option<usize> {
+    for (at, step) in STEPS.iter().enumerate() {
+        if does(streams, *step) != Some(true) {
+            return Some(at);
+        }
+    }
+    None
+}
+
+#[test]
+fn descriptors_lead_to_streams(rt: HostRuntime) -> Result<(), Fail> {
+    let mut streams = Streams::new(rt.alloc());
+    assert_eq!(rt; first_wrong(&mut streams), None);
+    for fd in 0..16 {
+        assert_eq!(rt; does(&mut streams, Step::Add(7, 5, Ok(fd))), Some(true));
+    }
+    let full = Err(StreamEnd::TooMany);
+    assert_eq!(rt; does(&mut streams, Step::Add(7, 5, full)), Some(true));
+    assert_eq!(rt; does(&mut streams, Step::Dup(7, 15, full)), Some(true));
+    Ok(())
+}
+
+// A process takes two descriptors of stream 5 and one of stream 6 along: at its new place stream 5 was here before.
+#[test]
+fn streams_move_with_a_process(rt: HostRuntime) -> Result<(), Fail> {
+    let mut streams = Streams::new(rt.alloc());
+    let pid = process(1).ok_or("process 1001")?;
+    let kernel = Kernel::new(1).ok_or("kernel 1")?;
+    let other = process(2).ok_or("process 1002")?;
+    let object = Object::File(FileId {
+        server: kernel,
+        number: 3,
+    });
+    let here = Stream {
+        object,
+        mode: Mode::Both,
+        place: Place::Local(7),
+        grants: 2,
+        append: false,
+    };
+    streams.add(other, StreamNo { kernel, number: 5 }, here)?;
+    let came = Stream {
+        object,
+        mode: Mode::Both,
+        place: Place::Shared,
+        grants: 3,
+        append: false,
+    };
+    let carried = [
+        Carried {
+            fd: 15,
+            number: StreamNo { kernel, number: 5 },
+            stream: came,
+        },
+        Carried {
+            fd: 2,
+            number: StreamNo { kernel, number: 5 },
+            stream: came,
+        },
+        Carried {
+            fd: 4,
+            number: StreamNo { kernel, number: 6 },
+            stream: here,
+        },
+    ];
+    if streams.has_descriptors(pid) || !streams.room() {
+        return Err(Fail::from("a process without descriptors"));
+    }
+    streams.put_all(pid, &carried)?;
+    assert!(rt; streams.has_descriptors(pid));
+    let five = streams
+        .stream(StreamNo { kernel, number: 5 })
+        .ok_or("stream 5")?;
+    assert!(rt; five.grants == 5 && five.place == Place::Shared);
+    let taken = streams.take_all(pid)?;
+    assert_eq!(rt; taken.len(), 3);
+    assert!(rt; taken[0].fd == 2 && taken[0].number.number == 5 && taken[0].stream.grants == 5);
+    assert!(rt; taken[1].fd == 4 && taken[1].number.number == 6 && taken[1].stream.grants == 2);
+    assert!(rt; taken[2].fd == 15 && taken[2].number.number == 5 && taken[2].stream.grants == 5);
+    assert!(rt; streams.stream(StreamNo { kernel, number: 6 }).is_none());
+    assert!(rt; streams.stream(StreamNo { kernel, number: 5 }).is_some());
+    Ok(())
+}
