@@ -100,11 +100,12 @@ is_death_part _ reply = false
 abbrev pub is_death : Entry → Bool
 is_death e = is_death_part e.part e.reply
 
--- a reply by a fault or a kill: it changes nothing but the image and the number of calls
+-- the state of an answered call
 abbrev pub state_in : Outcome → Option Unix
 state_in (Answered reply later) = Some later
 state_in other = None
 
+-- the state after a reply by a fault or a kill: it changes nothing but the image and the number of calls
 abbrev pub failed : Description → Unix → Process → Call → Reply → Option Unix
 failed c u p call (Error e) = if may_fail p call e then state_in (refuses c u p e) else None
 failed c u p call (Value a b bytes) = None

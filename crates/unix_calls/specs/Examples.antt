@@ -1,5 +1,5 @@
 -- Words for small clusters and journals.
-use Rattle.std.specs.Prelude.{ℕ, ◌+◌, List, [], ◌∷◌, ◌++◌, map, take, replicate, Some, None, codes}
+use Rattle.std.specs.Prelude.{Option, Bool, false, ℕ, ◌+◌, List, [], ◌∷◌, ◌++◌, map, take, replicate, Some, None, codes}
 use Rattle.process_machine.specs.declared.instruction.Instruction.{Instruction}
 use Rattle.process_machine.specs.declared.instruction.Instruction.TheVariants.{Sys}
 use Rattle.process_machine.specs.declared.instruction.Operand.{Operand}
@@ -14,6 +14,9 @@ use Rattle.unix_calls.specs.declared.description.ProgramLine.{ProgramLine}
 use Rattle.unix_calls.specs.declared.description.StartLine.{StartLine}
 use Rattle.unix_calls.specs.declared.entry.Entry.{Entry}
 use Rattle.unix_calls.specs.declared.entry.Part.TheVariants as part
+use Rattle.std.specs.Option.{option_map, unwrap_or}
+use Rattle.unix_calls.specs.State.{Unix, process_at}
+use Rattle.unix_calls.specs.After.{state_of, blocked}
 
 -- a system call with its operands
 abbrev pub sys : SyscallName → List Operand → Instruction
@@ -92,3 +95,11 @@ ask pid number called = record { pid = pid; number = number; part = part.Ask; ca
 
 abbrev pub done : ℕ → ℕ → Call → Reply → Entry
 done pid number called reply = record { pid = pid; number = number; part = part.Done; call = Some called; reply = Some reply }
+
+-- whether a process waits behind a journal, and nothing of its own can end that
+abbrev pub blocked_there : Description → Option Unix → ℕ → Bool
+blocked_there c None pid = false
+blocked_there c (Some u) pid = unwrap_or (option_map (blocked c u) (process_at u.processes pid)) false
+
+abbrev pub blocked_behind : Description → List Entry → ℕ → Bool
+blocked_behind c journal pid = blocked_there c (state_of c journal) pid

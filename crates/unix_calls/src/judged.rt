@@ -1,10 +1,11 @@
 //! Small histories and descriptions, each judged by the definitions: which are legal or lawful, and which are not.
 #![tactic(auto, unfolding(process_machine::specs::Runs::call_bound))]
 
-ghost use Rattle.std.specs.Prelude.{◌≡◌, true, false, codes};
+ghost use Rattle.std.specs.Prelude.{◌≡◌, true, false, codes, take};
 ghost use Rattle.sprite_ids.specs.declared.running.Finish.TheVariants.{AllEnded};
 ghost use Rattle.unix_calls.specs.After.{legal};
 ghost use Rattle.unix_calls.specs.Output.{output_of};
+ghost use Rattle.unix_calls.specs.Examples.{blocked_behind};
 ghost use Rattle.unix_calls.specs.Lawful.{Lawful, has_joins, has_file_paths, serves_the_root, has_kernel_names, has_domains, has_starts, has_programs};
 ghost use Rattle.unix_calls.specs.ProcessExamples.{hello_cluster, hello_journal, pid_cluster, pid_journal, fork_cluster, fork_journal, kill_cluster, kill_journal, wrong_pid_journal, twice_journal, other_call_journal, ended_journal, unkilled_journal, interrupted_journal, early_wait_journal, kin_cluster, kin_journal, broken_off_getppid_journal};
 ghost use Rattle.unix_calls.specs.FileExamples.{file_cluster, file_journal, limit_cluster, limit_journal, append_cluster, append_journal, unreachable_cluster, unreachable_journal, names_cluster, names_journal, unwritten_journal, unreachable_read_journal, passed_limit_journal};
@@ -180,6 +181,22 @@ pub fn no_broken_off_getppid()
 /// Not legal: a program that goes on behind its rexec.
 pub fn no_program_past_rexec()
     ensures { legal launch_cluster not_launched_journal ≡ false }
+{}
+
+/// Blocked: a parent that waits for a living child, where no kill of it is pending. Its child isn't.
+pub fn a_waiting_parent_is_blocked()
+    ensures parent { blocked_behind fork_cluster (take 1 fork_journal) 1001 ≡ true }
+    ensures child { blocked_behind fork_cluster (take 1 fork_journal) 1002 ≡ false }
+    ensures killed { blocked_behind kin_cluster (take 3 kin_journal) 1001 ≡ false }
+{}
+
+/// Blocked: a master without an ask, and an ask without an answer on a living device.
+pub fn an_unanswered_ask_is_blocked()
+    ensures master { blocked_behind device_cluster (take 2 device_journal) 1001 ≡ true }
+    ensures asked { blocked_behind device_cluster (take 3 device_journal) 1001 ≡ false }
+    ensures asker { blocked_behind device_cluster (take 4 device_journal) 1002 ≡ true }
+    ensures answered { blocked_behind device_cluster (take 5 device_journal) 1002 ≡ false }
+    ensures dead { blocked_behind dead_cluster (take 4 dead_journal) 1002 ≡ false }
 {}
 
 /// Lawful: a cluster of one program, one of two programs, and one with two lines of one file.
