@@ -1,0 +1,22 @@
+//! Remote calls between kernels, each at most once, over a link that may lose, double and delay packets (Welch 1986).
+#![tactic(auto)]
+
+mod bodies;
+mod call;
+mod calls;
+mod copies;
+mod laws;
+mod queries;
+mod receivers;
+mod results;
+mod table;
+mod wire;
+
+pub use call::{Arrival, Call, CallState, PacketCopy, Part, Receiver};
+pub use laws::{replies_come_at_most_once, requests_come_at_most_once};
+pub use results::{Delivered, Expired};
+pub use table::CallTable;
+pub use wire::Wire;
+
+#[cfg(test)]
+mod tests;
