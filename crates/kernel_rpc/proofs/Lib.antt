@@ -8,3 +8,5 @@ pub mod LandLaws
 pub mod ArrivalLaws
 pub mod BeginLaws
 pub mod RunLaws
+pub mod CauseLaws
+pub mod StayLaws

@@ -13,7 +13,10 @@ mod table;
 mod wire;
 
 pub use call::{Arrival, Call, CallState, PacketCopy, Part, Receiver};
-pub use laws::{replies_come_at_most_once, requests_come_at_most_once};
+pub use laws::{
+    given_up_for_cause, replies_come_at_most_once, requests_come_at_most_once,
+    unfinished_calls_stay,
+};
 pub use results::{Delivered, Expired};
 pub use table::CallTable;
 pub use wire::Wire;
