@@ -1,23 +1,19 @@
 -- Runs keep what holds of the wire, so calls are given up for cause; and an unfinished call stays until it is answered.
-use Rattle.std.proofs.Common.{arith, ◌≡◌, ℕ, ◌+◌, ◌≤◌, ◌==◌, Bool, true, false, ◌&&◌, ◌||◌, not, cond, List, [], ◌∷◌, ◌++◌, map, Option, Some, None, is_some, refl, sym, ap, subst, ◌∙◌}
-use Rattle.std.specs.List.{AllByRecursion, find, list_any}
-use Rattle.std.proofs.lemmas.Bool.Decides.{nat_tests}
+use Rattle.std.proofs.Common.{arith, ◌≡◌, ℕ, Bool, true, false, cond, List, [], ◌∷◌, Option, Some, None, refl, sym, subst, ◌∙◌}
 use Rattle.sprite_ids.specs.declared.TxNo.{TxNo}
 use Rattle.sprite_ids.specs.declared.Tries.{Tries}
 use Rattle.sprite_ids.specs.declared.Tries.TheVariants.{Eight, Always}
 use Rattle.link_plan.specs.declared.Fate.{Fate}
-use Rattle.kernel_rpc.specs.declared.call.Part.TheVariants.{Waiting, Holding, Silent, Answered}
 use Rattle.kernel_rpc.specs.declared.call.Arrival.{Arrival}
 use Rattle.kernel_rpc.specs.declared.call.Arrival.TheVariants.{FirstRequest, FirstReply, AskedAgain, Past}
 use Rattle.kernel_rpc.specs.declared.call.Call.{Call}
 use Rattle.kernel_rpc.specs.declared.call.PacketCopy.{PacketCopy}
-use Rattle.kernel_rpc.specs.Lists.{changed, dropped}
-use Rattle.kernel_rpc.specs.Machine.{Machine, answer, answered, arrival, begun, call_of, copy_of, delivered_as, further, gave_up, idle, is_call, is_copy, is_due, is_last, is_last_of, landed, may_expire, may_fire, new_call, replied, resent, silent, tried}
-use Rattle.kernel_rpc.specs.Links.{AsksAll, AsksBack}
+use Rattle.kernel_rpc.specs.Machine.{Machine, arrival, call_of, copy_of, delivered_as, gave_up, idle, is_call, is_due, is_last, is_last_of, landed, may_fire, resent, silent}
+use Rattle.kernel_rpc.specs.Links.{AsksBack}
 use Rattle.kernel_rpc.specs.Sound.{IsSound, Sound}
-use Rattle.kernel_rpc.specs.Runs.{Act, Begin, Deliver, Answer, Silence, Expire, AsksAgain, AsksOn, AsksUnless, Counts, EachForCause, GivenUpForCause, GivesUpForCause, IsForCause, IsRun, MayAct, MayDeliver, StaysUntilAnswered, after, delivered_by, expired_by, gives_up, gives_up_by, hands_reply, is_first_reply, is_reply_to}
+use Rattle.kernel_rpc.specs.Runs.{Act, Begin, Deliver, Answer, Silence, Expire, AsksAgain, AsksOn, AsksUnless, Counts, EachForCause, GivenUpForCause, GivesUpForCause, IsForCause, IsRun, MayAct, MayDeliver, after, delivered_by, expired_by}
 use Rattle.kernel_rpc.proofs.ArrivalLaws.{asked_again, first_request}
-use Rattle.kernel_rpc.proofs.BeginLaws.{before_last, kernels_fresh, may_answer_held, may_be_silent_apart, may_expire_due}
+use Rattle.kernel_rpc.proofs.BeginLaws.{before_last, kernels_fresh, may_answer_held, may_be_silent_apart}
 use Rattle.kernel_rpc.proofs.LandLaws.{answer_sound, flying_is, give_up_sound, past_sound, silent_sound, take_again_sound, take_reply_sound, take_request_sound}
 use Rattle.kernel_rpc.proofs.PartLaws.{eq_turned}
 use Rattle.kernel_rpc.proofs.SoundLaws.{begin_sound, due_spent, found_sound, resend_sound}

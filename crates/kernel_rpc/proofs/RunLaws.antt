@@ -1,8 +1,8 @@
 -- Requests and replies are handed out at most once in a run.
-use Rattle.std.proofs.Common.{rules, tests, arith, ◌≡◌, ℕ, ◌+◌, ◌*◌, ◌<◌, ◌≤◌, ◌==◌, nat_lt, Bool, true, false, ◌&&◌, ◌||◌, not, cond, List, [], ◌∷◌, ◌++◌, map, Option, Some, None, option_map, is_some, refl, sym, ap, subst, ◌∙◌}
-use Rattle.std.specs.List.{AllByRecursion, find, list_any}
+use Rattle.std.proofs.Common.{arith, ◌≡◌, ℕ, ◌+◌, ◌≤◌, ◌==◌, nat_lt, Bool, true, false, ◌&&◌, ◌||◌, cond, List, [], ◌∷◌, ◌++◌, Option, Some, None, option_map, refl, sym, ap, subst, ◌∙◌}
+use Rattle.std.specs.List.{find, list_any}
 use Rattle.std.proofs.lemmas.Bool.Decides.{nat_tests}
-use Rattle.std.proofs.lemmas.Bool.{and_parts, eqb-true}
+use Rattle.std.proofs.lemmas.Bool.{eqb-true}
 use Rattle.sprite_ids.specs.declared.TxNo.{TxNo}
 use Rattle.sprite_ids.proofs.ListLaws.{some_is}
 use Rattle.link_plan.specs.declared.Fate.{Fate}
@@ -14,12 +14,12 @@ use Rattle.kernel_rpc.specs.declared.call.Call.{Call}
 use Rattle.kernel_rpc.specs.declared.call.PacketCopy.{PacketCopy}
 use Rattle.kernel_rpc.specs.declared.call.Receiver.{Receiver}
 use Rattle.kernel_rpc.specs.Lists.{changed, dropped}
-use Rattle.kernel_rpc.specs.Machine.{Machine, gave_up, new_call, answered, arrival, begun, call_of, copy_of, delivered, delivered_as, further, idle, is_call, is_last, landed, part_of, replied, resent, tried, with_part}
+use Rattle.kernel_rpc.specs.Machine.{Machine, gave_up, new_call, answered, arrival, begun, call_of, copy_of, delivered_as, further, idle, is_call, is_last, landed, part_of, replied, resent, tried, with_part}
 use Rattle.kernel_rpc.specs.Sound.{IsNumbered}
 use Rattle.kernel_rpc.specs.Runs.{Act, Begin, Deliver, Answer, Silence, Expire, Counts, RepliesAtMostOnce, RequestsAtMostOnce, after, delivered_by, expired_by, hands_reply, hands_request, is_first_reply, is_first_request, is_reply_to, is_request_to, once_if, times_replied, times_requested}
 use Rattle.kernel_rpc.proofs.ArrivalLaws.{first_request, first_reply}
 use Rattle.kernel_rpc.proofs.NumberLaws.{later_none, numbered_changed, numbered_dropped, numbered_push}
-use Rattle.kernel_rpc.proofs.PartLaws.{part_further, part_stays}
+use Rattle.kernel_rpc.proofs.PartLaws.{part_further}
 use Rattle.kernel_rpc.proofs.SoundLaws.{found_is, found_within}
 
 -- what is left to be handed out by the call of that number, by what is left of a call

@@ -1,5 +1,5 @@
 -- An unfinished call stays until it is answered or given up.
-use Rattle.std.proofs.Common.{arith, ◌≡◌, ℕ, ◌+◌, ◌==◌, Bool, true, false, ◌&&◌, cond, List, [], ◌∷◌, ◌++◌, Option, Some, None, is_some, refl, sym, ap, subst, ◌∙◌}
+use Rattle.std.proofs.Common.{◌≡◌, ℕ, ◌==◌, Bool, true, false, ◌&&◌, cond, List, [], ◌∷◌, ◌++◌, Option, Some, None, is_some, refl, sym, ap, subst, ◌∙◌}
 use Rattle.std.specs.List.{find}
 use Rattle.std.proofs.lemmas.Bool.{eqb-true}
 use Rattle.sprite_ids.specs.declared.TxNo.{TxNo}
@@ -11,7 +11,7 @@ use Rattle.kernel_rpc.specs.declared.call.Call.{Call}
 use Rattle.kernel_rpc.specs.declared.call.PacketCopy.{PacketCopy}
 use Rattle.kernel_rpc.specs.Lists.{changed, dropped}
 use Rattle.kernel_rpc.specs.Machine.{Machine, answered, arrival, call_of, copy_of, delivered_as, further, gave_up, is_call, is_last, landed, new_call, replied, resent, tried}
-use Rattle.kernel_rpc.specs.Runs.{Act, Begin, Deliver, Answer, Silence, Expire, StaysUntilAnswered, after, delivered_by, expired_by, gives_up, gives_up_by, hands_reply, is_first_reply, is_reply_to}
+use Rattle.kernel_rpc.specs.Runs.{Begin, Deliver, Answer, Silence, Expire, StaysUntilAnswered, delivered_by, expired_by, gives_up_by, is_first_reply, is_reply_to}
 
 -- whether one of the calls has the number
 abbrev is_open : ℕ → List Call → Bool

@@ -9,3 +9,4 @@ pub mod Results
 pub mod Servers
 pub mod States
 pub mod Runs
+pub mod Ports

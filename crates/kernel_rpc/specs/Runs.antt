@@ -1,17 +1,17 @@
 -- Runs of the wire: any list of its calls, over any link.
-use Rattle.std.specs.Prelude.{◌≡◌, ◌⊎◌, ℕ, ◌+◌, ◌≤◌, ◌==◌, Bool, true, false, ◌&&◌, if◌then◌else◌, List, [], ◌∷◌, map, Option, Some, None, is_some}
-use Rattle.std.specs.List.{AllByRecursion, list_any}
+use Rattle.std.specs.Prelude.{◌≡◌, ℕ, ◌+◌, ◌≤◌, ◌==◌, Bool, true, false, ◌&&◌, if◌then◌else◌, List, [], ◌∷◌, map, Option, Some, None, is_some}
+use Rattle.std.specs.List.{list_any}
 use Rattle.sprite_ids.specs.declared.TxNo.{TxNo}
 use Rattle.sprite_ids.specs.declared.CopyNo.{CopyNo}
 use Rattle.sprite_ids.specs.declared.Tries.{Tries}
-use Rattle.sprite_ids.specs.declared.Tries.TheVariants.{Eight, Always}
+use Rattle.sprite_ids.specs.declared.Tries.TheVariants.{Eight}
 use Rattle.link_plan.specs.declared.Fate.{Fate}
-use Rattle.link_plan.specs.Counts.{Asks, IsAsked}
+use Rattle.link_plan.specs.Counts.{Asks}
 use Rattle.kernel_rpc.specs.declared.call.Arrival.{Arrival}
 use Rattle.kernel_rpc.specs.declared.call.Arrival.TheVariants.{FirstRequest, FirstReply, AskedAgain, Past}
 use Rattle.kernel_rpc.specs.declared.call.Call.{Call}
 use Rattle.kernel_rpc.specs.declared.call.PacketCopy.{PacketCopy}
-use Rattle.kernel_rpc.specs.Machine.{Machine, answer, arrival, begun, call_of, copy_of, delivered, gave_up, idle, is_call, is_free, is_last, is_taken, may_answer, may_be_silent, may_expire, new_call, resent, silent}
+use Rattle.kernel_rpc.specs.Machine.{Machine, answer, arrival, begun, call_of, copy_of, delivered, gave_up, idle, is_free, is_last, may_answer, may_be_silent, may_expire, new_call, resent, silent}
 use Rattle.kernel_rpc.specs.Links.{AsksAll, AsksBack}
 use Rattle.kernel_rpc.specs.Servers.{AreApart}
 

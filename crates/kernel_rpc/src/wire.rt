@@ -1,4 +1,4 @@
-ghost use Rattle.std.specs.Prelude.{◌≡◌, ◌≢◌, ◌≤◌, ◌<◌, ◌+◌, ◌==◌, ◌∷◌, [], Some, true, false, IfOk, IfErr, IsOk, OnOk, OnErr, IsTrue, IsSome, is_some, length, map, option_map};
+ghost use Rattle.std.specs.Prelude.{◌≡◌, ◌≢◌, ◌≤◌, ◌<◌, ◌+◌, ◌==◌, ◌∷◌, [], Some, true, false, IfOk, IfErr, IfSome, IfNone, IsOk, OnOk, OnErr, IsTrue, IsSome, is_some, length, map, option_map};
 ghost use Rattle.std.specs.List.{filter, find, list_any};
 ghost use Rattle.std.specs.Vec.{vec_capacity};
 ghost use Rattle.sprite_ids.specs.declared.Tries.TheVariants.{Eight};
@@ -8,6 +8,7 @@ ghost use Rattle.kernel_rpc.specs.Links.{AsksAll, AsksBack};
 ghost use Rattle.kernel_rpc.specs.Results.{Delivers, Expires};
 ghost use Rattle.kernel_rpc.specs.Servers.{AreApart, pairs};
 ghost use Rattle.kernel_rpc.specs.States.{state_of};
+ghost use Rattle.kernel_rpc.specs.Ports.{AreUsed};
 
 use crate::bodies::{reply_of, request_of};
 use crate::call::{Arrival, Call, CallState, Part, Receiver};
@@ -321,6 +322,21 @@ impl<M: Message + Drop, L: Link> Wire<M, L> {
         ensures { result ≡ is_free self.now.machine kernel port }
     {
         !is_used(self.table.unfinished.as_slice(), kernel, port)
+    }
+
+    /// The least port at which the kernel has no unfinished call; None only where it has one at each port below
+    /// 4,294,967,295.
+    pub fn free_port(&self, kernel: Kernel) -> Option<u32>
+        ensures free { IfSome result (λ port. is_free self.now.machine kernel port ≡ true) }
+        ensures least { IfSome result (λ port. AreUsed self.now.machine kernel port) }
+        ensures none { IfNone result (AreUsed self.now.machine kernel 4294967295) }
+    {
+        for port in 0..u32::MAX {
+            if self.is_free(kernel, port) {
+                return Some(port);
+            }
+        }
+        None
     }
 
     /// Whether the owner of the call has its request, and so may answer.
