@@ -1,9 +1,11 @@
 //! Where the bytes come from and where they go: sources and sinks that may fail, in memory and over std's readers and
-//! writers, and the two calls that read all of a source and write all of some bytes.
+//! writers, and the two calls that read all of a source and write all of some bytes. And what values that travel as bytes
+//! are: messages, with one spelling each.
 #![tactic(auto)]
 
 mod calls;
 mod failed;
+mod message;
 mod null_sink;
 mod plain_source;
 mod read_end;
@@ -18,6 +20,7 @@ mod write_end;
 mod writing;
 
 pub use failed::Failed;
+pub use message::Message;
 pub use null_sink::NullSink;
 pub use plain_source::PlainSource;
 pub use read_end::ReadEnd;

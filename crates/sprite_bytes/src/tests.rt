@@ -1,6 +1,7 @@
 ghost use Rattle.std.specs.Prelude.{◌≤◌};
 
 use crate::failed::Failed;
+use crate::message::Message;
 use crate::null_sink::NullSink;
 use crate::plain_source::PlainSource;
 use crate::read_end::ReadEnd;
@@ -13,6 +14,7 @@ use crate::source_memory::MemSource;
 use crate::source_std::StdSource;
 use crate::write_end::WriteEnd;
 use crate::writing::write_all;
+use sprite_ids::Bytes;
 use std::alloc::{AllocError, Global};
 use std::io;
 use std::io::{ErrorKind, Read, Write};
@@ -291,5 +293,14 @@ fn std_writers_are_sinks(rt: HostRuntime) -> Result<(), Fail> {
     }
     let mut faulty = StdSink::new(Faulty { calls: 0 });
     assert_eq!(rt; write_all(&mut faulty, b"abcd"), Err(stopped(1)));
+    Ok(())
+}
+
+#[test]
+fn a_message_is_read_again(rt: HostRuntime) -> Result<(), Fail> {
+    let alloc = rt.alloc();
+    let message = Bytes::of_slice(alloc, b"ask")?;
+    let bytes = message.spell(alloc)?;
+    assert_eq!(rt; Bytes::read(alloc, bytes.as_slice())?, Some(message));
     Ok(())
 }

@@ -1,0 +1,12 @@
+pub mod FirstLaws
+pub mod SendLaws
+pub mod NumberLaws
+pub mod CopyLaws
+pub mod PartLaws
+pub mod SoundLaws
+pub mod LandLaws
+pub mod ArrivalLaws
+pub mod BeginLaws
+pub mod RunLaws
+pub mod CauseLaws
+pub mod StayLaws

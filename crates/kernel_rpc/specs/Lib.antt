@@ -1,0 +1,12 @@
+pub mod Lists
+pub mod Copies
+pub mod Machine
+pub mod Table
+pub mod Links
+pub mod Bodies
+pub mod Sound
+pub mod Results
+pub mod Servers
+pub mod States
+pub mod Runs
+pub mod Ports

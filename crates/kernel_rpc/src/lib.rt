@@ -1,0 +1,25 @@
+//! Remote calls between kernels, each at most once, over a link that may lose, double and delay packets (Welch 1986).
+#![tactic(auto)]
+
+mod bodies;
+mod call;
+mod calls;
+mod copies;
+mod laws;
+mod queries;
+mod receivers;
+mod results;
+mod table;
+mod wire;
+
+pub use call::{Arrival, Call, CallState, PacketCopy, Part, Receiver};
+pub use laws::{
+    given_up_for_cause, replies_come_at_most_once, requests_come_at_most_once,
+    unfinished_calls_stay,
+};
+pub use results::{Delivered, Expired};
+pub use table::CallTable;
+pub use wire::Wire;
+
+#[cfg(test)]
+mod tests;

@@ -1,0 +1,161 @@
+ghost use Rattle.std.specs.Prelude.{◌≡◌, ◌==◌, IfOk, is_some, map};
+ghost use Rattle.std.specs.List.{filter, list_any};
+ghost use Rattle.kernel_rpc.specs.Machine.{holds, is_at_port, is_due, is_due_at, is_punctual, is_taken, may_come, part_of};
+ghost use Rattle.kernel_rpc.specs.States.{state_in, state_past, was_begun};
+
+use crate::call::{Call, CallState, PacketCopy};
+use crate::calls::is_taken;
+use crate::copies::is_flying;
+use crate::receivers::{is_holding, part_of};
+use crate::table::CallTable;
+use sprite_ids::{CopyNo, Kernel, NoMemory, TxNo};
+use std::alloc::Global;
+
+// The copies for the kernel that may come next.
+pub(crate) fn offered(
+    alloc: Global,
+    copies: &[PacketCopy],
+    kernel: Kernel,
+) -> Result<Vec<CopyNo>, NoMemory>
+    ensures { IfOk result (λ found. found.items ≡ map (λ copy. copy.number) (filter (may_come kernel (list_any (is_punctual kernel) copies.now)) copies.now)) }
+{
+    offered_by(alloc, copies, kernel, has_punctual(copies, kernel))
+}
+
+// The copies for the kernel that may come next, by whether one for it isn't late.
+fn offered_by(
+    alloc: Global,
+    copies: &[PacketCopy],
+    kernel: Kernel,
+    punctual: bool,
+) -> Result<Vec<CopyNo>, NoMemory>
+    ensures { IfOk result (λ found. found.items ≡ map (λ copy. copy.number) (filter (may_come kernel punctual) copies.now)) }
+{
+    let mut found = Vec::new(alloc);
+    for copy in copies {
+        if may_come(kernel, punctual, copy) {
+            found.push(copy.number)?;
+        }
+    }
+    Ok(found)
+}
+
+// Whether the copy is for the kernel and isn't late.
+fn is_punctual(kernel: Kernel, copy: &PacketCopy) -> bool
+    ensures { result ≡ is_punctual kernel copy.now }
+{
+    copy.to == kernel && !copy.late
+}
+
+// Whether the copy may come to the kernel next, by whether one for it isn't late.
+fn may_come(kernel: Kernel, punctual: bool, copy: &PacketCopy) -> bool
+    ensures { result ≡ may_come kernel punctual copy.now }
+{
+    copy.to == kernel && (!copy.late || !punctual)
+}
+
+// Whether a copy for the kernel isn't late.
+fn has_punctual(copies: &[PacketCopy], kernel: Kernel) -> bool
+    ensures { result ≡ list_any (is_punctual kernel) copies.now }
+{
+    for copy in copies {
+        if is_punctual(kernel, copy) {
+            return true;
+        }
+    }
+    false
+}
+
+// Whether one of the calls is of that kernel and port.
+pub(crate) fn is_used(calls: &[Call], kernel: Kernel, port: u32) -> bool
+    ensures { result ≡ list_any (is_at_port kernel port) calls.now }
+{
+    for call in calls {
+        if is_at_port(kernel, port, call) {
+            return true;
+        }
+    }
+    false
+}
+
+// Whether the call is one of that kernel and port.
+fn is_at_port(kernel: Kernel, port: u32, call: &Call) -> bool
+    ensures { result ≡ is_at_port kernel port call.now }
+{
+    call.from == kernel && call.port == port
+}
+
+// Whether the timer of the call may fire.
+pub(crate) fn is_due(copies: &[PacketCopy], call: &Call) -> bool
+    ensures { result ≡ is_due copies.now call.now }
+{
+    !is_flying(copies, call.tx) && !is_taken(call)
+}
+
+// The calls of the kernel whose timer may fire.
+pub(crate) fn due_of(
+    alloc: Global,
+    calls: &[Call],
+    copies: &[PacketCopy],
+    kernel: Kernel,
+) -> Result<Vec<TxNo>, NoMemory>
+    ensures { IfOk result (λ found. found.items ≡ map (λ call. call.tx) (filter (is_due_at kernel copies.now) calls.now)) }
+{
+    let mut found = Vec::new(alloc);
+    for call in calls {
+        if call.from == kernel && is_due(copies, call) {
+            found.push(call.tx)?;
+        }
+    }
+    Ok(found)
+}
+
+// Whether the kernel has the request of the call.
+pub(crate) fn has_request(call: &Call, kernel: Kernel) -> bool
+    ensures { result ≡ holds (part_of kernel call.now.receivers) }
+{
+    match part_of(call.receivers.as_slice(), kernel) {
+        Some(part) => is_holding(part),
+        None => false,
+    }
+}
+
+// How an unfinished call stands.
+pub(crate) fn state_in(call: &Call) -> CallState
+    ensures { result ≡ state_in (is_some call.now.reply) (is_taken call.now) }
+{
+    if call.reply.is_some() {
+        CallState::Answered
+    } else if is_taken(call) {
+        CallState::Taken
+    } else {
+        CallState::Sent
+    }
+}
+
+// How a call stands that isn't among the unfinished ones.
+pub(crate) fn state_past(table: &CallTable, tx: TxNo) -> Option<CallState>
+    ensures { result ≡ state_past (list_any (λ given. given.0 == tx.0) table.now.given_up.items) (was_begun table.now.begun tx) }
+{
+    if was_given_up(table.given_up.as_slice(), tx) {
+        return Some(CallState::GivenUp);
+    }
+    if was_begun(table.begun, tx) {
+        return Some(CallState::Done);
+    }
+    None
+}
+
+// Whether the call is among those that were given up.
+fn was_given_up(given_up: &[TxNo], tx: TxNo) -> bool
+    ensures { result ≡ list_any (λ given. given.0 == tx.0) given_up.now }
+{
+    given_up.iter().any(|given| *given == tx)
+}
+
+// Whether a call of that number is one of so many.
+fn was_begun(begun: u32, tx: TxNo) -> bool
+    ensures { result ≡ was_begun begun tx }
+{
+    1 <= tx.0 && tx.0 <= begun
+}

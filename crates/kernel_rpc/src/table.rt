@@ -1,0 +1,276 @@
+ghost use Rattle.std.specs.Prelude.{◌≡◌, ◌≤◌, ◌<◌, ◌+◌, ◌*◌, ◌^◌, ◌++◌, ◌∷◌, [], Some, IfOk, OnOk, OnErr, IsTrue, IsSome, length, map, option_map};
+ghost use Rattle.std.specs.List.{find};
+ghost use Rattle.std.specs.Vec.{vec_capacity, vec_len};
+ghost use Rattle.link_plan.specs.Counts.{Asks, IsAsked};
+ghost use Rattle.kernel_rpc.specs.Machine.{answer, arrival_again, arrival_at, arrival_of, begun, delivered_as, gave_up, call_of, idle, is_call, landed, replied, reply_to, request, resent};
+ghost use Rattle.link_plan.specs.declared.Fate.TheVariants.{Once};
+ghost use Rattle.kernel_rpc.specs.declared.call.Arrival.TheVariants.{FirstRequest, FirstReply, AskedAgain};
+ghost use Rattle.kernel_rpc.specs.Links.{AsksAll, AsksBack};
+ghost use Rattle.kernel_rpc.specs.Table.{machine_of};
+
+use crate::call::{Arrival, Call, PacketCopy, Part};
+use crate::calls::{find_call, finish, set_answered, set_further, set_tried};
+use crate::copies::{land, make_room, send, send_to};
+use crate::receivers::part_of;
+use link_plan::{Fate, Link};
+use sprite_ids::{Bytes, CopyNo, Kernel, NoMemory, TxNo};
+use std::alloc::Global;
+
+/// The calls that aren't finished and the copies in flight.
+#[derive(Debug, Drop)]
+pub struct CallTable {
+    /// How many calls were begun.
+    pub begun: u32,
+    /// In ascending order of their numbers.
+    pub unfinished: Vec<Call>,
+    /// The calls that were given up, in this order.
+    pub given_up: Vec<TxNo>,
+    /// In the order of sending.
+    pub copies: Vec<PacketCopy>,
+    /// At least 1, and greater than the number of every copy so far.
+    pub next_copy: u64,
+}
+
+impl CallTable {
+    // No calls.
+    pub(crate) fn new(alloc: Global) -> CallTable
+        ensures { machine_of result ≡ idle }
+    {
+        CallTable {
+            begun: 0,
+            unfinished: Vec::new(alloc),
+            given_up: Vec::new(alloc),
+            copies: Vec::new(alloc),
+            next_copy: 1,
+        }
+    }
+}
+
+// The packet of a call's request to one of its receivers.
+fn request(call: &Call, number: u64, to: Kernel) -> PacketCopy
+    ensures { result ≡ request call.now number to }
+{
+    PacketCopy {
+        number: CopyNo(number),
+        tx: call.tx,
+        from: call.from,
+        to,
+        reply: false,
+        late: false,
+        about: call.about,
+    }
+}
+
+// The packet of a call's reply.
+fn reply_to(call: &Call, number: u64) -> PacketCopy
+    ensures { result ≡ reply_to call.now number }
+{
+    PacketCopy {
+        number: CopyNo(number),
+        tx: call.tx,
+        from: call.owner,
+        to: call.from,
+        reply: true,
+        late: false,
+        about: call.about,
+    }
+}
+
+// What a request is to a receiver, by how far that is and by the kept reply.
+fn arrival_at(part: Option<Part>, reply: &Option<Bytes>) -> Arrival
+    ensures { result ≡ arrival_at part reply.now }
+{
+    match part {
+        Some(Part::Waiting) => Arrival::FirstRequest,
+        Some(Part::Answered) => arrival_again(reply),
+        Some(Part::Holding) | Some(Part::Silent) | None => Arrival::Past,
+    }
+}
+
+// What a request is to a receiver that has answered, by the kept reply.
+fn arrival_again(reply: &Option<Bytes>) -> Arrival
+    ensures { result ≡ arrival_again reply.now }
+{
+    match reply {
+        Some(_) => Arrival::AskedAgain,
+        None => Arrival::Past,
+    }
+}
+
+// What a copy in flight is to its receiver.
+pub(crate) fn arrival(calls: &[Call], copy: &PacketCopy) -> Arrival
+    ensures { result ≡ arrival_of copy.now (find (is_call copy.now.tx) calls.now) }
+{
+    match find_call(calls, copy.tx) {
+        None => Arrival::Past,
+        Some(call) => arrival_to(call, copy),
+    }
+}
+
+// What a copy of an unfinished call is to its receiver.
+fn arrival_to(call: &Call, copy: &PacketCopy) -> Arrival
+    ensures { result ≡ arrival_of copy.now (Some call.now) }
+{
+    if !copy.reply {
+        let part = part_of(call.receivers.as_slice(), copy.to);
+        return arrival_at(part, &call.reply);
+    }
+    match call.reply {
+        Some(_) => Arrival::FirstReply,
+        None => Arrival::Past,
+    }
+}
+
+// The copy came to a receiver that had no copy of the request.
+pub(crate) fn take_request(table: &mut CallTable, copy: &PacketCopy)
+    ensures { machine_of table.new ≡ delivered_as FirstRequest copy.now Once (landed copy.now (machine_of table.old)) }
+{
+    set_further(&mut table.unfinished, copy.tx, copy.to, Part::Holding);
+    land(&mut table.copies, copy.number);
+}
+
+// The copy came to a caller that had no copy of the reply.
+pub(crate) fn take_reply(table: &mut CallTable, copy: &PacketCopy)
+    ensures { machine_of table.new ≡ delivered_as FirstReply copy.now Once (landed copy.now (machine_of table.old)) }
+{
+    finish(&mut table.unfinished, copy.tx);
+    land(&mut table.copies, copy.number);
+}
+
+// The copy came to a receiver that has answered; the reply is sent again. Answers its fate.
+pub(crate) fn take_again<L: Link>(
+    table: &mut CallTable,
+    link: &mut L,
+    copy: &PacketCopy,
+) -> Result<Fate, NoMemory>
+    requires { IsSome (call_of (machine_of table.old) copy.now.tx) }
+    ensures link { IfOk result (λ answer. AsksBack L.faults L.asked link.old link.new answer (call_of (machine_of table.old) copy.now.tx)) }
+    ensures ok { IfOk result (λ answer. machine_of table.new ≡ delivered_as AskedAgain copy.now answer (landed copy.now (machine_of table.old))) }
+    ensures err { OnErr result (machine_of table.new ≡ machine_of table.old) }
+    ensures asks_nothing { OnErr result (link.new ≡ link.old) }
+{
+    make_room(&mut table.copies, table.next_copy, 1)?;
+    land(&mut table.copies, copy.number);
+    Ok(reply(table, link, copy.tx))
+}
+
+// The owner of a call answered, and the reply is sent. Answers its fate.
+pub(crate) fn answer<L: Link>(
+    table: &mut CallTable,
+    link: &mut L,
+    tx: TxNo,
+    bytes: Bytes,
+) -> Result<Fate, NoMemory>
+    requires { IsSome (call_of (machine_of table.old) tx) }
+    ensures link { IfOk result (λ fate. AsksBack L.faults L.asked link.old link.new fate (call_of (machine_of table.old) tx)) }
+    ensures ok { IfOk result (λ fate. machine_of table.new ≡ answer tx bytes fate (machine_of table.old)) }
+    ensures err { OnErr result (machine_of table.new ≡ machine_of table.old) }
+    ensures asks_nothing { OnErr result (link.new ≡ link.old) }
+{
+    make_room(&mut table.copies, table.next_copy, 1)?;
+    let fate = reply(table, link, tx);
+    set_answered(&mut table.unfinished, tx, bytes);
+    Ok(fate)
+}
+
+// The call was given up.
+pub(crate) fn give_up(table: &mut CallTable, tx: TxNo) -> Result<(), NoMemory>
+    ensures ok { OnOk result (machine_of table.new ≡ gave_up tx (machine_of table.old)) }
+    ensures err { OnErr result (machine_of table.new ≡ machine_of table.old) }
+{
+    table.given_up.extend_from_slice(&[tx])?;
+    finish(&mut table.unfinished, tx);
+    Ok(())
+}
+
+// Lists a call that is begun, for which there is room.
+fn list(calls: &mut Vec<Call>, call: Call)
+    requires { vec_len calls.old < vec_capacity calls.old }
+    ensures { calls.new.items ≡ calls.old.items ++ call ∷ [] }
+{
+    match calls.push(call) {
+        Ok(()) => {}
+        Err(_) => unreachable!(),
+    }
+}
+
+// Begins the call, and sends its request to its receivers in turn. Answers these with the fates of their packets.
+pub(crate) fn begin<L: Link>(
+    table: &mut CallTable,
+    alloc: Global,
+    link: &mut L,
+    call: Call,
+) -> Result<Vec<(Kernel, Fate)>, NoMemory>
+    requires { table.old.begun < 4294967295 }
+    ensures ok { IfOk result (λ sent. machine_of table.new ≡ begun call sent.items (machine_of table.old)) }
+    ensures receivers { IfOk result (λ sent. map (λ packet. packet.0) sent.items ≡ map (λ receiver. receiver.kernel) call.receivers) }
+    ensures link { IfOk result (λ sent. Asks L.faults L.asked call.from link.old link.new sent.items) }
+    ensures err { OnErr result (machine_of table.new ≡ machine_of table.old) }
+    ensures asks_nothing { OnErr result (link.new ≡ link.old) }
+{
+    let count = call.receivers.len();
+    make_room(&mut table.copies, table.next_copy, count)?;
+    table.unfinished.reserve(1)?;
+    let mut sent = Vec::with_capacity(alloc, count)?;
+    let packet = request(&call, table.next_copy, call.owner);
+    send_to(
+        link,
+        &mut table.copies,
+        &packet,
+        call.receivers.as_slice(),
+        &mut sent,
+    );
+    table.next_copy += 2 * (count as u64);
+    table.begun += 1;
+    list(&mut table.unfinished, call);
+    Ok(sent)
+}
+
+// Sends the request of an unfinished call again to its receivers in turn, after a lost try that wasn't the last one. Answers
+// these with the fates of their packets.
+pub(crate) fn resend<L: Link>(
+    table: &mut CallTable,
+    alloc: Global,
+    link: &mut L,
+    tx: TxNo,
+) -> Result<Vec<(Kernel, Fate)>, NoMemory>
+    requires { IsSome (call_of (machine_of table.old) tx) }
+    ensures link { IfOk result (λ sent. AsksAll L.faults L.asked link.old link.new sent.items (call_of (machine_of table.old) tx)) }
+    ensures ok { IfOk result (λ sent. machine_of table.new ≡ resent tx (call_of (machine_of table.old) tx) sent.items (machine_of table.old)) }
+    ensures err { OnErr result (machine_of table.new ≡ machine_of table.old) }
+    ensures asks_nothing { OnErr result (link.new ≡ link.old) }
+{
+    let Some(call) = find_call(table.unfinished.as_slice(), tx) else {
+        unreachable!();
+    };
+    let count = call.receivers.len();
+    make_room(&mut table.copies, table.next_copy, count)?;
+    let mut sent = Vec::with_capacity(alloc, count)?;
+    let packet = request(call, table.next_copy, call.owner);
+    send_to(
+        link,
+        &mut table.copies,
+        &packet,
+        call.receivers.as_slice(),
+        &mut sent,
+    );
+    table.next_copy += 2 * (count as u64);
+    set_tried(&mut table.unfinished, tx);
+    Ok(sent)
+}
+
+// Sends the reply of an unfinished call, for which there is room. Answers its fate.
+pub(crate) fn reply<L: Link>(table: &mut CallTable, link: &mut L, tx: TxNo) -> Fate
+    requires is_there { IsSome (call_of (machine_of table.old) tx) }
+    requires room { vec_len table.old.copies + 2 ≤ vec_capacity table.old.copies }
+    requires number { table.old.next_copy + 2 < 2 ^ 64 }
+    ensures link { AsksBack L.faults L.asked link.old link.new result (call_of (machine_of table.old) tx) }
+    ensures machine { machine_of table.new ≡ replied (call_of (machine_of table.old) tx) result (machine_of table.old) }
+{
+    let Some(call) = find_call(table.unfinished.as_slice(), tx) else {
+        unreachable!();
+    };
+    let packet = reply_to(call, table.next_copy);
+    table.next_copy += 2;
+    send(link, &mut table.copies, &packet)
+}

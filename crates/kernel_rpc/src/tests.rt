@@ -1,0 +1,185 @@
+use crate::results::{Delivered, Expired};
+use crate::wire::Wire;
+use link_plan::{Fate, Link, Plan, PlanEntry, PlanLink};
+use sprite_ids::{Bytes, CopyNo, Items, Kernel, Tries, TxNo};
+use std::alloc::Global;
+use std::test::Fail;
+
+// What is done to the wire. Kernel 1 calls, and kernel 2 answers.
+#[derive(Clone, Copy)]
+enum Act {
+    // Begins a call of so many tries.
+    Begin(Tries),
+    // Takes the copy of that number to its receiver.
+    Deliver(u64),
+    // Answers the call of that number.
+    Answer(u32),
+    // The timer of the call of that number fires.
+    Expire(u32),
+    // Asks how many copies may come to kernel 2.
+    Offered,
+}
+
+// What is then seen.
+#[derive(Clone, Copy, PartialEq, Eq)]
+enum Seen {
+    Sent(Fate),
+    Request,
+    Reply,
+    Again(Fate),
+    Old,
+    GivenUp(u64, u64),
+    Copies(usize),
+}
+
+// The first reply is lost, and the second packet of kernel 1 is doubled.
+const REPEATED: [(Act, Seen); 12] = [
+    (Act::Begin(Tries::Always), Seen::Sent(Fate::Once)),
+    (Act::Offered, Seen::Copies(1)),
+    (Act::Deliver(1), Seen::Request),
+    (Act::Answer(1), Seen::Sent(Fate::Lost)),
+    (Act::Expire(1), Seen::Sent(Fate::Twice)),
+    (Act::Offered, Seen::Copies(2)),
+    (Act::Deliver(5), Seen::Again(Fate::Once)),
+    (Act::Deliver(7), Seen::Reply),
+    (Act::Deliver(6), Seen::Old),
+    (Act::Offered, Seen::Copies(0)),
+    (Act::Begin(Tries::Eight), Seen::Sent(Fate::Once)),
+    (Act::Deliver(9), Seen::Request),
+];
+
+// Every packet of kernel 1 is lost.
+const GIVEN_UP: [(Act, Seen); 9] = [
+    (Act::Begin(Tries::Eight), Seen::Sent(Fate::Lost)),
+    (Act::Expire(1), Seen::Sent(Fate::Lost)),
+    (Act::Expire(1), Seen::Sent(Fate::Lost)),
+    (Act::Expire(1), Seen::Sent(Fate::Lost)),
+    (Act::Expire(1), Seen::Sent(Fate::Lost)),
+    (Act::Expire(1), Seen::Sent(Fate::Lost)),
+    (Act::Expire(1), Seen::Sent(Fate::Lost)),
+    (Act::Expire(1), Seen::Sent(Fate::Lost)),
+    (Act::Expire(1), Seen::GivenUp(0, 8)),
+];
+
+// Begins a call of kernel 1 to kernel 2.
+fn begin(alloc: Global, wire: &mut Wire<Bytes, PlanLink>, tries: Tries) -> Result<Seen, Fail> {
+    let from = Kernel::new(1).ok_or("kernel 1")?;
+    let to = Kernel::new(2).ok_or("kernel 2")?;
+    let body = Bytes::of_slice(alloc, b"ask")?;
+    if from == to || !wire.is_free(from, 7) || wire.begun() == u32::MAX {
+        return Err("no call may begin")?;
+    }
+    let (_tx, fate) = wire.begin(alloc, from, 7, to, body, tries, None)?;
+    Ok(Seen::Sent(fate))
+}
+
+// Takes a copy to its receiver.
+fn deliver(alloc: Global, wire: &mut Wire<Bytes, PlanLink>, copy: CopyNo) -> Result<Seen, Fail> {
+    if !wire.is_in_flight(copy) {
+        return Err("no such copy")?;
+    }
+    match wire.deliver(alloc, copy)? {
+        Delivered::Request(_tx, body) => told(body.as_slice() == b"ask".as_slice(), Seen::Request),
+        Delivered::Reply(_tx, body) => told(body.as_slice() == b"yes".as_slice(), Seen::Reply),
+        Delivered::Repeated(_tx, fate) => Ok(Seen::Again(fate)),
+        Delivered::Old => Ok(Seen::Old),
+    }
+}
+
+// What is seen where the body is the right one.
+fn told(right: bool, seen: Seen) -> Result<Seen, Fail> {
+    if right {
+        return Ok(seen);
+    }
+    Err("another body")?
+}
+
+// Answers a call.
+fn answer(alloc: Global, wire: &mut Wire<Bytes, PlanLink>, tx: TxNo) -> Result<Seen, Fail> {
+    let body = Bytes::of_slice(alloc, b"yes")?;
+    if !wire.may_answer(tx) {
+        return Err("nobody has it")?;
+    }
+    Ok(Seen::Sent(wire.answer(alloc, tx, body)?))
+}
+
+// Lets the timer of a call fire.
+fn expire(alloc: Global, wire: &mut Wire<Bytes, PlanLink>, tx: TxNo) -> Result<Seen, Fail> {
+    if !wire.may_expire(tx) {
+        return Err("no timer may fire")?;
+    }
+    match wire.expire(alloc, tx)? {
+        Expired::Resent(sent) => match sent.as_slice().first() {
+            Some(packet) => Ok(Seen::Sent(packet.1)),
+            None => Ok(Seen::Copies(0)),
+        },
+        Expired::GivenUp { before, now } => Ok(Seen::GivenUp(before, now)),
+    }
+}
+
+// Does one thing to the wire.
+fn perform(alloc: Global, wire: &mut Wire<Bytes, PlanLink>, act: Act) -> Result<Seen, Fail> {
+    match act {
+        Act::Begin(tries) => begin(alloc, wire, tries),
+        Act::Deliver(copy) => deliver(alloc, wire, CopyNo(copy)),
+        Act::Answer(tx) => answer(alloc, wire, TxNo(tx)),
+        Act::Expire(tx) => expire(alloc, wire, TxNo(tx)),
+        Act::Offered => {
+            let kernel = Kernel::new(2).ok_or("kernel 2")?;
+            Ok(Seen::Copies(wire.copies_for(alloc, kernel)?.len()))
+        }
+    }
+}
+
+// A link that makes these faults: from kernel 1 to kernel 2, or the other way.
+fn link(alloc: Global, faults: &[(u8, u8, u32, u32, Fate)]) -> Result<PlanLink, Fail> {
+    let mut entries = Items::new(alloc);
+    for fault in faults {
+        let entry = PlanEntry {
+            from: Kernel::new(fault.0),
+            to: Kernel::new(fault.1),
+            first: fault.2,
+            every: 1,
+            count: fault.3,
+            fate: fault.4,
+        };
+        entries.append(&[entry])?;
+    }
+    let mut link = PlanLink::new(alloc);
+    link.load(alloc, &Plan { entries })?;
+    Ok(link)
+}
+
+// The place of the first act after which something else is seen.
+fn first_wrong(alloc: Global, link: PlanLink, acts: &[(Act, Seen)]) -> Result<Option<usize>, Fail> {
+    let mut wire = match Wire::new(alloc, link) {
+        Ok(wire) => wire,
+        Err(_) => return Err("out of memory")?,
+    };
+    let mut wrong = None;
+    for (at, step) in acts.iter().enumerate() {
+        if wrong.is_none() && perform(alloc, &mut wire, step.0)? != step.1 {
+            wrong = Some(at);
+        }
+    }
+    Ok(wrong)
+}
+
+#[test]
+fn a_repeated_request_is_answered_again(rt: HostRuntime) -> Result<(), Fail> {
+    let alloc = rt.alloc();
+    let link = link(
+        alloc,
+        &[(2, 1, 1, 1, Fate::Lost), (1, 2, 2, 1, Fate::Twice)],
+    )?;
+    assert_eq!(rt; first_wrong(alloc, link, &REPEATED)?, None);
+    Ok(())
+}
+
+#[test]
+fn an_echo_is_given_up_after_eight_tries(rt: HostRuntime) -> Result<(), Fail> {
+    let alloc = rt.alloc();
+    let link = link(alloc, &[(1, 2, 1, 100, Fate::Lost)])?;
+    assert_eq!(rt; first_wrong(alloc, link, &GIVEN_UP)?, None);
+    Ok(())
+}
