@@ -1,13 +1,11 @@
 -- The open streams: what is found after one was put or taken out.
-use Rattle.std.proofs.Common.{rules, tests, ◌≡◌, ℕ, ◌==◌, Bool, true, false, ◌&&◌, not, cond, List, [], ◌∷◌, Option, Some, None, refl, sym, ap, ◌∙◌, true≢false, find, is_some}
+use Rattle.std.proofs.Common.{rules, tests, ◌≡◌, ℕ, ◌==◌, true, refl, sym, ap}
 use Rattle.std.proofs.lemmas.Bool.{and_parts, eqb-true}
 use Rattle.std.proofs.lemmas.Bool.Decides.{eqb_tells}
 use Rattle.sprite_ids.specs.declared.StreamNo.{StreamNo}
-use Rattle.stream_table.specs.declared.entries.Entry.{Entry}
-use Rattle.stream_table.specs.Lists.{put, without}
 use Rattle.stream_table.specs.Owners.{is_number}
-use Rattle.stream_table.specs.Entries.{is_of, same_entry, is_listed}
-use Rattle.stream_table.proofs.ListLaws.{IsSameness, dropped, stays, nothing_found}
+use Rattle.stream_table.specs.Entries.{is_of, same_entry}
+use Rattle.stream_table.proofs.ListLaws.{IsSameness}
 
 eq_turned : (a b : ℕ) → (a == b) ≡ (b == a)
 eq_turned a b = search (rules, tests, eqb_tells a b, eqb_tells b a)

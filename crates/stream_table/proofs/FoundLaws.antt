@@ -1,18 +1,15 @@
 -- What is found among the open streams after one was put or taken out, and which streams are referred to then.
-use Rattle.std.proofs.Common.{rules, tests, ◌≡◌, ℕ, zero, suc, ◌<◌, ◌≤◌, ◌||◌, Bool, true, false, not, cond, List, [], ◌∷◌, length, replicate, Option, Some, None, refl, sym, ap, subst, ◌∙◌, arith, true≢false, find, is_some, slice_get, slice_set, get_or, position}
-use Rattle.std.specs.List.{AllByRecursion, list_all, list_any}
-use Rattle.std.proofs.lemmas.List.Quantifiers.{position-Some}
+use Rattle.std.proofs.Common.{rules, tests, ◌≡◌, ℕ, ◌≤◌, Bool, true, false, cond, List, [], ◌∷◌, Option, Some, None, refl, sym, ap, ◌∙◌, arith, true≢false, find, is_some}
+use Rattle.std.specs.List.{AllByRecursion}
 use Rattle.std.proofs.lemmas.Bool.{and_parts}
 use Rattle.sprite_ids.specs.declared.StreamNo.{StreamNo}
 use Rattle.stream_table.specs.declared.entries.Entry.{Entry}
-use Rattle.stream_table.specs.declared.owners.Owner.{Owner}
 use Rattle.stream_table.specs.declared.stream.Stream.{Stream}
-use Rattle.stream_table.specs.Lists.{put, without, EachOnce}
-use Rattle.stream_table.specs.Owners.{is_number, names, is_free, is_taken, is_used, is_owner, same_owner, refers, is_referred, nothing, numbers_or, numbers_of, named, descriptor, kept}
-use Rattle.stream_table.specs.Entries.{is_of, is_listed, is_open, is_roomy, has_room, is_placed_in, stream_in, holder_in, grants_in, stream_of, holder_of, grants_of, left, leaving}
-use Rattle.stream_table.proofs.ListLaws.{dropped, stays, nothing_found, passes, any_split, any_put, any_set, at_most_one, or_false}
-use Rattle.stream_table.proofs.EntryLaws.{one_number, number_turned, number_itself}
-use Rattle.stream_table.proofs.OwnerLaws.{owners_same, kept_none, kept_some}
+use Rattle.stream_table.specs.Lists.{put, without}
+use Rattle.stream_table.specs.Owners.{is_number}
+use Rattle.stream_table.specs.Entries.{is_of, is_listed, is_open, is_roomy, has_room, is_placed_in, stream_in, holder_in, grants_in, stream_of, holder_of, left, leaving}
+use Rattle.stream_table.proofs.ListLaws.{dropped, stays, nothing_found}
+use Rattle.stream_table.proofs.EntryLaws.{one_number}
 
 -- the entry of a stream
 abbrev pub entry : StreamNo → Option Stream → Option ℕ → Entry

@@ -1,5 +1,5 @@
 -- The processes with their descriptors: what is found, and which streams are referred to.
-use Rattle.std.proofs.Common.{rules, tests, ◌≡◌, ℕ, ◌==◌, Bool, true, false, cond, List, refl, sym, ap, ◌∙◌}
+use Rattle.std.proofs.Common.{rules, tests, ◌≡◌, ℕ, ◌==◌, true, false, cond, List, sym, ap}
 use Rattle.std.proofs.lemmas.Bool.{eqb-true}
 use Rattle.std.proofs.lemmas.Bool.Decides.{eqb_tells}
 use Rattle.stream_table.specs.declared.owners.Owner.{Owner}

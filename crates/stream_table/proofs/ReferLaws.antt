@@ -1,11 +1,11 @@
 -- Which streams descriptors lead to, after the descriptors of a process changed.
-use Rattle.std.proofs.Common.{rules, tests, ◌≡◌, ℕ, zero, suc, ◌<◌, ◌||◌, Bool, true, false, not, cond, List, [], ◌∷◌, length, replicate, Option, Some, None, refl, sym, ap, subst, ◌∙◌, arith, true≢false, find, is_some, slice_get, slice_set, get_or, position}
+use Rattle.std.proofs.Common.{◌≡◌, ℕ, zero, suc, ◌<◌, ◌||◌, Bool, true, false, List, [], ◌∷◌, length, replicate, Option, Some, None, refl, sym, ap, ◌∙◌, arith, find, slice_get, slice_set, get_or, position}
 use Rattle.std.specs.List.{list_any}
 use Rattle.std.proofs.lemmas.List.Quantifiers.{position-Some}
 use Rattle.sprite_ids.specs.declared.StreamNo.{StreamNo}
 use Rattle.stream_table.specs.declared.owners.Owner.{Owner}
 use Rattle.stream_table.specs.Lists.{put, without, EachOnce}
-use Rattle.stream_table.specs.Owners.{is_number, names, is_free, is_taken, is_used, is_owner, same_owner, refers, is_referred, nothing, numbers_or, numbers_of, named, descriptor, kept}
+use Rattle.stream_table.specs.Owners.{is_number, names, is_free, is_taken, is_used, is_owner, same_owner, refers, is_referred, numbers_or, numbers_of, named, descriptor, kept}
 use Rattle.stream_table.proofs.ListLaws.{nothing_found, passes, any_split, any_put, any_set, at_most_one, or_false}
 use Rattle.stream_table.proofs.EntryLaws.{number_itself}
 use Rattle.stream_table.proofs.OwnerLaws.{owners_same, kept_none, kept_some}

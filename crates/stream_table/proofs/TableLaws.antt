@@ -1,5 +1,5 @@
 -- What the table always is stays so after each of its calls.
-use Rattle.std.proofs.Common.{◌≡◌, ℕ, zero, suc, ◌<◌, ◌==◌, ◌||◌, rules, tests, Bool, true, false, not, cond, List, [], ◌∷◌, length, replicate, fold, Option, Some, None, refl, sym, ap, subst, ◌∙◌, arith, true≢false, find, is_some, slice_get, slice_set, position}
+use Rattle.std.proofs.Common.{◌≡◌, ℕ, zero, suc, ◌<◌, ◌==◌, ◌||◌, rules, tests, Bool, true, false, not, cond, List, [], ◌∷◌, replicate, fold, Option, Some, None, refl, sym, ap, subst, ◌∙◌, arith, true≢false, is_some, slice_get, slice_set}
 use Rattle.std.specs.List.{AllByRecursion, list_any}
 use Rattle.std.proofs.lemmas.Bool.Decides.{eqb_tells}
 use Rattle.sprite_ids.specs.declared.StreamNo.{StreamNo}
@@ -11,12 +11,12 @@ use Rattle.stream_table.specs.declared.stream.Place.{Place}
 use Rattle.stream_table.specs.declared.stream.Carried.{Carried}
 use Rattle.stream_table.specs.Lists.{put, without, EachOnce}
 use Rattle.stream_table.specs.Owners.{is_number, is_used, is_owner, same_owner, is_referred, nothing, numbers_of, descriptor, kept}
-use Rattle.stream_table.specs.Entries.{is_of, is_open, is_placed, is_placed_in, is_place_of, may_be_at, same_entry, stream_of, holder_of, opened, placed, placing, locked, locking, unlocked, unlocking, left, leaving}
-use Rattle.stream_table.specs.Streams.{Table, free, with_descriptor, freed, settled, numbers_in, merged, arrived, with_arrived, same_fd, numbered, IsTable}
+use Rattle.stream_table.specs.Entries.{is_of, is_open, is_placed, is_placed_in, may_be_at, same_entry, stream_of, holder_of, opened, left, leaving}
+use Rattle.stream_table.specs.Streams.{free, with_descriptor, freed, numbers_in, merged, arrived, with_arrived, same_fd, numbered, IsTable}
 use Rattle.stream_table.proofs.ListLaws.{put_once, filtered_once, or_false}
 use Rattle.stream_table.proofs.EntryLaws.{one_number, entries_same}
 use Rattle.stream_table.proofs.OwnerLaws.{owners_same, kept_none, kept_some}
-use Rattle.stream_table.proofs.FoundLaws.{entry, open_put, open_without, open_left, open_same, open_less, each_put, placed_found}
+use Rattle.stream_table.proofs.FoundLaws.{entry, open_put, open_left, open_same, open_less, each_put, placed_found}
 use Rattle.stream_table.proofs.ReferLaws.{owner, any_names, elsewhere, referred_put, referred_split, referred_kept, no_names, free_slot, names_more, names_less, descriptor_slot, descriptor_names}
 
 more_open : (same o a w : Bool) → o ≡ (a || w) → cond same true o ≡ ((a || same) || w)

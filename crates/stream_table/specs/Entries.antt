@@ -1,5 +1,5 @@
 -- The open streams with their locks.
-use Rattle.std.specs.Prelude.{◌≡◌, ℕ, ◌==◌, nat_le, Bool, true, false, ◌&&◌, List, [], ◌∷◌, Option, Some, None, is_some}
+use Rattle.std.specs.Prelude.{ℕ, ◌==◌, nat_le, Bool, true, false, List, Option, Some, None, is_some}
 use Rattle.std.specs.List.{find, list_all, list_any}
 use Rattle.sprite_ids.specs.declared.StreamNo.{StreamNo}
 use Rattle.sprite_ids.specs.declared.Object.{Object}

@@ -1,5 +1,5 @@
 -- The processes with their descriptors.
-use Rattle.std.specs.Prelude.{◌≡◌, ℕ, ◌==◌, Bool, true, false, ◌&&◌, if◌then◌else◌, List, [], ◌∷◌, Option, Some, None, replicate, slice_get}
+use Rattle.std.specs.Prelude.{ℕ, ◌==◌, Bool, true, false, ◌&&◌, if◌then◌else◌, List, Option, Some, None, replicate, slice_get}
 use Rattle.std.specs.List.{find, list_any}
 use Rattle.sprite_ids.specs.declared.StreamNo.{StreamNo}
 use Rattle.stream_table.specs.declared.owners.Owner.{Owner}

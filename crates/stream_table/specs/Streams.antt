@@ -1,17 +1,16 @@
 -- The stream table of a kernel.
-use Rattle.std.specs.Prelude.{◌≡◌, ℕ, ◌+◌, ◌==◌, Bool, true, false, ◌&&◌, not, if◌then◌else◌, List, [], ◌∷◌, ◌++◌, Option, Some, None, option_map, Result, Ok, Err, fold, slice_set}
-use Rattle.std.specs.List.{AllByRecursion, list_any, position}
+use Rattle.std.specs.Prelude.{◌≡◌, ℕ, ◌+◌, ◌==◌, Bool, true, false, ◌&&◌, not, if◌then◌else◌, List, [], ◌∷◌, Option, Some, None, option_map, Result, Ok, Err, fold, slice_set}
+use Rattle.std.specs.List.{AllByRecursion, position}
 use Rattle.sprite_ids.specs.declared.StreamNo.{StreamNo}
 use Rattle.stream_table.specs.declared.end.StreamEnd.{StreamEnd}
 use Rattle.stream_table.specs.declared.end.StreamEnd.TheVariants.{BadFd, TooMany, NoMemory}
 use Rattle.stream_table.specs.declared.entries.Entry.{Entry}
 use Rattle.stream_table.specs.declared.owners.Owner.{Owner}
 use Rattle.stream_table.specs.declared.stream.Stream.{Stream}
-use Rattle.stream_table.specs.declared.stream.Place.{Place}
 use Rattle.stream_table.specs.declared.stream.Carried.{Carried}
 use Rattle.stream_table.specs.Lists.{put, EachOnce}
 use Rattle.stream_table.specs.Owners.{is_free, is_used, is_owner, is_referred, numbers_of, nothing, descriptor, kept, same_owner}
-use Rattle.stream_table.specs.Entries.{is_of, is_open, is_placed_in, grants_in, stream_of, holder_of, opened, placed, locked, unlocked, left, same_entry}
+use Rattle.stream_table.specs.Entries.{is_of, is_open, is_placed_in, grants_in, stream_of, holder_of, opened, left, same_entry}
 
 -- the processes with their descriptors, and the open streams with their locks
 pub record Table : Type 0 where

@@ -1,4 +1,4 @@
-use Rattle.std.proofs.Common.{◌≡◌, Some, drop, fold}
+use Rattle.std.proofs.Common.{◌≡◌, drop, fold}
 use Rattle.stream_table.specs.Lists.{put}
 use Rattle.stream_table.specs.Entries.{is_of}
 use Rattle.stream_table.specs.Streams.{arrived, merged}

@@ -1,4 +1,4 @@
-use Rattle.std.proofs.Common.{Some, position, sym, ap, ◌∙◌, true≢false}
+use Rattle.std.proofs.Common.{position, sym, ap, ◌∙◌, true≢false}
 use Rattle.stream_table.specs.Entries.{is_of}
 use Rattle.stream_table.proofs.ListLaws.{put_here, put_last, none_found}
 use Rattle.stream_table.proofs.entries.put.Goals as goal

@@ -1,4 +1,4 @@
-use Rattle.std.proofs.Common.{Some, None, position, sym, ap, ◌∙◌}
+use Rattle.std.proofs.Common.{None, position, sym, ap, ◌∙◌}
 use Rattle.stream_table.specs.declared.entries.Entry.{Entry}
 use Rattle.stream_table.specs.Entries.{is_of}
 use Rattle.stream_table.proofs.ListLaws.{taken, none_taken, none_found, at_most_one}

@@ -1,5 +1,4 @@
-use Rattle.std.proofs.Common.{Some, position, sym, ap, cond, ◌∙◌, true≢false}
-use Rattle.stream_table.specs.Lists.{put, without}
+use Rattle.std.proofs.Common.{position, sym, ap, ◌∙◌, true≢false}
 use Rattle.stream_table.specs.Owners.{is_owner}
 use Rattle.stream_table.proofs.ListLaws.{taken, none_found, at_most_one}
 use Rattle.stream_table.proofs.OwnerLaws.{owners_same, kept_none}

@@ -1,4 +1,4 @@
-use Rattle.std.proofs.Common.{rules, Some, ◌++◌, ◌∷◌, [], position, sym, ap, ◌∙◌, arith}
+use Rattle.std.proofs.Common.{position, sym, ap, ◌∙◌, arith}
 use Rattle.stream_table.specs.Owners.{is_owner}
 use Rattle.stream_table.proofs.ListLaws.{put_here, put_last, none_found}
 use Rattle.stream_table.proofs.owners.put.Goals as goal

@@ -1,7 +1,7 @@
-use Rattle.std.proofs.Common.{Some, None, ℕ, List, Option, not, sym, ap, subst, ◌∙◌, slice_set, is_some}
+use Rattle.std.proofs.Common.{None, ℕ, List, Option, not, sym, ap, subst, ◌∙◌, slice_set, is_some}
 use Rattle.sprite_ids.specs.declared.StreamNo.{StreamNo}
 use Rattle.stream_table.specs.Owners.{is_referred, numbers_of, descriptor, kept}
-use Rattle.stream_table.specs.Entries.{left, stream_of}
+use Rattle.stream_table.specs.Entries.{stream_of}
 use Rattle.stream_table.specs.Streams.{Table, IsTable, freed, is_last_of}
 use Rattle.stream_table.proofs.ReferLaws.{owner, descriptor_known}
 use Rattle.stream_table.proofs.TableLaws.{shared_table, left_table, descriptor_open, some_numbered}

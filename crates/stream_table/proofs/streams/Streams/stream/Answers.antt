@@ -1,4 +1,4 @@
-use Rattle.std.proofs.Common.{Some, None, Option, ◌≡◌, true, IfSome, IsTrue, ap, sym, refl, ◌∙◌}
+use Rattle.std.proofs.Common.{Some, None, Option, ◌≡◌, true, IfSome, IsTrue, ap, ◌∙◌}
 use Rattle.stream_table.specs.declared.stream.Stream.{Stream}
 use Rattle.stream_table.specs.Entries.{is_of, is_placed, is_placed_in, stream_of}
 use Rattle.stream_table.proofs.FoundLaws.{placed_found}

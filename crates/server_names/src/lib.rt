@@ -1,0 +1,14 @@
+//! The names of one domain at its server: a map from paths to directories, files and devices, with a remote link where
+//! another domain hangs (Welch and Ousterhout 1986).
+#![tactic(auto)]
+
+mod end;
+mod name;
+mod names;
+
+pub use end::NameEnd;
+pub use name::{Entry, Name, Node};
+pub use names::Names;
+
+#[cfg(test)]
+mod tests;
