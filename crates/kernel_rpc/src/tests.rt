@@ -1,3 +1,4 @@
+use crate::call::CallState;
 use crate::results::{Delivered, Expired};
 use crate::wire::Wire;
 use link_plan::{Fate, Link, Plan, PlanEntry, PlanLink};
@@ -18,6 +19,16 @@ enum Act {
     Expire(u32),
     // Asks how many copies may come to kernel 2.
     Offered,
+    // Kernel 1 asks kernels 2 and 3, of which 3 is to answer.
+    Broadcast,
+    // Kernel 2 can't answer the call of that number.
+    Silent(u32),
+    // Asks how many timers of kernel 1 may fire.
+    Due,
+    // Asks whether nothing moves.
+    Quiet,
+    // Asks how the call of that number stands.
+    State(u32),
 }
 
 // What is then seen.
@@ -30,6 +41,9 @@ enum Seen {
     Old,
     GivenUp(u64, u64),
     Copies(usize),
+    Timers(usize),
+    Quiet(bool),
+    State(Option<CallState>),
 }
 
 // The first reply is lost, and the second packet of kernel 1 is doubled.
@@ -61,6 +75,25 @@ const GIVEN_UP: [(Act, Seen); 9] = [
     (Act::Expire(1), Seen::GivenUp(0, 8)),
 ];
 
+// The first packet of kernel 1 to kernel 3 is lost.
+const BROADCAST: [(Act, Seen); 15] = [
+    (Act::Quiet, Seen::Quiet(true)),
+    (Act::Broadcast, Seen::Sent(Fate::Once)),
+    (Act::Due, Seen::Timers(0)),
+    (Act::Deliver(1), Seen::Request),
+    (Act::State(1), Seen::State(Some(CallState::Taken))),
+    (Act::Silent(1), Seen::Copies(0)),
+    (Act::Due, Seen::Timers(1)),
+    (Act::Quiet, Seen::Quiet(false)),
+    (Act::Expire(1), Seen::Sent(Fate::Once)),
+    (Act::Deliver(5), Seen::Old),
+    (Act::Deliver(7), Seen::Request),
+    (Act::Answer(1), Seen::Sent(Fate::Once)),
+    (Act::Deliver(9), Seen::Reply),
+    (Act::State(1), Seen::State(Some(CallState::Done))),
+    (Act::Quiet, Seen::Quiet(true)),
+];
+
 // Begins a call of kernel 1 to kernel 2.
 fn begin(alloc: Global, wire: &mut Wire<Bytes, PlanLink>, tries: Tries) -> Result<Seen, Fail> {
     let from = Kernel::new(1).ok_or("kernel 1")?;
@@ -71,6 +104,36 @@ fn begin(alloc: Global, wire: &mut Wire<Bytes, PlanLink>, tries: Tries) -> Resul
     }
     let (_tx, fate) = wire.begin(alloc, from, 7, to, body, tries, None)?;
     Ok(Seen::Sent(fate))
+}
+
+// Begins a broadcast; the fate is that of the packet to kernel 2.
+fn broadcast(alloc: Global, wire: &mut Wire<Bytes, PlanLink>) -> Result<Seen, Fail> {
+    let from = Kernel::new(1).ok_or("kernel 1")?;
+    let other = Kernel::new(2).ok_or("kernel 2")?;
+    let owner = Kernel::new(3).ok_or("kernel 3")?;
+    let body = Bytes::of_slice(alloc, b"ask")?;
+    let Some(port) = wire.free_port(from) else {
+        return Err("no free port")?;
+    };
+    if from == other || from == owner || other == owner || wire.begun() == u32::MAX {
+        return Err("no call may begin")?;
+    }
+    let servers = [other, owner];
+    let (_tx, fates) = wire.broadcast(alloc, from, port, &servers, owner, body, None)?;
+    match fates.as_slice() {
+        [fate, _] => Ok(Seen::Sent(*fate)),
+        _ => Err("two packets")?,
+    }
+}
+
+// Kernel 2 goes silent.
+fn silent(wire: &mut Wire<Bytes, PlanLink>, tx: TxNo) -> Result<Seen, Fail> {
+    let kernel = Kernel::new(2).ok_or("kernel 2")?;
+    if !wire.may_be_silent(tx, kernel) {
+        return Err("it doesn't have it")?;
+    }
+    wire.silent(tx, kernel);
+    Ok(Seen::Copies(0))
 }
 
 // Takes a copy to its receiver.
@@ -128,6 +191,14 @@ fn perform(alloc: Global, wire: &mut Wire<Bytes, PlanLink>, act: Act) -> Result<
             let kernel = Kernel::new(2).ok_or("kernel 2")?;
             Ok(Seen::Copies(wire.copies_for(alloc, kernel)?.len()))
         }
+        Act::Broadcast => broadcast(alloc, wire),
+        Act::Silent(tx) => silent(wire, TxNo(tx)),
+        Act::Due => {
+            let kernel = Kernel::new(1).ok_or("kernel 1")?;
+            Ok(Seen::Timers(wire.expired_of(alloc, kernel)?.len()))
+        }
+        Act::Quiet => Ok(Seen::Quiet(wire.quiet())),
+        Act::State(tx) => Ok(Seen::State(wire.state_of(TxNo(tx)))),
     }
 }
 
@@ -181,5 +252,13 @@ fn an_echo_is_given_up_after_eight_tries(rt: HostRuntime) -> Result<(), Fail> {
     let alloc = rt.alloc();
     let link = link(alloc, &[(1, 2, 1, 100, Fate::Lost)])?;
     assert_eq!(rt; first_wrong(alloc, link, &GIVEN_UP)?, None);
+    Ok(())
+}
+
+#[test]
+fn a_broadcast_is_answered_by_its_owner(rt: HostRuntime) -> Result<(), Fail> {
+    let alloc = rt.alloc();
+    let link = link(alloc, &[(1, 3, 1, 1, Fate::Lost)])?;
+    assert_eq!(rt; first_wrong(alloc, link, &BROADCAST)?, None);
     Ok(())
 }
