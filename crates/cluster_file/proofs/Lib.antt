@@ -1,0 +1,3 @@
+pub mod ClusterLaws
+pub mod RefusalLaws
+pub mod TableLaws

@@ -1,0 +1,7 @@
+use Rattle.std.proofs.Common.{◌≡◌, drop}
+use Rattle.cluster_file.specs.Names.{kernel_named}
+use Rattle.cluster_file.proofs.hosts.kernel_named.Given as goal
+
+-- the first of that name in the rest is that of all
+abbrev pub invariant-loop-row : goal.invariant-loop-row
+invariant-loop-row l = kernel_named l.name (drop l.row-index l.rows) ≡ kernel_named l.name l.rows

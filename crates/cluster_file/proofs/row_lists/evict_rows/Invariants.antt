@@ -1,0 +1,13 @@
+use Rattle.std.proofs.Common.{◌≡◌, Ok, map, drop}
+use Rattle.toml.specs.View.{view}
+use Rattle.cluster_file.specs.declared.keys.Section.TheVariants.{Evict}
+use Rattle.cluster_file.specs.Refusals.{read_on}
+use Rattle.cluster_file.specs.Tables.{tables_in}
+use Rattle.cluster_file.specs.Rows.{where_room, rows_in, evict_row}
+use Rattle.cluster_file.proofs.row_lists.evict_rows.Given as goal
+
+-- the rest, read behind the rows so far, gives what all give
+abbrev pub invariant-loop-element : goal.invariant-loop-element
+invariant-loop-element l =
+    read_on (λ earlier table. where_room Evict earlier (evict_row earlier table)) (Ok l.rows) (tables_in (map view (drop l.element-index l.elements)))
+    ≡ rows_in Evict (evict_row) (map view l.elements)

@@ -1,0 +1,8 @@
+use Rattle.std.proofs.Common.{◌≡◌, drop}
+use Rattle.cluster_file.specs.Refusals.{rest_of}
+use Rattle.cluster_file.specs.Rows.{bytes_at}
+use Rattle.cluster_file.proofs.single_rows.path_room.Given as goal
+
+-- what the rest leaves of what is left is what all leave
+abbrev pub invariant-loop-row : goal.invariant-loop-row
+invariant-loop-row l = rest_of l.rest (bytes_at l.path (drop l.row-index l.rows)) ≡ rest_of l.most (bytes_at l.path l.rows)

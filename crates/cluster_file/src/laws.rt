@@ -1,0 +1,11 @@
+ghost use Rattle.cluster_file.specs.Clusters.{EachIsRead, EachIsReadOnce};
+
+/// A law: all bytes describe a cluster or have a refusal.
+pub fn described_or_refused()
+    ensures { EachIsRead }
+{}
+
+/// A law: no bytes describe two clusters, have two refusals, or describe a cluster and have a refusal.
+pub fn refused_once()
+    ensures { EachIsReadOnce }
+{}
