@@ -1,0 +1,7 @@
+pub mod SmallLaws
+pub mod RuleLaws
+pub mod StepLaws
+pub mod DealLaws
+pub mod EndLaws
+pub mod TurnLaws
+pub mod SeatLaws
