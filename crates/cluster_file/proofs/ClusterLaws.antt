@@ -1,5 +1,5 @@
 -- Bytes describe one cluster, or have one refusal.
-use Rattle.std.proofs.Common.{◌≡◌, ℕ, ◌≤◌, List, [], length, Bool, true, false, nat_lt, Option, Some, None, Result, Ok, Err, IfOk, IfErr, IsUtf8, IsTrue, refl, sym, ap, subst, ◌∙◌, inl, inr, arith}
+use Rattle.std.proofs.Common.{◌≡◌, ℕ, ◌≤◌, List, [], length, Bool, true, false, nat_lt, Some, None, Result, Ok, Err, IfOk, IfErr, IsUtf8, IsTrue, refl, sym, ap, subst, ◌∙◌, inl, inr, arith}
 use Rattle.std.specs.Prelude.{◌⊎◌}
 use Rattle.std.specs.Bool.{if◌then◌else◌}
 use Rattle.std.specs.Str.{is_utf8}
@@ -12,7 +12,7 @@ use Rattle.cluster_file.specs.declared.refusal.Refusal.{Refusal}
 use Rattle.cluster_file.specs.declared.refusal.FileEnd.{FileEnd}
 use Rattle.cluster_file.specs.declared.refusal.FileEnd.TheVariants as end
 use Rattle.cluster_file.specs.Refusals.{refusal, IsRefusedBy}
-use Rattle.cluster_file.specs.Clusters.{described, document_of, described_in, judged, Describes, Refuses, EachIsRead, IsReadOnce, EachIsReadOnce}
+use Rattle.cluster_file.specs.Clusters.{described, document_of, described_in, judged, Describes, Refuses, GivesRefusal, EachIsRead, EachIsReadOnce}
 
 read_by : (bytes : List ℕ) (answer : Result Description Refusal) → judged bytes ≡ answer → ((c : Description) × Describes bytes c) ⊎ ((r : Refusal) × Refuses bytes r)
 read_by bytes (Ok c) is = inl (c, is)
@@ -54,13 +54,18 @@ pub ok_for : (r : Result Description FileEnd) (bytes : List ℕ) (answer : Resul
 ok_for (Ok c) bytes answer is same = is ∙ same
 ok_for (Err e) bytes answer is same = same
 
-pub err_for : (r : Result Description FileEnd) (bytes : List ℕ) (answer : Result Description Refusal) → judged bytes ≡ answer → IfErr r (IsRefusedBy answer) → IfErr r (IsRefusedBy (judged bytes))
-err_for r bytes answer is bad = subst (λ (a : Result Description Refusal). IfErr r (IsRefusedBy a)) (sym is) bad
+refused_as : (bytes : List ℕ) (answer : Result Description Refusal) (e : FileEnd) → judged bytes ≡ answer → IsRefusedBy answer e → GivesRefusal bytes e
+refused_as bytes (Ok c) (end.Refused r) is bad = absurd bad
+refused_as bytes (Err r) (end.Refused s) is same = is ∙ ap (λ (t : Refusal). Err t) (sym same)
+refused_as bytes answer end.NoMemory is free = tt
+
+pub err_for : (r : Result Description FileEnd) (bytes : List ℕ) (answer : Result Description Refusal) → judged bytes ≡ answer → IfErr r (IsRefusedBy answer) → IfErr r (GivesRefusal bytes)
+err_for (Ok c) bytes answer is bad = bad
+err_for (Err e) bytes answer is bad = refused_as bytes answer e is bad
 
 -- the refusal that is given is that of the bytes
-pub refused_for : (bytes : List ℕ) (e : FileEnd) → e ≡ end.Refused (refusal 2 []) → judged bytes ≡ Err (refusal 2 []) → IsRefusedBy (judged bytes) e
-refused_for bytes e given is =
-    subst (λ (f : FileEnd). IsRefusedBy (judged bytes) f) (sym given) (subst (λ (a : Result Description Refusal). IsRefusedBy a (end.Refused (refusal 2 []))) (sym is) refl)
+pub refused_for : (bytes : List ℕ) (number : ℕ) (e : FileEnd) → e ≡ end.Refused (refusal number []) → judged bytes ≡ Err (refusal number []) → GivesRefusal bytes e
+refused_for bytes number e given is = subst (λ (f : FileEnd). GivesRefusal bytes f) (sym given) is
 
 pub no_memory : (b : Bool) → b ≡ false → IsTrue b → ⊥
 no_memory b unset told = absurd (cc)

@@ -1,6 +1,6 @@
 -- Answers that may be refused.
 use Rattle.std.specs.Bool.{if◌then◌else◌}
-use Rattle.std.proofs.Common.{Bool, true, nat_lt, ◌≡◌, ◌<◌, ℕ, zero, suc, List, [], ◌∷◌, length, map, drop, get_or, Result, Ok, Err, Option, Some, None, refl, sym, ap, subst, ◌∙◌, arith}
+use Rattle.std.proofs.Common.{Bool, true, nat_lt, ◌≡◌, ◌<◌, ℕ, zero, suc, List, [], ◌∷◌, length, map, drop, get_or, Result, Ok, Err, Option, Some, sym, ap, subst, ◌∙◌, arith}
 use Rattle.toml.specs.Data.{Members, as_table}
 use Rattle.toml.specs.View.{view}
 use Rattle.toml.specs.declared.value.Value.{Value}
@@ -11,7 +11,7 @@ use Rattle.cluster_file.specs.Rows.{where_room, most_of, refused_top}
 use Rattle.cluster_file.specs.declared.refusal.Refusal.{Refusal}
 use Rattle.cluster_file.specs.declared.refusal.FileEnd.{FileEnd}
 use Rattle.cluster_file.specs.declared.refusal.FileEnd.TheVariants as end
-use Rattle.cluster_file.specs.Refusals.{and_then, put_behind, read_on, unless, IsRefusedBy}
+use Rattle.cluster_file.specs.Refusals.{and_then, put_behind, read_on, IsRefusedBy}
 
 -- want of memory stands for nothing
 pub refused_free : {A : Type 0} (answer : Result A Refusal) → IsRefusedBy answer end.NoMemory

@@ -1,5 +1,5 @@
 -- The cluster that the bytes of a cluster file describe, or their refusal.
-use Rattle.std.specs.Prelude.{codes, ◌≡◌, ◌⊎◌, ℕ, ◌++◌, Bool, true, false, if◌then◌else◌, List, [], ◌∷◌, length, nat_lt, Option, Some, None, Result, Ok, Err}
+use Rattle.std.specs.Prelude.{codes, ◌≡◌, ◌⊎◌, ℕ, ◌++◌, if◌then◌else◌, List, [], length, nat_lt, Option, Some, None, Result, Ok, Err}
 use Rattle.std.specs.Fmt.{decimal}
 use Rattle.std.specs.Str.{is_utf8}
 use Rattle.toml.specs.Data.{Members}
@@ -13,6 +13,8 @@ use Rattle.unix_calls.specs.declared.description.ProgramLine.{ProgramLine}
 use Rattle.unix_calls.specs.declared.description.FileLine.{FileLine}
 use Rattle.unix_calls.specs.declared.description.EvictLine.{EvictLine}
 use Rattle.cluster_file.specs.declared.refusal.Refusal.{Refusal}
+use Rattle.cluster_file.specs.declared.refusal.FileEnd.{FileEnd}
+use Rattle.cluster_file.specs.declared.refusal.FileEnd.TheVariants as end
 use Rattle.cluster_file.specs.declared.rows.ProgramRow.{ProgramRow}
 use Rattle.cluster_file.specs.declared.rows.Rows.{Rows}
 use Rattle.cluster_file.specs.declared.hosts.Started.{Started}
@@ -109,6 +111,11 @@ Describes bytes c = judged bytes ≡ Ok c
 -- these bytes have this refusal
 abbrev pub Refuses : List ℕ → Refusal → Type 0
 Refuses bytes r = judged bytes ≡ Err r
+
+-- the error is the refusal of these bytes; want of memory says nothing of them
+abbrev pub GivesRefusal : List ℕ → FileEnd → Type 0
+GivesRefusal bytes (end.Refused r) = Refuses bytes r
+GivesRefusal bytes end.NoMemory = Unit {0}
 
 -- all bytes describe a cluster or have a refusal
 abbrev pub EachIsRead : Type 0

@@ -1,5 +1,5 @@
 -- The faults of a document's form: keys that are unknown, missing, or of a wrong type.
-use Rattle.std.specs.Prelude.{ℕ, Bool, true, false, ◌&&◌, ◌+◌, not, if◌then◌else◌, List, [], ◌∷◌, Option, Some, None}
+use Rattle.std.specs.Prelude.{ℕ, Bool, false, ◌&&◌, ◌+◌, not, if◌then◌else◌, List, [], ◌∷◌, Option, Some, None}
 use Rattle.std.specs.Option.{option_map, is_some}
 use Rattle.std.specs.List.{flat_map, list_all, list_any}
 use Rattle.toml.specs.Data.{Data, Members, no_members, member, as_integer, as_str, as_bool, as_array, as_table}

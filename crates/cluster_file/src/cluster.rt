@@ -2,7 +2,7 @@ ghost use Rattle.std.specs.Prelude.{◌≡◌, IfOk, IfErr, Ok, []};
 ghost use Rattle.toml.specs.View.{table_view};
 ghost use Rattle.cluster_file.specs.Refusals.{refusal, IsRefusedBy};
 ghost use Rattle.cluster_file.specs.declared.refusal.FileEnd.TheVariants.{Refused};
-ghost use Rattle.cluster_file.specs.Clusters.{with_programs, with_paths, with_hosts, cluster_of, form_fault, described, judged, Describes};
+ghost use Rattle.cluster_file.specs.Clusters.{with_programs, with_paths, with_hosts, cluster_of, form_fault, described, Describes, GivesRefusal};
 
 use crate::again::{duplicate, no_root};
 use crate::fault::{Fault, document_fault};
@@ -29,7 +29,7 @@ const MOST_BYTES: usize = 1_048_576;
 /// order. `NoMemory` is want of memory (this project).
 pub fn read_description(alloc: Global, bytes: &[u8]) -> Result<Description, FileEnd>
     ensures described { IfOk result (Describes bytes.now) }
-    ensures refused { IfErr result (IsRefusedBy (judged bytes.now)) }
+    ensures refused { IfErr result (GivesRefusal bytes.now) }
 {
     if bytes.len() > MOST_BYTES {
         return Err(refused(alloc, 1));

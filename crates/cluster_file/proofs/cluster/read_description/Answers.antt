@@ -1,4 +1,3 @@
-use Rattle.std.proofs.Common.{sym, subst, Err}
 use Rattle.toml.specs.View.{table_view}
 use Rattle.cluster_file.proofs.ClusterLaws.{judged_as, not_read, refused_for, no_memory, ok_for, err_for}
 use Rattle.cluster_file.proofs.cluster.read_description.Goals as goal
@@ -13,4 +12,4 @@ returns-in-Ok-clause-refused c =
 
 pub returns-else-is_memory-clause-refused : goal.returns-else-is_memory-clause-refused
 returns-else-is_memory-clause-refused c =
-    refused_for c.args.bytes.now c.refused-else-is_memory.result c.refused-else-is_memory.ensures (not_read c.args.bytes.now c.if-bytes-gt-MOST_BYTES.false (c.in-Err.ensures.refused (λ memory. absurd (no_memory c.is_memory.result c.if-is_memory.false (c.is_memory.ensures.1 memory)))))
+    refused_for c.args.bytes.now 2 c.refused-else-is_memory.result c.refused-else-is_memory.ensures (not_read c.args.bytes.now c.if-bytes-gt-MOST_BYTES.false (c.in-Err.ensures.refused (λ memory. absurd (no_memory c.is_memory.result c.if-is_memory.false (c.is_memory.ensures.1 memory)))))

@@ -1,6 +1,5 @@
-use Rattle.std.proofs.Common.{rules, arith, subst, List, sym, ap, ◌≡◌, ◌∙◌, map, Some, Bool, true, nat_lt, length}
+use Rattle.std.proofs.Common.{rules, arith, subst, List, ◌≡◌, map, Some, true, nat_lt, length}
 use Rattle.std.proofs.lemmas.Bool.Decides.{nat_tests}
-use Rattle.std.specs.Bool.{if◌then◌else◌}
 use Rattle.toml.specs.Data.{as_table}
 use Rattle.toml.specs.View.{view, table_view}
 use Rattle.cluster_file.specs.declared.keys.Section.TheVariants.{Kernel}

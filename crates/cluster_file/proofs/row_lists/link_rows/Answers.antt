@@ -1,4 +1,4 @@
-use Rattle.std.proofs.Common.{◌≡◌, Ok, ap, map}
+use Rattle.std.proofs.Common.{Ok, ap, map}
 use Rattle.toml.specs.View.{view}
 use Rattle.cluster_file.specs.declared.keys.Section.TheVariants.{Link}
 use Rattle.cluster_file.specs.Refusals.{read_on}
