@@ -1,5 +1,6 @@
 pub mod Ends
 pub mod Quoted
+pub mod Refused
 pub mod SmallCluster
 pub mod SmallLine
 pub mod SmallProgram

@@ -7,6 +7,10 @@ use Rattle.sprite_bytes.specs.Counts.{Rose}
 use Rattle.call_journal.specs.declared.closed.Closed.{Closed}
 use Rattle.sprite_top.specs.declared.top.Status.{Status}
 use Rattle.sprite_top.specs.declared.top.Status.TheVariants as status
+use Rattle.unix_calls.specs.declared.description.Description.{Description}
+use Rattle.cluster_file.specs.declared.Refusal.{Refusal}
+use Rattle.cluster_file.specs.Clusters.{Describes as DescribesCluster, Refuses}
+use Rattle.sprite_top.specs.Refused.{refusal_line}
 use Rattle.sprite_top.specs.SmallCluster.{Describes, DescribesNone}
 use Rattle.call_journal.specs.Journal.{journal_of}
 use Rattle.unix_calls.specs.After.{state_of, legal}
@@ -26,8 +30,11 @@ run_words = codes "run" ∷ []
 abbrev pub usage_line : List ℕ
 usage_line = codes "usage: sprite run | run --seed N | run --stats | history | load N\n"
 
-abbrev pub refused_line : List ℕ
-refused_line = codes "refused: 13\n"
+abbrev pub later_line : List ℕ
+later_line = codes "refused: 13\n"
+
+abbrev pub too_long_line : List ℕ
+too_long_line = codes "refused: 1\n"
 
 abbrev pub fault_line : List ℕ
 fault_line = codes "read fault\n"
@@ -58,17 +65,31 @@ pub record IsEnded (words : List (List ℕ)) (left left_after : Option (List ℕ
   pub short : length came ≤ 1048576
   pub run_of : IsRunOf came closed due
 
--- bytes that are read to their end and describe nothing, or too many bytes
-abbrev pub AreRefused : Option (List ℕ) → List ℕ → Type 0
-AreRefused left_after came = (IsAtEnd left_after × (length came ≤ 1048576) × DescribesNone came) ⊎ (1048576 < length came)
+-- the bytes have a refusal, and its line is due
+pub record IsRefusal (bytes due : List ℕ) : Type 0 where
+  pub refusal : Refusal
+  pub refuses : Refuses bytes refusal
+  pub line_is : due ≡ refusal_line refusal
+
+-- the bytes describe a cluster that isn't run so far
+pub record IsLater (bytes due : List ℕ) : Type 0 where
+  pub cluster : Description
+  pub describes : DescribesCluster bytes cluster
+  pub not_small : DescribesNone bytes
+  pub line_is : due ≡ later_line
+
+-- bytes that are read to their end, which have a refusal or describe a cluster that isn't run so far; or too many bytes
+abbrev pub AreRefused : Option (List ℕ) → List ℕ → List ℕ → Type 0
+AreRefused left_after came due =
+    (IsAtEnd left_after × (length came ≤ 1048576) × (IsRefusal came due ⊎ IsLater came due)) ⊎ ((1048576 < length came) × (due ≡ too_long_line))
 
 -- the words are `run`, and what was read is refused
 pub record IsRefused (words : List (List ℕ)) (left left_after : Option (List ℕ)) (closed : Option Closed) (due : List ℕ) : Type 0 where
   pub words_are : words ≡ run_words
   pub came : List ℕ
   pub read : Consumes left left_after came
-  pub cause : AreRefused left_after came
-  pub line : IsLine closed due refused_line
+  pub cause : AreRefused left_after came due
+  pub no_run : closed ≡ None
 
 -- the words are not `run`, and nothing was read
 pub record IsUsage (words : List (List ℕ)) (left left_after : Option (List ℕ)) (faults faults_after : ℕ) (closed : Option Closed) (due : List ℕ) : Type 0 where
@@ -95,8 +116,14 @@ Causes status.WriteFault words left left_after faults faults_after closed due = 
 -- what is due for the bytes of a whole file
 abbrev pub FileCauses : Status → List ℕ → Option Closed → List ℕ → Type 0
 FileCauses status.Ended bytes closed due = IsRunOf bytes closed due
-FileCauses status.Refused bytes closed due = DescribesNone bytes × IsLine closed due refused_line
+FileCauses status.Refused bytes closed due = (closed ≡ None) × (IsRefusal bytes due ⊎ IsLater bytes due)
 FileCauses _ bytes closed due = ⊥
+
+-- what is due for bytes that describe a cluster
+abbrev pub ClusterCauses : Status → List ℕ → Option Closed → List ℕ → Type 0
+ClusterCauses status.Ended bytes closed due = IsRunOf bytes closed due
+ClusterCauses status.Refused bytes closed due = DescribesNone bytes × IsLine closed due later_line
+ClusterCauses _ bytes closed due = ⊥
 
 -- what was due was written behind what the sink held
 pub record Wrote (held held_after : Option (List ℕ)) (Due : List ℕ → Type 0) : Type 0 where

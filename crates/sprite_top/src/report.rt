@@ -1,9 +1,11 @@
-ghost use Rattle.std.specs.Prelude.{codes, ◌≡◌, ◌<◌, ◌++◌, OnOk};
+ghost use Rattle.std.specs.Prelude.{codes, ◌≡◌, ◌<◌, ◌++◌, IfOk, OnOk};
 ghost use Rattle.std.specs.List.{flat_map};
 ghost use Rattle.std.specs.Fmt.{decimal};
+ghost use Rattle.sprite_top.specs.Refused.{has_place, place_part, refusal_line};
 ghost use Rattle.unix_calls.specs.Output.{lines_of, hexadecimal, escape, console_line, process_line};
 
 use crate::small::words::first_line;
+use cluster_file::Refusal;
 use sprite_ids::NoMemory;
 use std::alloc::Global;
 
@@ -96,4 +98,33 @@ pub fn push_process(
     push_exit(alloc, out, code)?;
     out.push(b'\n')?;
     Ok(())
+}
+
+/// The line about a refusal: its number, and its place where refusals of that number have one.
+pub fn refusal_line(alloc: Global, refusal: &Refusal) -> Result<Vec<u8>, NoMemory>
+    ensures { IfOk result (λ line. line.items ≡ refusal_line refusal.now) }
+{
+    let mut line = Vec::from_slice(alloc, b"refused: ")?;
+    push_decimal(alloc, &mut line, u32::from(refusal.number))?;
+    push_place(&mut line, refusal)?;
+    line.push(b'\n')?;
+    Ok(line)
+}
+
+/// Puts a space and the place of a refusal, where refusals of that number have one.
+fn push_place(out: &mut Vec<u8>, refusal: &Refusal) -> Result<(), NoMemory>
+    ensures { OnOk result (out.new.items ≡ out.old.items ++ place_part refusal.now) }
+{
+    if has_place(refusal.number) {
+        out.push(b' ')?;
+        out.extend_from_slice(refusal.at.as_slice())?;
+    }
+    Ok(())
+}
+
+/// Whether refusals of that number have a place.
+fn has_place(number: u8) -> bool
+    ensures { result ≡ has_place number }
+{
+    !(number == 1 || number == 2 || number == 8)
 }

@@ -255,7 +255,7 @@ fn a_failing_read_is_told(rt: HostRuntime) -> Result<(), Fail> {
     Ok(())
 }
 
-/// Lines of a program, and what its run prints: nothing where they are no small program.
+/// Lines of a program, and what is written: the output of its run, or the line of a refusal.
 const PROGRAMS: [(&[u8], &[u8]); 22] = [
     (b"sys exit 0", b"pid 1001 p c1 exit 0\n"),
     (b"sys exit 255", b"pid 1001 p c1 exit 255\n"),
@@ -264,7 +264,10 @@ const PROGRAMS: [(&[u8], &[u8]); 22] = [
         b"sys exit 18446744073709551615",
         b"pid 1001 p c1 exit 255\n",
     ),
-    (b"sys exit 18446744073709551616", b""),
+    (
+        b"sys exit 18446744073709551616",
+        b"refused: 11 program 1 line 1\n",
+    ),
     (b"  sys   exit  007  ", b"pid 1001 p c1 exit 7\n"),
     (
         b"text 0 \"a\\\\b\\\"c\"\nsys print 0 5\nsys exit 1",
@@ -274,14 +277,17 @@ const PROGRAMS: [(&[u8], &[u8]); 22] = [
         b"text 4094 \"ab\"\nsys print 4093 3\nsys exit 0",
         b"pid 1001 p c1 exit 0\n| \\00ab\n",
     ),
-    (b"text 4095 \"ab\"\nsys exit 0", b""),
+    (
+        b"text 4095 \"ab\"\nsys exit 0",
+        b"refused: 11 program 1 line 1\n",
+    ),
     (b"text 4096 \"\"\nsys exit 0", b"pid 1001 p c1 exit 0\n"),
     (
         b"sys print 4095 1\nsys exit 0",
         b"pid 1001 p c1 exit 0\n| \\00\n",
     ),
-    (b"sys print 4095 2\nsys exit 0", b""),
-    (b"sys print 4090 10", b""),
+    (b"sys print 4095 2\nsys exit 0", b"refused: 13\n"),
+    (b"sys print 4090 10", b"refused: 13\n"),
     (b"sys print 9000 0\nsys exit 0", b"pid 1001 p c1 exit 0\n"),
     (
         b"text 0 \"a\\n\\nb\"\nsys print 0 4\nsys print 0 2\nsys exit 0",
@@ -291,20 +297,23 @@ const PROGRAMS: [(&[u8], &[u8]); 22] = [
         b"text 0 \"ab\"\ntext 1 \"c\"\nsys print 0 2\nsys exit 0",
         b"pid 1001 p c1 exit 0\n| ac\n",
     ),
-    (b"sys exit 0\nsys exit 0", b""),
-    (b"sys exit 0\n", b""),
-    (b"# a comment\nsys exit 0", b""),
-    (b"sys print 0 6", b""),
-    (b"sys tick\nsys exit 0", b""),
-    (b"text 0 \"a\\tb\"\nsys exit 0", b""),
+    (b"sys exit 0\nsys exit 0", b"refused: 13\n"),
+    (b"sys exit 0\n", b"refused: 13\n"),
+    (b"# a comment\nsys exit 0", b"refused: 13\n"),
+    (b"sys print 0 6", b"refused: 13\n"),
+    (b"sys tick\nsys exit 0", b"refused: 13\n"),
+    (
+        b"text 0 \"a\\tb\"\nsys exit 0",
+        b"refused: 11 program 1 line 1\n",
+    ),
 ];
 
-/// Whether a program of these lines prints that, or is refused where that is nothing.
+/// Whether a program of these lines is answered with that.
 fn prints(alloc: Global, lines: &[u8], output: &[u8]) -> Result<bool, NoMemory> {
     let file = with_lines(alloc, lines)?;
     let left = called(alloc, &["run"], file.as_slice(), SOUND)?;
-    if output.is_empty() {
-        Ok(is_left(&left, Status::Refused, b"refused: 13\n", None))
+    if output.starts_with(b"refused") {
+        Ok(is_left(&left, Status::Refused, output, None))
     } else {
         Ok(left.status == Status::Ended && left.written.as_slice() == output)
     }
@@ -335,21 +344,37 @@ const PARTS: [&[u8]; 5] = [
     b"[[start]]\nhost = \"c1\"\nprogram = \"p\"\n",
 ];
 
-/// A part's number, what stands in its place, and what the run prints: nothing where that is no small description.
+/// A part's number, what stands in its place, and what is written: the output of the run, or the line of a refusal.
 const CHANGES: [(usize, &[u8], &[u8]); 24] = [
     (0, b"version = 1 # a comment\n", b"pid 1001 p c1 exit 0\n"),
-    (0, b"version = 2\n", b""),
-    (0, b"version = \"1\"\n", b""),
-    (0, b"", b""),
-    (0, b"version = 1\nbudget = 100\n", b""),
-    (0, b"version =\n", b""),
-    (0, b"\xff\n", b""),
-    (1, b"[[kernel]]\nname = \"c1\"\nserves = []\n", b""),
-    (1, b"[[kernel]]\nname = \"s1\"\n", b""),
-    (1, b"[[kernel]]\nname = \"C1\"\n", b""),
-    (1, b"[[kernel]]\nname = \"1c\"\n", b""),
-    (1, b"[[kernel]]\nname = \"\"\n", b""),
-    (1, b"", b""),
+    (0, b"version = 2\n", b"refused: 13\n"),
+    (0, b"version = \"1\"\n", b"refused: 5 version\n"),
+    (0, b"", b"refused: 4 version\n"),
+    (0, b"version = 1\nbudget = 100\n", b"refused: 13\n"),
+    (0, b"version =\n", b"refused: 2\n"),
+    (0, b"\xff\n", b"refused: 2\n"),
+    (
+        1,
+        b"[[kernel]]\nname = \"c1\"\nserves = []\n",
+        b"refused: 6 kernel 1 serves\n",
+    ),
+    (1, b"[[kernel]]\nname = \"s1\"\n", b"refused: 7 kernel 2\n"),
+    (
+        1,
+        b"[[kernel]]\nname = \"C1\"\n",
+        b"refused: 6 kernel 1 name\n",
+    ),
+    (
+        1,
+        b"[[kernel]]\nname = \"1c\"\n",
+        b"refused: 6 kernel 1 name\n",
+    ),
+    (
+        1,
+        b"[[kernel]]\nname = \"\"\n",
+        b"refused: 6 kernel 1 name\n",
+    ),
+    (1, b"", b"refused: 9 start 1 host\n"),
     (
         2,
         b"[[kernel]]\nname = \"a234567890123456\"\nserves = [\"/\"]\n",
@@ -358,24 +383,48 @@ const CHANGES: [(usize, &[u8], &[u8]); 24] = [
     (
         2,
         b"[[kernel]]\nname = \"a2345678901234567\"\nserves = [\"/\"]\n",
-        b"",
+        b"refused: 6 kernel 2 name\n",
     ),
-    (2, b"[[kernel]]\nname = \"s1\"\nserves = [\"/a\"]\n", b""),
+    (
+        2,
+        b"[[kernel]]\nname = \"s1\"\nserves = [\"/a\"]\n",
+        b"refused: 8\n",
+    ),
     (
         2,
         b"[[kernel]]\nname = \"s1\"\nserves = [\"/\", \"/a\"]\n",
-        b"",
+        b"refused: 13\n",
     ),
-    (2, b"[[kernel]]\nname = \"s1\"\n", b""),
-    (3, b"[[program]]\nname = \"p\"\n", b""),
-    (3, b"[[program]]\nname = \"p\"\ntext = \"\"\n", b""),
-    (3, b"[program]\nname = \"p\"\ntext = \"sys exit 0\"\n", b""),
-    (4, b"[[start]]\nhost = \"s1\"\nprogram = \"p\"\n", b""),
-    (4, b"[[start]]\nhost = \"c1\"\nprogram = \"q\"\n", b""),
+    (2, b"[[kernel]]\nname = \"s1\"\n", b"refused: 8\n"),
+    (
+        3,
+        b"[[program]]\nname = \"p\"\n",
+        b"refused: 4 program 1 text\n",
+    ),
+    (
+        3,
+        b"[[program]]\nname = \"p\"\ntext = \"\"\n",
+        b"refused: 13\n",
+    ),
+    (
+        3,
+        b"[program]\nname = \"p\"\ntext = \"sys exit 0\"\n",
+        b"refused: 5 program\n",
+    ),
+    (
+        4,
+        b"[[start]]\nhost = \"s1\"\nprogram = \"p\"\n",
+        b"refused: 9 start 1 host\n",
+    ),
+    (
+        4,
+        b"[[start]]\nhost = \"c1\"\nprogram = \"q\"\n",
+        b"refused: 12 start 1 program\n",
+    ),
     (
         4,
         b"[[start]]\nhost = \"c1\"\nprogram = \"p\"\narg = 1\n",
-        b"",
+        b"refused: 13\n",
     ),
 ];
 
@@ -388,12 +437,12 @@ fn with_part(alloc: Global, number: usize, part: &[u8]) -> Result<Vec<u8>, NoMem
     Ok(file)
 }
 
-/// Whether the changed description is run with that output, or refused where that is nothing.
+/// Whether the changed description is answered with that.
 fn answers(alloc: Global, number: usize, part: &[u8], output: &[u8]) -> Result<bool, NoMemory> {
     let file = with_part(alloc, number, part)?;
     let left = called(alloc, &["run"], file.as_slice(), SOUND)?;
-    if output.is_empty() {
-        Ok(is_left(&left, Status::Refused, b"refused: 13\n", None))
+    if output.starts_with(b"refused") {
+        Ok(is_left(&left, Status::Refused, output, None))
     } else {
         Ok(is_left(&left, Status::Ended, output, Some(3)))
     }

@@ -5,12 +5,13 @@ ghost use Rattle.sprite_bytes.specs.Counts.{Rose};
 ghost use Rattle.unix_calls.specs.Output.{output_of};
 ghost use Rattle.call_journal.specs.Journal.{journal_of};
 ghost use Rattle.sprite_top.specs.SmallRun.{IsSmall, IsRun};
-ghost use Rattle.sprite_top.specs.Top.{spelled, run_words, IsEnded, IsRefused, IsUsage, IsReadFault, Causes, FileCauses, Wrote, Broke, status_number};
+ghost use Rattle.sprite_top.specs.Top.{spelled, run_words, IsEnded, IsRefused, IsUsage, IsReadFault, Causes, FileCauses, ClusterCauses, Wrote, Broke, status_number};
 
-use crate::report::{push_console, push_process};
+use crate::report::{push_console, push_process, refusal_line};
 use crate::run::{Outcome, run};
 use crate::small::cluster::read_description;
 use call_journal::Closed;
+use cluster_file::FileEnd;
 use sprite_bytes::{ReadEnd, Sink, Source, read_all, write_all};
 use sprite_ids::{Bytes, Finish, NoMemory};
 use std::alloc::Global;
@@ -22,8 +23,11 @@ const FILE_BYTES: usize = 1_048_576;
 /// What is written where the words are no command.
 const USAGE_LINE: &[u8] = b"usage: sprite run | run --seed N | run --stats | history | load N\n";
 
-/// What is written for a file that isn't taken so far.
+/// What is written for a cluster that isn't run so far.
 const REFUSED_LINE: &[u8] = b"refused: 13\n";
+
+/// What is written for more bytes than a cluster file may have.
+const TOO_LONG_LINE: &[u8] = b"refused: 1\n";
 
 /// What is written where the source failed.
 const FAULT_LINE: &[u8] = b"read fault\n";
@@ -33,7 +37,7 @@ const FAULT_LINE: &[u8] = b"read fault\n";
 pub enum Status {
     /// 0: every process has ended, and the output was written.
     Ended,
-    /// 1: the bytes read are no cluster file.
+    /// 1: the bytes read are no cluster file, or they describe a cluster that isn't run so far.
     Refused,
     /// 2: the words are no command.
     Usage,
@@ -106,7 +110,7 @@ fn answer_to<S: Source>(alloc: Global, words: &[String], source: &mut S) -> Resu
     }
     match read_all(alloc, source, FILE_BYTES) {
         Ok(bytes) => answer_file(alloc, bytes.as_slice()),
-        Err(ReadEnd::TooLong) => refuse(alloc, Status::Refused, REFUSED_LINE),
+        Err(ReadEnd::TooLong) => refuse(alloc, Status::Refused, TOO_LONG_LINE),
         Err(ReadEnd::Fault { .. }) => refuse(alloc, Status::ReadFault, FAULT_LINE),
         Err(ReadEnd::NoMemory) => Err(NoMemory),
     }
@@ -136,6 +140,20 @@ fn refuse(alloc: Global, status: Status, line: &[u8]) -> Result<Answer, NoMemory
 /// What is due for a whole cluster file. The one error is want of memory.
 fn answer_file(alloc: Global, bytes: &[u8]) -> Result<Answer, NoMemory>
     ensures { IfOk result (λ a. FileCauses a.status bytes.now a.closed a.due) }
+{
+    match cluster_file::read_description(alloc, bytes) {
+        Ok(_) => answer_cluster(alloc, bytes),
+        Err(FileEnd::Refused(refusal)) => {
+            let line = refusal_line(alloc, &refusal)?;
+            refuse(alloc, Status::Refused, line.as_slice())
+        }
+        Err(FileEnd::NoMemory) => Err(NoMemory),
+    }
+}
+
+/// What is due for a file that describes a cluster. The one error is want of memory.
+fn answer_cluster(alloc: Global, bytes: &[u8]) -> Result<Answer, NoMemory>
+    ensures { IfOk result (λ a. ClusterCauses a.status bytes.now a.closed a.due) }
 {
     let Some(description) = read_description(alloc, bytes)? else {
         return refuse(alloc, Status::Refused, REFUSED_LINE);

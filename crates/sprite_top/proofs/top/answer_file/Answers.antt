@@ -1,12 +1,5 @@
-use Rattle.sprite_top.proofs.SmallLaws.{small_is}
+use Rattle.sprite_top.proofs.TopLaws.{from_cluster, from_refusal}
 use Rattle.sprite_top.proofs.top.answer_file.Goals as goal
 
-pub run-requires : goal.run-requires
-run-requires c =
-    let described = rw c.in-Some.is at c.in_ok-description.ensures.described in
-    small_is c.args.bytes.now c.in-Some.description described.1
-
-pub output-requires-clause-small : goal.output-requires-clause-small
-output-requires-clause-small c =
-    let described = rw c.in-Some.is at c.in_ok-description.ensures.described in
-    small_is c.args.bytes.now c.in-Some.description described.1
+pub returns-in-Ok : goal.returns-in-Ok
+returns-in-Ok c = from_cluster c.args.bytes.now c.in-Ok.field-0 c.answer_cluster.result c.in-Ok.ensures.described c.answer_cluster.ensures
