@@ -1,4 +1,4 @@
-use Rattle.sprite_top.proofs.TopLaws.{from_cluster, from_refusal}
+use Rattle.sprite_top.proofs.TopLaws.{from_cluster}
 use Rattle.sprite_top.proofs.top.answer_file.Goals as goal
 
 pub returns-in-Ok : goal.returns-in-Ok
