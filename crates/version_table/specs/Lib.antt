@@ -1,0 +1,6 @@
+pub mod Lists
+pub mod Modes
+pub mod Opens
+pub mod Files
+pub mod Decisions
+pub mod Versions
