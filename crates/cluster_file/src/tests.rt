@@ -1,7 +1,10 @@
+mod worked;
+
 use crate::{FileEnd, read_description};
 use sprite_ids::NoMemory;
 use std::alloc::Global;
 use std::test::Fail;
+use worked::WORKED;
 
 // What stands before the texts of a table: two clients and a server, and nothing.
 const NOTHING: &[u8] = b"";
@@ -390,6 +393,12 @@ fn files_are_read_or_refused(rt: HostRuntime) -> Result<(), Fail> {
     assert_eq!(rt; wrong_row(alloc, NOTHING, &WHOLE)?, None);
     assert_eq!(rt; wrong_row(alloc, VERSION_ONE, &ONE)?, None);
     assert_eq!(rt; wrong_row(alloc, VERSION_TWO, &TWO)?, None);
+    Ok(())
+}
+
+#[test]
+fn worked_files_are_read(rt: HostRuntime) -> Result<(), Fail> {
+    assert_eq!(rt; wrong_row(rt.alloc(), NOTHING, &WORKED)?, None);
     Ok(())
 }
 
