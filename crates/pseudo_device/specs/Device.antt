@@ -4,8 +4,8 @@ use Rattle.sprite_ids.specs.declared.Errno.{Errno}
 use Rattle.process_machine.specs.declared.Reply.{Reply}
 use Rattle.process_machine.specs.declared.Reply.TheVariants.{Value, Error}
 use Rattle.pseudo_device.specs.declared.ask.Ask.{Ask}
-use Rattle.pseudo_device.specs.declared.ask.AskKind.{AskKind}
-use Rattle.pseudo_device.specs.declared.ask.AskKind.TheVariants.{Read, Write, Ioctl}
+use Rattle.sprite_ids.specs.declared.AskKind.{AskKind}
+use Rattle.sprite_ids.specs.declared.AskKind.TheVariants.{Read, Write, Ioctl}
 use Rattle.pseudo_device.specs.declared.ask.Answer.{Answer}
 use Rattle.pseudo_device.specs.declared.end.TakeEnd.{TakeEnd}
 use Rattle.pseudo_device.specs.declared.end.TakeEnd.TheVariants.{Busy, Empty, Long, NoMemory}

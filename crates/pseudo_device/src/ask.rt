@@ -2,17 +2,8 @@ ghost use Rattle.std.specs.Prelude.{◌≡◌, IfOk};
 ghost use Rattle.pseudo_device.specs.Device.{most, takes, reply_of};
 
 use process_machine::Reply;
-use sprite_ids::{Bytes, Copying, Errno, NoMemory, Pid};
+use sprite_ids::{AskKind, Bytes, Copying, Errno, NoMemory, Pid};
 use std::alloc::Global;
-
-/// What an operation on a pseudo-device asks of its master.
-#[derive(Clone, Copy, Debug, PartialEq, Eq, Hash)]
-pub enum AskKind {
-    Read,
-    Write,
-    /// A command of the device's own.
-    Ioctl,
-}
 
 /// An operation on a pseudo-device, which its master is to answer (Welch and Ousterhout 1988; the fields are this
 /// project's).
@@ -36,12 +27,6 @@ pub struct Ask {
 pub struct Answer {
     pub ask: Ask,
     pub reply: Reply,
-}
-
-impl Copying for AskKind {
-    fn copy(&self, _alloc: Global) -> Result<AskKind, NoMemory> {
-        Ok(*self)
-    }
 }
 
 impl Copying for Ask {

@@ -1,8 +1,8 @@
-use crate::ask::{Answer, Ask, AskKind};
+use crate::ask::{Answer, Ask};
 use crate::device::Device;
 use crate::end::{PutEnd, TakeEnd};
 use process_machine::Reply;
-use sprite_ids::{Bytes, Errno, Kernel, Pid};
+use sprite_ids::{AskKind, Bytes, Errno, Kernel, Pid};
 use std::alloc::Global;
 use std::test::Fail;
 

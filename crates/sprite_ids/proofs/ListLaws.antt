@@ -1,5 +1,5 @@
 -- What every crate above cites about lists: `AllByRecursion` under the edits of a list, and the looked-up item.
-use Rattle.std.proofs.Common.{◌≡◌, ℕ, zero, suc, ◌+◌, ◌<◌, ◌≤◌, List, [], ◌∷◌, ◌++◌, length, take, drop, map, replicate, Option, Some, None, Bool, true, false, cond, refl, ap, sym, subst, ◌∙◌, arith, slice_get, slice_set, slice_index, get_or, filter}
+use Rattle.std.proofs.Common.{◌≡◌, ℕ, zero, suc, ◌<◌, ◌≤◌, List, [], ◌∷◌, ◌++◌, length, take, drop, map, replicate, Some, Bool, true, false, cond, refl, ap, sym, subst, arith, slice_get, slice_set, filter}
 use Rattle.std.specs.List.{AllByRecursion}
 
 -- the items of equal `Some`s are equal

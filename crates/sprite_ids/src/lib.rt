@@ -19,7 +19,7 @@ pub use copying::Copying;
 pub use errno::Errno;
 pub use items::Items;
 pub use kernel::Kernel;
-pub use names::{BlockNo, CopyNo, DeviceId, FileId, Mode, Object, StreamNo, TxNo};
+pub use names::{AskKind, BlockNo, CopyNo, DeviceId, FileId, Mode, Object, StreamNo, TxNo};
 pub use no_memory::NoMemory;
 pub use pid::Pid;
 pub use running::{Ending, Finish, Tries};

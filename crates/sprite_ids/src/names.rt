@@ -107,3 +107,18 @@ impl Copying for Object {
         Ok(*self)
     }
 }
+
+/// What an operation on a pseudo-device asks of its master (Welch and Ousterhout 1988).
+#[derive(Clone, Copy, Debug, PartialEq, Eq, Hash)]
+pub enum AskKind {
+    Read,
+    Write,
+    /// A command of the device's own.
+    Ioctl,
+}
+
+impl Copying for AskKind {
+    fn copy(&self, _alloc: Global) -> Result<AskKind, NoMemory> {
+        Ok(*self)
+    }
+}
