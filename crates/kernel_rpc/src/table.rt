@@ -243,17 +243,12 @@ pub(crate) fn resend<L: Link>(
     let Some(call) = find_call(table.unfinished.as_slice(), tx) else {
         unreachable!();
     };
-    let count = call.receivers.len();
+    let receivers = call.receivers.as_slice();
+    let count = receivers.len();
     make_room(&mut table.copies, table.next_copy, count)?;
     let mut sent = Vec::with_capacity(alloc, count)?;
     let packet = request(call, table.next_copy, call.owner);
-    send_to(
-        link,
-        &mut table.copies,
-        &packet,
-        call.receivers.as_slice(),
-        &mut sent,
-    );
+    send_to(link, &mut table.copies, &packet, receivers, &mut sent);
     table.next_copy += 2 * (count as u64);
     set_tried(&mut table.unfinished, tx);
     Ok(sent)
