@@ -9,10 +9,10 @@ use Rattle.sprite_ids.specs.declared.StreamNo.{StreamNo}
 use Rattle.sprite_ids.proofs.ListLaws.{each_set, each_filter}
 use Rattle.version_table.specs.declared.versioned.Asking.{Asking}
 use Rattle.version_table.specs.declared.versioned.Versioned.{Versioned}
-use Rattle.version_table.specs.Lists.{EachOnce, without}
+use Rattle.sprite_ids.specs.Lists.{EachOnce, without}
 use Rattle.version_table.specs.Files.{fresh, is_busy, answered, settling, settled, closed, IsReadyFor, IsReady}
 use Rattle.version_table.specs.Versions.{Table, is_of, same_file, or_fresh, file_of, with_file, closing_in, with_closed, AreKept}
-use Rattle.version_table.proofs.ListLaws.{IsSameness, found_there, put_here, put_once, taken, none_taken, none_found, at_most_one, filtered_once}
+use Rattle.sprite_ids.proofs.OnceLaws.{IsSameness, found_there, put_here, put_once, taken, none_taken, none_found, at_most_one, filtered_once}
 use Rattle.version_table.proofs.OpenLaws.{found_none}
 
 eq_turned : (a b : ℕ) → (a == b) ≡ (b == a)

@@ -10,12 +10,12 @@ use Rattle.version_table.specs.declared.action.Action.{Action}
 use Rattle.version_table.specs.declared.action.Decision.{Decision}
 use Rattle.version_table.specs.declared.versioned.Asking.{Asking}
 use Rattle.version_table.specs.declared.versioned.Versioned.{Versioned}
-use Rattle.version_table.specs.Lists.{EachOnce}
+use Rattle.sprite_ids.specs.Lists.{EachOnce}
 use Rattle.version_table.specs.Opens.{are_roomy}
 use Rattle.version_table.specs.Files.{fresh, is_uncached, call_of, with_call, calls_to, calls_of, called, told, waiting, deciding, decided, is_roomy, IsReadyFor, IsReady}
 use Rattle.version_table.specs.Decisions.{decision_of}
 use Rattle.version_table.specs.Versions.{Table, is_of, file_of, with_file, has_room, same_file, AreKept}
-use Rattle.version_table.proofs.ListLaws.{found_there, put_once}
+use Rattle.sprite_ids.proofs.OnceLaws.{found_there, put_once}
 use Rattle.version_table.proofs.OpenLaws.{all_found, is_few, put_end}
 use Rattle.version_table.proofs.FileLaws.{of, file_changed, changed_kept, ready_there, file_absent, files_same}
 

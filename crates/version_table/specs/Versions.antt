@@ -4,7 +4,7 @@ use Rattle.std.specs.List.{AllByRecursion, find, list_all}
 use Rattle.sprite_ids.specs.declared.FileId.{FileId}
 use Rattle.sprite_ids.specs.declared.StreamNo.{StreamNo}
 use Rattle.version_table.specs.declared.versioned.Versioned.{Versioned}
-use Rattle.version_table.specs.Lists.{put, EachOnce}
+use Rattle.sprite_ids.specs.Lists.{put, EachOnce}
 use Rattle.version_table.specs.Files.{fresh, closed, is_roomy, IsReady}
 
 -- whether clients have a cache, and the files that anybody opened

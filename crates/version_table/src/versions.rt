@@ -1,6 +1,7 @@
 ghost use Rattle.std.specs.Prelude.{◌≡◌, IsTrue, IfOk, OnOk, OnErr, Some, None, [], false, not, option_map, length, ◌<◌, ◌++◌, ◌∷◌, remove};
 ghost use Rattle.std.specs.List.{find, position};
-ghost use Rattle.version_table.specs.Lists.{is_any, without};
+ghost use Rattle.sprite_ids.specs.Lists.{without};
+ghost use Rattle.version_table.specs.Lists.{is_any};
 ghost use Rattle.version_table.specs.Opens.{count_in, open_at, stream_mode};
 ghost use Rattle.version_table.specs.Files.{fresh, is_busy, is_any_out, is_roomy, decided, answered, is_last, settled, settled_grant, closed, is_closed, current, IsReady};
 ghost use Rattle.version_table.specs.Decisions.{decision_of};
