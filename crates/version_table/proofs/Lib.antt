@@ -4,3 +4,4 @@ pub mod DecisionLaws
 pub mod ReadyLaws
 pub mod SettleLaws
 pub mod SharingLaws
+pub mod CoherenceLaws

@@ -1,8 +1,7 @@
 -- Who has a file open after an open, a move or a close, and when that is write sharing.
-use Rattle.std.proofs.Common.{rules, tests, ◌≡◌, ℕ, ◌+◌, ◌-◌, ◌==◌, nat_le, Bool, true, false, ◌&&◌, ◌||◌, not, cond, List, [], ◌∷◌, Option, Some, None, refl, sym, ap, subst, ◌∙◌, true≢false}
+use Rattle.std.proofs.Common.{rules, tests, ◌≡◌, ℕ, ◌+◌, ◌-◌, ◌==◌, nat_le, Bool, true, false, ◌&&◌, ◌||◌, not, cond, List, [], ◌∷◌, Option, Some, None, refl, sym, ap, ◌∙◌, true≢false}
 use Rattle.std.specs.List.{find, list_any}
 use Rattle.std.proofs.lemmas.Bool.{and_parts, eqb-true}
-use Rattle.std.proofs.lemmas.Bool.Decides.{eqb_tells}
 use Rattle.sprite_ids.specs.declared.StreamNo.{StreamNo}
 use Rattle.sprite_ids.specs.declared.Mode.{Mode}
 use Rattle.sprite_ids.specs.Lists.{put, less}
@@ -12,7 +11,7 @@ use Rattle.version_table.specs.declared.action.Action.{Action}
 use Rattle.version_table.specs.declared.action.Action.TheVariants.{Opening, Moving}
 use Rattle.version_table.specs.Lists.{is_any}
 use Rattle.version_table.specs.Modes.{writes}
-use Rattle.version_table.specs.Opens.{is_at, open_at, count_in, taking, taken_off, added, left_by, opened, stream_of, receiver, mode_of, is_writing, has_open, is_elsewhere, is_spread, is_written, is_write_shared}
+use Rattle.version_table.specs.Opens.{is_at, open_at, count_in, taking, taken_off, left_by, opened, stream_of, receiver, mode_of, is_writing, has_open, is_elsewhere, is_spread, is_written, is_write_shared}
 use Rattle.version_table.specs.Coherence.{has_writing}
 
 or_more : (a b c d : Bool) → (a ≡ true → b ≡ true) → (c ≡ true → d ≡ true) → (a || c) ≡ true → (b || d) ≡ true
@@ -75,7 +74,7 @@ found_in q p one (x ∷ xs) is e = by_place (λ is. found_in q p one xs is e) (p
     by_place later false is = or_last (q x) (list_any q xs) (later is)
 
 -- a test of an open by its kernel and its mode
-abbrev test_of : (ℕ → Mode → Bool) → Open → Bool
+abbrev pub test_of : (ℕ → Mode → Bool) → Open → Bool
 test_of f one = f one.kernel one.mode
 
 either : (a b : Bool) → (a ≡ true → b ≡ true) → (a || b) ≡ true → b ≡ true
