@@ -57,7 +57,7 @@ off_there (mode ∷ modes) zero = refl
 off_there (mode ∷ modes) (suc at) = off_there modes at
 
 -- one more callback
-fold_push : (file : Versioned) (calls : List Callback) (call : Callback) → fold called file (calls ++ call ∷ []) ≡ called (fold called file calls) call
+pub fold_push : (file : Versioned) (calls : List Callback) (call : Callback) → fold called file (calls ++ call ∷ []) ≡ called (fold called file calls) call
 fold_push file [] call = refl
 fold_push file (first ∷ calls) call = fold_push (called file first) calls call
 

@@ -5,3 +5,5 @@ pub mod ReadyLaws
 pub mod SettleLaws
 pub mod SharingLaws
 pub mod CoherenceLaws
+pub mod SharedLaws
+pub mod StampLaws

@@ -4,4 +4,5 @@ pub mod Opens
 pub mod Files
 pub mod Coherence
 pub mod Decisions
+pub mod Laws
 pub mod Versions
