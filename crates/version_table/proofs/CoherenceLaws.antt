@@ -20,7 +20,7 @@ use Rattle.version_table.specs.Lists.{is_any}
 use Rattle.version_table.specs.Modes.{writes, mode_of_grant}
 use Rattle.version_table.specs.Opens.{opened, sharing, receiver, truncates, is_writing, taken_off, has_open, is_written, is_write_shared}
 use Rattle.version_table.specs.Files.{fresh, is_busy, is_kernel, is_holder, is_on_in, is_on, is_uncached, is_stopped, with_call, calls_to, calls_of, called, granted, told, waiting, deciding, decided, answered, settling, settled, closing, closed, IsReadyFor, IsReady}
-use Rattle.version_table.specs.Coherence.{has_writing, WaitsAlone, IsCoherent}
+use Rattle.version_table.specs.Coherence.{has_open_for_writing, WaitsAlone, IsCoherent}
 use Rattle.version_table.proofs.SharingLaws.{test_of, taken_within, receiver_has_open, no_new_writer, writer_writes, writer_opens, some_writer, writer_is_alone, apart_within}
 
 -- a file that nobody opened
@@ -107,7 +107,7 @@ all_stopped base file action zero same = record { under = λ place low. absurd (
 all_stopped base file action (suc n) same = stopped_more base file action n (is_stopped file action (suc n)) refl (all_stopped base file action n same)
 
 -- a kernel that has the file open for writing is the holder after a grant of mode On
-holds_by : (file : Versioned) (action : Action) (opens : List Open) (kernel : ℕ) (b : Bool) → is_writing file.opens action ≡ b → is_write_shared opens ≡ false → has_open opens (receiver action) ≡ true → has_writing opens kernel ≡ true → (is_writing file.opens action ≡ false → is_holder file kernel ≡ true) → is_kernel kernel (if b && not false then Some (receiver action) else file.holder) ≡ true
+holds_by : (file : Versioned) (action : Action) (opens : List Open) (kernel : ℕ) (b : Bool) → is_writing file.opens action ≡ b → is_write_shared opens ≡ false → has_open opens (receiver action) ≡ true → has_open_for_writing opens kernel ≡ true → (is_writing file.opens action ≡ false → is_holder file kernel ≡ true) → is_kernel kernel (if b && not false then Some (receiver action) else file.holder) ≡ true
 holds_by file action opens kernel true e apart there writing before = writer_is_alone opens kernel (receiver action) apart writing there
 holds_by file action opens kernel false e apart there writing before = before e
 

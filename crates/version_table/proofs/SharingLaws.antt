@@ -12,7 +12,7 @@ use Rattle.version_table.specs.declared.action.Action.TheVariants.{Opening, Movi
 use Rattle.version_table.specs.Lists.{is_any}
 use Rattle.version_table.specs.Modes.{writes}
 use Rattle.version_table.specs.Opens.{is_at, open_at, count_in, taking, taken_off, left_by, opened, stream_of, receiver, mode_of, is_writing, has_open, is_elsewhere, is_spread, is_written, is_write_shared}
-use Rattle.version_table.specs.Coherence.{has_writing}
+use Rattle.version_table.specs.Coherence.{has_open_for_writing}
 
 or_more : (a b c d : Bool) → (a ≡ true → b ≡ true) → (c ≡ true → d ≡ true) → (a || c) ≡ true → (b || d) ≡ true
 or_more true b c d h k e = ap (λ b. b || d) (h refl)
@@ -120,42 +120,42 @@ and_false_last true b e = e
 and_false_last false b e = refl
 
 -- an open or a move that isn't for writing leaves no kernel writing that wasn't
-pub no_new_writer : (opens : List Open) (action : Action) (kernel : ℕ) → is_writing opens action ≡ false → has_writing (opened opens action) kernel ≡ true → has_writing opens kernel ≡ true
+pub no_new_writer : (opens : List Open) (action : Action) (kernel : ℕ) → is_writing opens action ≡ false → has_open_for_writing (opened opens action) kernel ≡ true → has_open_for_writing opens kernel ≡ true
 no_new_writer opens action kernel e h =
     let either_one = opened_within (λ at mode. (at == kernel) && writes mode) opens action h in
-    either ((receiver action == kernel) && is_writing opens action) (has_writing opens kernel) (λ new. absurd (true≢false (sym new ∙ and_false_last (receiver action == kernel) (is_writing opens action) e))) either_one
+    either ((receiver action == kernel) && is_writing opens action) (has_open_for_writing opens kernel) (λ new. absurd (true≢false (sym new ∙ and_false_last (receiver action == kernel) (is_writing opens action) e))) either_one
 
 second : (a b : Bool) → (a && b) ≡ true → b ≡ true
 second a b e = (and_parts a b e).1
 
 -- a file that a kernel has open for writing is one that any has open for writing
-pub writer_writes : (opens : List Open) (kernel : ℕ) → has_writing opens kernel ≡ true → is_written opens ≡ true
+pub writer_writes : (opens : List Open) (kernel : ℕ) → has_open_for_writing opens kernel ≡ true → is_written opens ≡ true
 writer_writes opens kernel h = any_more (λ (one : Open). (one.kernel == kernel) && writes one.mode) (λ (one : Open). writes one.mode) opens (λ one e. second (one.kernel == kernel) (writes one.mode) e) h
 
 -- and one that is open
-pub writer_opens : (opens : List Open) (kernel : ℕ) → has_writing opens kernel ≡ true → is_any opens ≡ true
+pub writer_opens : (opens : List Open) (kernel : ℕ) → has_open_for_writing opens kernel ≡ true → is_any opens ≡ true
 writer_opens opens kernel h = any_there (λ (one : Open). (one.kernel == kernel) && writes one.mode) opens h
 
 -- a file that any kernel has open for writing is one that a certain kernel has
-pub some_writer : (opens : List Open) → is_written opens ≡ true → (kernel : ℕ) × (has_writing opens kernel ≡ true)
+pub some_writer : (opens : List Open) → is_written opens ≡ true → (kernel : ℕ) × (has_open_for_writing opens kernel ≡ true)
 some_writer [] h = absurd (cc)
 some_writer (one ∷ opens) h = by_first (some_writer opens) (writes one.mode) refl h
   where
-    by_first : (is_written opens ≡ true → (kernel : ℕ) × (has_writing opens kernel ≡ true)) → (b : Bool) → writes one.mode ≡ b → (b || is_written opens) ≡ true → (kernel : ℕ) × (has_writing (one ∷ opens) kernel ≡ true)
-    by_first later true e h = (one.kernel, ap (λ b. (b && writes one.mode) || has_writing opens one.kernel) (itself one.kernel) ∙ ap (λ b. b || has_writing opens one.kernel) e)
-    by_first later false e h = let other = later h in (other.0, or_last ((one.kernel == other.0) && writes one.mode) (has_writing opens other.0) other.1)
+    by_first : (is_written opens ≡ true → (kernel : ℕ) × (has_open_for_writing opens kernel ≡ true)) → (b : Bool) → writes one.mode ≡ b → (b || is_written opens) ≡ true → (kernel : ℕ) × (has_open_for_writing (one ∷ opens) kernel ≡ true)
+    by_first later true e h = (one.kernel, ap (λ b. (b && writes one.mode) || has_open_for_writing opens one.kernel) (itself one.kernel) ∙ ap (λ b. b || has_open_for_writing opens one.kernel) e)
+    by_first later false e h = let other = later h in (other.0, or_last ((one.kernel == other.0) && writes one.mode) (has_open_for_writing opens other.0) other.1)
 
 differs : (at other kernel : ℕ) → (other == kernel) ≡ false → (at == other) ≡ true → not (at == kernel) ≡ true
 differs at other kernel e is = ap (λ n. not (n == kernel)) (eqb-true at other is) ∙ ap not e
 
-spread_by : (opens : List Open) (writer other : ℕ) → (other == writer) ≡ false → has_writing opens writer ≡ true → has_open opens other ≡ true → is_write_shared opens ≡ true
+spread_by : (opens : List Open) (writer other : ℕ) → (other == writer) ≡ false → has_open_for_writing opens writer ≡ true → has_open opens other ≡ true → is_write_shared opens ≡ true
 spread_by opens writer other e writing there =
     let elsewhere : is_elsewhere opens writer ≡ true = any_more (λ (one : Open). one.kernel == other) (λ (one : Open). not (one.kernel == writer)) opens (λ one is. differs one.kernel other writer e is) there in
     let spread : is_spread opens ≡ true = any_more (λ (one : Open). (one.kernel == writer) && writes one.mode) (λ (one : Open). is_elsewhere opens one.kernel) opens (λ one is. ap (is_elsewhere opens) (eqb-true one.kernel writer (and_parts (one.kernel == writer) (writes one.mode) is).0) ∙ elsewhere) writing in
     ap (λ b. b && is_written opens) spread ∙ writer_writes opens writer writing
 
 -- where a file isn't write shared, a kernel that has it open for writing is the only one that has it open
-pub writer_is_alone : (opens : List Open) (writer other : ℕ) → is_write_shared opens ≡ false → has_writing opens writer ≡ true → has_open opens other ≡ true → (other == writer) ≡ true
+pub writer_is_alone : (opens : List Open) (writer other : ℕ) → is_write_shared opens ≡ false → has_open_for_writing opens writer ≡ true → has_open opens other ≡ true → (other == writer) ≡ true
 writer_is_alone opens writer other apart writing there = by_kernel (other == writer) refl
   where
     by_kernel : (b : Bool) → (other == writer) ≡ b → (other == writer) ≡ true

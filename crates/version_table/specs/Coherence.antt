@@ -9,8 +9,8 @@ use Rattle.version_table.specs.Opens.{is_writing, is_written, is_write_shared}
 use Rattle.version_table.specs.Files.{is_busy, is_holder, is_on, IsReady}
 
 -- whether the kernel has the file open for writing
-abbrev pub has_writing : List Open → ℕ → Bool
-has_writing opens kernel = list_any (λ one. (one.kernel == kernel) && writes one.mode) opens
+abbrev pub has_open_for_writing : List Open → ℕ → Bool
+has_open_for_writing opens kernel = list_any (λ one. (one.kernel == kernel) && writes one.mode) opens
 
 -- an open or a move that waits leads to no write sharing, and to an open for writing only where it is one
 abbrev pub WaitsAlone : List Open → Option Asking → Type 0
@@ -23,7 +23,7 @@ pub record IsCoherent (file : Versioned) : Type 0 where
   pub alone : file.uncached ≡ false → is_write_shared file.opens ≡ false
   pub waits : file.uncached ≡ false → WaitsAlone file.opens file.asking
   pub stopped : file.uncached ≡ true → (kernel : ℕ) → kernel ≤ 16 → is_on file kernel ≡ false
-  pub holds : file.uncached ≡ false → is_busy file ≡ false → (kernel : ℕ) → has_writing file.opens kernel ≡ true → is_holder file kernel ≡ true
+  pub holds : file.uncached ≡ false → is_busy file ≡ false → (kernel : ℕ) → has_open_for_writing file.opens kernel ≡ true → is_holder file kernel ≡ true
 
 -- what holds of each file of the table
 pub record IsKept (file : Versioned) : Type 0 where

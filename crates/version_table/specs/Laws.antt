@@ -10,12 +10,12 @@ use Rattle.version_table.specs.declared.action.Decision.TheVariants.{Grant as Gr
 use Rattle.version_table.specs.declared.versioned.Versioned.{Versioned}
 use Rattle.version_table.specs.Opens.{has_open}
 use Rattle.version_table.specs.Files.{fresh, is_busy, is_holder, is_on, is_uncached, call_of, calls_of, decided, answered, settled, settled_grant, closed}
-use Rattle.version_table.specs.Coherence.{has_writing}
+use Rattle.version_table.specs.Coherence.{has_open_for_writing}
 use Rattle.version_table.specs.Decisions.{decision_of}
 
 -- a kernel that has the file open for writing is the only kernel that has it open
 abbrev pub IsAlone : Versioned → ℕ → Type 0
-IsAlone file writer = has_writing file.opens writer ≡ true → (other : ℕ) → has_open file.opens other ≡ true → other ≡ writer
+IsAlone file writer = has_open_for_writing file.opens writer ≡ true → (other : ℕ) → has_open file.opens other ≡ true → other ≡ writer
 
 -- of a file that isn't uncached, that is so of each kernel
 abbrev pub CachedIsUnshared : Versioned → Type 0
@@ -28,7 +28,7 @@ CachingIsUnshared file = (caching : ℕ) → caching ≤ 16 → is_on file cachi
 -- a kernel that has the file open for writing and was given mode On last is the possible holder of dirty blocks, where the
 -- file isn't busy
 abbrev pub CachingIsHolder : Versioned → Type 0
-CachingIsHolder file = is_busy file ≡ false → (writer : ℕ) → writer ≤ 16 → is_on file writer ≡ true → has_writing file.opens writer ≡ true → is_holder file writer ≡ true
+CachingIsHolder file = is_busy file ≡ false → (writer : ℕ) → writer ≤ 16 → is_on file writer ≡ true → has_open_for_writing file.opens writer ≡ true → is_holder file writer ≡ true
 
 -- of an uncached file no kernel was given mode On last
 abbrev pub UncachedIsStopped : Versioned → Type 0

@@ -6,7 +6,8 @@ pub fn callbacks_go_once()
     ensures { CallbacksGoOnce }
 {}
 
-/// A law: the stamp of each grant and of each callback of a file is greater than all stamps that were given of it before.
+/// A law: until a file is forgotten, the stamp of each grant and of each callback of it is greater than all its stamps
+/// before.
 pub fn stamps_rise()
     ensures { StampsRise }
 {}
