@@ -324,8 +324,8 @@ impl<M: Message + Drop, L: Link> Wire<M, L> {
         !is_used(self.table.unfinished.as_slice(), kernel, port)
     }
 
-    /// The least port at which the kernel has no unfinished call. There always is one: no more calls are unfinished than were
-    /// begun, and a call can stand at one port more.
+    /// The least port at which the kernel has no unfinished call. There always is one, since no more calls are unfinished than
+    /// were begun; it is at most their number.
     pub fn free_port(&self, kernel: Kernel) -> u32
         ensures free { is_free self.now.machine kernel result ≡ true }
         ensures least { AreUsed self.now.machine kernel result }
