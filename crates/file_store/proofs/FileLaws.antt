@@ -1,153 +1,50 @@
 -- Each file is kept once, and is found and changed at one place.
-use Rattle.std.proofs.Common.{rules, tests, ◌≡◌, ℕ, zero, suc, ◌+◌, ◌*◌, ◌<◌, ◌≤◌, ◌==◌, nat_lt, Bool, true, false, ◌||◌, not, cond, List, [], ◌∷◌, ◌++◌, length, Option, Some, None, Result, Ok, Err, OnOk, OnErr, refl, sym, ap, subst, ◌∙◌, arith, slice_set, get_or, is_some, option_map}
-use Rattle.std.specs.List.{filter, find, list_any, position, position_or_len, remove}
+use Rattle.std.proofs.Common.{rules, tests, ◌≡◌, ℕ, zero, suc, ◌+◌, ◌*◌, ◌<◌, ◌≤◌, ◌==◌, Bool, true, false, ◌||◌, not, cond, List, [], ◌∷◌, length, Option, Some, None, Result, Ok, Err, OnOk, OnErr, refl, sym, ap, subst, ◌∙◌, arith, slice_set, get_or, is_some, option_map}
+use Rattle.std.specs.List.{find, list_any, position}
 use Rattle.std.proofs.lemmas.List.{length-append, length-replicate, length-take, length-drop}
 use Rattle.std.proofs.lemmas.List.Quantifiers.{position-Some}
 use Rattle.std.proofs.lemmas.Bool.{and_parts, eqb-true}
 use Rattle.std.proofs.lemmas.Bool.Decides.{eqb_tells}
 use Rattle.sprite_ids.specs.declared.FileId.{FileId}
 use Rattle.sprite_ids.proofs.ListLaws.{each_filter, each_push, each_set}
+use Rattle.sprite_ids.specs.Lists.{without, EachOnce}
+use Rattle.sprite_ids.proofs.OnceLaws.{IsSameness, AtMostOne, at_most_one, filtered_once, pushed_once, found_is_any, found_there, changed_here, dropped, stays}
 use Rattle.file_store.specs.declared.store.Stored.{Stored}
 use Rattle.file_store.specs.Content.{grown, over, written, block_put}
-use Rattle.file_store.specs.Files.{is_of, is_there, bytes_of, held, or_none, with_bytes, with_new, without, EachOnce, AreWithin}
-
--- neither of two is true where not one of them is
-or_false : (a b : Bool) → (a || b) ≡ false → (a ≡ false) × (b ≡ false)
-or_false true b h = absurd (cc)
-or_false false b h = (refl, h)
-
--- what a filter does with its first item
-dropped : {X : Type 0} (p : X → Bool) (x : X) (xs : List X) → p x ≡ true → filter (λ y. not (p y)) (x ∷ xs) ≡ filter (λ y. not (p y)) xs
-dropped p x xs e = ap (λ b. cond (not b) (x ∷ filter (λ y. not (p y)) xs) (filter (λ y. not (p y)) xs)) e
-
-stays : {X : Type 0} (p : X → Bool) (x : X) (xs : List X) → p x ≡ false → filter (λ y. not (p y)) (x ∷ xs) ≡ x ∷ filter (λ y. not (p y)) xs
-stays p x xs e = ap (λ b. cond (not b) (x ∷ filter (λ y. not (p y)) xs) (filter (λ y. not (p y)) xs)) e
-
--- a test that passes nothing leaves the list
-pub none_taken : {X : Type 0} (p : X → Bool) (xs : List X) → list_any p xs ≡ false → filter (λ x. not (p x)) xs ≡ xs
-none_taken p [] h = refl
-none_taken p (x ∷ xs) h =
-    let parts = or_false (p x) (list_any p xs) h in
-    stays p x xs parts.0 ∙ ap (λ ys. x ∷ ys) (none_taken p xs parts.1)
-
-none_left_first : {X : Type 0} (p : X → Bool) (x : X) (xs : List X) (b : Bool) → p x ≡ b → list_any p (filter (λ x. not (p x)) xs) ≡ false → list_any p (filter (λ x. not (p x)) (x ∷ xs)) ≡ false
-none_left_first p x xs true e h = ap (list_any p) (dropped p x xs e) ∙ h
-none_left_first p x xs false e h = ap (list_any p) (stays p x xs e) ∙ ap (λ b. b || list_any p (filter (λ x. not (p x)) xs)) e ∙ h
-
--- the test finds nothing in what it took the items from
-pub none_left : {X : Type 0} (p : X → Bool) (xs : List X) → list_any p (filter (λ x. not (p x)) xs) ≡ false
-none_left p [] = refl
-none_left p (x ∷ xs) = none_left_first p x xs (p x) refl (none_left p xs)
-
--- at most one item passes the test
-abbrev pub AtMostOne : {X : Type 0} → (X → Bool) → List X → Type 0
-AtMostOne p [] = Unit {0}
-AtMostOne p (x ∷ xs) = (p x ≡ true → list_any p xs ≡ false) × AtMostOne p xs
-
-taken_at : {X : Type 0} (p : X → Bool) (xs : List X) (i : ℕ) (d : X) → AtMostOne p xs → i < length xs → p (get_or xs i d) ≡ true → ((k : ℕ) → k < i → p (get_or xs k d) ≡ false) → remove xs i ≡ filter (λ x. not (p x)) xs
-taken_at p [] i d o h t f = absurd (omega arith)
-taken_at p (x ∷ xs) zero d o h t f = sym (dropped p x xs t ∙ none_taken p xs (o.0 t))
-taken_at p (x ∷ xs) (suc i) d o h t f =
-    ap (λ ys. x ∷ ys) (taken_at p xs i d o.1 (omega arith) t (λ k less. f (suc k) (omega arith))) ∙ sym (stays p x xs (f 0 (omega arith)))
-
--- the first item that passes is the one that the filter takes
-pub taken : {X : Type 0} (p : X → Bool) (xs : List X) (i : ℕ) (d : X) → AtMostOne p xs → position p xs ≡ Some i → remove xs i ≡ filter (λ x. not (p x)) xs
-taken p xs i d o e =
-    let found = position-Some p xs i d e in
-    taken_at p xs i d o found.0 found.1 found.2
-
-found_first : {X : Type 0} (p : X → Bool) (x : X) (n len : ℕ) (i : Option ℕ) (b : Bool) → i ≡ cond (nat_lt n len) (Some n) None → is_some (cond (nat_lt (cond (not b) (1 + n) 0) (suc len)) (Some (cond (not b) (1 + n) 0)) None) ≡ (b || is_some i)
-found_first p x n len i true e = search (rules, tests, e)
-found_first p x n len i false e = search (rules, tests, e)
-
--- a position is found exactly where an item passes
-pub found_is_any : {X : Type 0} (p : X → Bool) (xs : List X) → is_some (position p xs) ≡ list_any p xs
-found_is_any p [] = refl
-found_is_any p (x ∷ xs) =
-    found_first p x (position_or_len p xs) (length xs) (position p xs) (p x) refl ∙ ap (λ b. p x || b) (found_is_any p xs)
-
-found_at : {X : Type 0} (p : X → Bool) (xs : List X) (i : ℕ) (d : X) → i < length xs → p (get_or xs i d) ≡ true → ((k : ℕ) → k < i → p (get_or xs k d) ≡ false) → find p xs ≡ Some (get_or xs i d)
-found_at p [] i d h t f = absurd (omega arith)
-found_at p (x ∷ xs) zero d h t f = ap (λ b. cond b (Some x) (find p xs)) t
-found_at p (x ∷ xs) (suc i) d h t f =
-    ap (λ b. cond b (Some x) (find p xs)) (f 0 (omega arith)) ∙ found_at p xs i d (omega arith) t (λ k less. f (suc k) (omega arith))
-
--- the item at the position is the one that is found
-pub found_there : {X : Type 0} (p : X → Bool) (xs : List X) (i : ℕ) (d : X) → position p xs ≡ Some i → find p xs ≡ Some (get_or xs i d)
-found_there p xs i d e =
-    let found = position-Some p xs i d e in
-    found_at p xs i d found.0 found.1 found.2
+use Rattle.file_store.specs.Files.{is_of, is_there, bytes_of, held, or_none, with_bytes, with_new, same_file, AreWithin}
 
 -- entries of one file
-same_file : (file : FileId) (x : Stored) → is_of file x ≡ true → (y : Stored) → is_of x.file y ≡ is_of file y
-same_file file x h y =
-    let parts = and_parts (x.file.server == file.server) (x.file.number == file.number) h in
-    let server = eqb-true x.file.server file.server parts.0 in
-    let number = eqb-true x.file.number file.number parts.1 in
+joined : (x y : Stored) → same_file x y ≡ true → (z : Stored) → same_file x z ≡ same_file y z
+joined x y h z =
+    let parts = and_parts (y.file.server == x.file.server) (y.file.number == x.file.number) h in
+    let server = eqb-true y.file.server x.file.server parts.0 in
+    let number = eqb-true y.file.number x.file.number parts.1 in
     rw (server, number) refl
-
-same_any : (file : FileId) (x : Stored) → is_of file x ≡ true → (ys : List Stored) → list_any (is_of x.file) ys ≡ list_any (is_of file) ys
-same_any file x h [] = refl
-same_any file x h (y ∷ ys) =
-    ap (λ b. b || list_any (is_of x.file) ys) (same_file file x h y) ∙ ap (λ b. is_of file y || b) (same_any file x h ys)
-
--- each file once is at most one entry of a file
-pub at_most_one : (file : FileId) (xs : List Stored) → EachOnce xs → AtMostOne (is_of file) xs
-at_most_one file [] h = tt
-at_most_one file (x ∷ xs) h = (λ e. sym (same_any file x e xs) ∙ h.0, at_most_one file xs h.1)
-
--- fewer entries pass no more tests
-filtered_any : {X : Type 0} (q p : X → Bool) (xs : List X) → list_any q xs ≡ false → list_any q (filter p xs) ≡ false
-filtered_any q p [] h = refl
-filtered_any q p (x ∷ xs) h =
-    let parts = or_false (q x) (list_any q xs) h in
-    elim (p x) as (λ b. list_any q (cond b (x ∷ filter p xs) (filter p xs)) ≡ false) [ true ↦ ap (λ b. b || list_any q (filter p xs)) parts.0 ∙ filtered_any q p xs parts.1 | false ↦ filtered_any q p xs parts.1 ]
-
-filtered_once : (p : Stored → Bool) (xs : List Stored) → EachOnce xs → EachOnce (filter p xs)
-filtered_once p [] h = tt
-filtered_once p (x ∷ xs) h =
-    elim (p x) as (λ b. EachOnce (cond b (x ∷ filter p xs) (filter p xs))) [ true ↦ (filtered_any (is_of x.file) p xs h.0, filtered_once p xs h.1) | false ↦ filtered_once p xs h.1 ]
-
--- without a file the others are each there once, and within the limit
-pub without_kept : (limit : ℕ) (file : FileId) (xs : List Stored) → EachOnce xs × AreWithin limit xs → EachOnce (without xs file) × AreWithin limit (without xs file)
-without_kept limit file xs h =
-    (filtered_once (λ stored. not (is_of file stored)) xs h.0, each_filter (λ (stored : Stored). length stored.bytes ≤ limit) (λ stored. not (is_of file stored)) xs h.1)
 
 eq_turned : (a b : ℕ) → (a == b) ≡ (b == a)
 eq_turned a b = search (rules, tests, eqb_tells a b, eqb_tells b a)
 
-other_file : (x y : Stored) → is_of x.file y ≡ false → is_of y.file x ≡ false
-other_file x y h = rw (eq_turned x.file.server y.file.server, eq_turned x.file.number y.file.number) h
+files_same : IsSameness same_file
+files_same = record { joined = joined; turned = λ x y. rw (eq_turned x.file.server y.file.server, eq_turned x.file.number y.file.number) refl }
 
-pushed_any : {X : Type 0} (q : X → Bool) (e : X) (xs : List X) → q e ≡ false → list_any q xs ≡ false → list_any q (xs ++ e ∷ []) ≡ false
-pushed_any q e [] k h = ap (λ b. b || false) k
-pushed_any q e (x ∷ xs) k h =
-    let parts = or_false (q x) (list_any q xs) h in
-    ap (λ b. b || list_any q (xs ++ e ∷ [])) parts.0 ∙ pushed_any q e xs k parts.1
+-- each file once is at most one entry of a file
+pub one_entry : (file : FileId) (xs : List Stored) → EachOnce same_file xs → AtMostOne (is_of file) xs
+one_entry file xs h = at_most_one same_file files_same (record { file = file; bytes = [] }) xs h
 
-pushed_once : (e : Stored) (xs : List Stored) → list_any (is_of e.file) xs ≡ false → EachOnce xs → EachOnce (xs ++ e ∷ [])
-pushed_once e [] k h = (refl, tt)
-pushed_once e (x ∷ xs) k h =
-    let parts = or_false (is_of e.file x) (list_any (is_of e.file) xs) k in
-    (pushed_any (is_of x.file) e xs (other_file e x parts.0) h.0, pushed_once e xs parts.1 h.1)
+-- without a file the others are each there once, and within the limit
+pub without_kept : (limit : ℕ) (file : FileId) (xs : List Stored) → EachOnce same_file xs × AreWithin limit xs → EachOnce same_file (without (is_of file) xs) × AreWithin limit (without (is_of file) xs)
+without_kept limit file xs h =
+    (filtered_once same_file (λ stored. not (is_of file stored)) xs h.0, each_filter (λ (stored : Stored). length stored.bytes ≤ limit) (λ stored. not (is_of file stored)) xs h.1)
 
 -- with a new file too
-pub new_kept : (limit : ℕ) (file : FileId) (xs : List Stored) → is_there xs file ≡ false → EachOnce xs × AreWithin limit xs → EachOnce (with_new xs file) × AreWithin limit (with_new xs file)
+pub new_kept : (limit : ℕ) (file : FileId) (xs : List Stored) → is_there xs file ≡ false → EachOnce same_file xs × AreWithin limit xs → EachOnce same_file (with_new xs file) × AreWithin limit (with_new xs file)
 new_kept limit file xs k h =
     let e : Stored = record { file = file; bytes = [] } in
-    (pushed_once e xs k h.0, each_push (λ (stored : Stored). length stored.bytes ≤ limit) xs e h.1 (omega arith))
-
-put_at : (file : FileId) (bytes : List ℕ) (xs : List Stored) (i : ℕ) (d : Stored) → i < length xs → is_of file (get_or xs i d) ≡ true → ((k : ℕ) → k < i → is_of file (get_or xs k d) ≡ false) → with_bytes xs file bytes ≡ slice_set xs i (record { file = (get_or xs i d).file; bytes = bytes })
-put_at file bytes [] i d h t k = absurd (omega arith)
-put_at file bytes (x ∷ xs) zero d h t k = ap (λ b. cond b (record x { bytes = bytes } ∷ xs) (x ∷ with_bytes xs file bytes)) t
-put_at file bytes (x ∷ xs) (suc i) d h t k =
-    ap (λ b. cond b (record x { bytes = bytes } ∷ xs) (x ∷ with_bytes xs file bytes)) (k 0 (omega arith)) ∙ ap (λ ys. x ∷ ys) (put_at file bytes xs i d (omega arith) t (λ j less. k (suc j) (omega arith)))
+    (pushed_once same_file files_same e xs k h.0, each_push (λ (stored : Stored). length stored.bytes ≤ limit) xs e h.1 (omega arith))
 
 -- the bytes that are put at the file's place are the file's
 pub put_there : (file : FileId) (bytes : List ℕ) (xs : List Stored) (i : ℕ) (d : Stored) → position (is_of file) xs ≡ Some i → d ≡ get_or xs i d → slice_set xs i (record { file = d.file; bytes = bytes }) ≡ with_bytes xs file bytes
-put_there file bytes xs i d e is =
-    let found = position-Some (is_of file) xs i d e in
-    ap (λ (s : Stored). slice_set xs i (record { file = s.file; bytes = bytes })) is ∙ sym (put_at file bytes xs i d found.0 found.1 found.2)
+put_there file bytes xs i d e is = changed_here (is_of file) (λ (s : Stored). record s { bytes = bytes }) xs i d e is
 
 -- the bytes at the file's place are those that it holds
 pub held_there : (file : FileId) (xs : List Stored) (i : ℕ) (d : Stored) → position (is_of file) xs ≡ Some i → d ≡ get_or xs i d → held xs file ≡ d.bytes
@@ -160,15 +57,15 @@ changed_any key file bytes [] = refl
 changed_any key file bytes (x ∷ xs) =
     elim (is_of file x) as (λ b. list_any (is_of key) (cond b (record x { bytes = bytes } ∷ xs) (x ∷ with_bytes xs file bytes)) ≡ list_any (is_of key) (x ∷ xs)) [ true ↦ refl | false ↦ ap (λ b. is_of key x || b) (changed_any key file bytes xs) ]
 
-changed_once : (file : FileId) (bytes : List ℕ) (xs : List Stored) → EachOnce xs → EachOnce (with_bytes xs file bytes)
+changed_once : (file : FileId) (bytes : List ℕ) (xs : List Stored) → EachOnce same_file xs → EachOnce same_file (with_bytes xs file bytes)
 changed_once file bytes [] h = tt
 changed_once file bytes (x ∷ xs) h =
-    elim (is_of file x) as (λ b. EachOnce (cond b (record x { bytes = bytes } ∷ xs) (x ∷ with_bytes xs file bytes))) [ true ↦ h | false ↦ (changed_any x.file file bytes xs ∙ h.0, changed_once file bytes xs h.1) ]
+    elim (is_of file x) as (λ b. EachOnce same_file (cond b (record x { bytes = bytes } ∷ xs) (x ∷ with_bytes xs file bytes))) [ true ↦ h | false ↦ (changed_any x.file file bytes xs ∙ h.0, changed_once file bytes xs h.1) ]
 
 -- bytes within the limit, put at the file's place, keep each file once and within the limit
-pub put_kept : (limit : ℕ) (file : FileId) (bytes : List ℕ) (xs : List Stored) (i : ℕ) (d : Stored) → position (is_of file) xs ≡ Some i → d ≡ get_or xs i d → length bytes ≤ limit → EachOnce xs × AreWithin limit xs → EachOnce (slice_set xs i (record { file = d.file; bytes = bytes })) × AreWithin limit (slice_set xs i (record { file = d.file; bytes = bytes }))
+pub put_kept : (limit : ℕ) (file : FileId) (bytes : List ℕ) (xs : List Stored) (i : ℕ) (d : Stored) → position (is_of file) xs ≡ Some i → d ≡ get_or xs i d → length bytes ≤ limit → EachOnce same_file xs × AreWithin limit xs → EachOnce same_file (slice_set xs i (record { file = d.file; bytes = bytes })) × AreWithin limit (slice_set xs i (record { file = d.file; bytes = bytes }))
 put_kept limit file bytes xs i d e is short h =
-    (subst EachOnce (sym (put_there file bytes xs i d e is)) (changed_once file bytes xs h.0), each_set (λ (stored : Stored). length stored.bytes ≤ limit) xs i (record { file = d.file; bytes = bytes }) short h.1)
+    (subst (EachOnce same_file) (sym (put_there file bytes xs i d e is)) (changed_once file bytes xs h.0), each_set (λ (stored : Stored). length stored.bytes ≤ limit) xs i (record { file = d.file; bytes = bytes }) short h.1)
 
 within_at : (limit : ℕ) (xs : List Stored) (i : ℕ) (d : Stored) → i < length xs → AreWithin limit xs → length (get_or xs i d).bytes ≤ limit
 within_at limit [] i d h w = absurd (omega arith)
@@ -258,13 +155,13 @@ pub others_made : (files : List Stored) (file other : FileId) → (other ≡ fil
 others_made [] file other ne = skipped (record { file = file; bytes = [] }) [] other (not_of (record { file = file; bytes = [] }) other ne)
 others_made (s ∷ rest) file other ne = behind s (with_new rest file) rest other (others_made rest file other ne)
 
-gone_first : (s : Stored) (rest : List Stored) (file other : FileId) (b : Bool) → is_of file s ≡ b → (other ≡ file → ⊥) → bytes_of (without rest file) other ≡ bytes_of rest other → bytes_of (without (s ∷ rest) file) other ≡ bytes_of (s ∷ rest) other
+gone_first : (s : Stored) (rest : List Stored) (file other : FileId) (b : Bool) → is_of file s ≡ b → (other ≡ file → ⊥) → bytes_of (without (is_of file) rest) other ≡ bytes_of rest other → bytes_of (without (is_of file) (s ∷ rest)) other ≡ bytes_of (s ∷ rest) other
 gone_first s rest file other true e ne h =
     ap (λ xs. bytes_of xs other) (dropped (is_of file) s rest e) ∙ h ∙ sym (skipped s rest other (of_one s file other ne e))
 gone_first s rest file other false e ne h =
-    ap (λ xs. bytes_of xs other) (stays (is_of file) s rest e) ∙ behind s (without rest file) rest other h
+    ap (λ xs. bytes_of xs other) (stays (is_of file) s rest e) ∙ behind s (without (is_of file) rest) rest other h
 
-pub others_gone : (files : List Stored) (file other : FileId) → (other ≡ file → ⊥) → bytes_of (without files file) other ≡ bytes_of files other
+pub others_gone : (files : List Stored) (file other : FileId) → (other ≡ file → ⊥) → bytes_of (without (is_of file) files) other ≡ bytes_of files other
 others_gone [] file other ne = refl
 others_gone (s ∷ rest) file other ne = gone_first s rest file other (is_of file s) refl ne (others_gone rest file other ne)
 

@@ -1,7 +1,8 @@
 -- The files of one server.
-use Rattle.std.specs.Prelude.{◌≡◌, ℕ, ◌≤◌, ◌==◌, Bool, false, ◌&&◌, not, if◌then◌else◌, List, [], ◌∷◌, ◌++◌, length, Option, Some, None, option_map}
-use Rattle.std.specs.List.{AllByRecursion, filter, find, list_any}
+use Rattle.std.specs.Prelude.{ℕ, ◌≤◌, ◌==◌, Bool, ◌&&◌, List, [], ◌∷◌, ◌++◌, length, Option, Some, None, option_map}
+use Rattle.std.specs.List.{AllByRecursion, find, list_any}
 use Rattle.sprite_ids.specs.declared.FileId.{FileId}
+use Rattle.sprite_ids.specs.Lists.{changed, EachOnce}
 use Rattle.file_store.specs.declared.store.Stored.{Stored}
 
 -- the most bytes that a file may have, and the files
@@ -32,21 +33,15 @@ held files file = or_none (bytes_of files file)
 
 -- the files with other bytes in one of them
 abbrev pub with_bytes : List Stored → FileId → List ℕ → List Stored
-with_bytes [] file bytes = []
-with_bytes (first ∷ rest) file bytes = if is_of file first then record first { bytes = bytes } ∷ rest else first ∷ with_bytes rest file bytes
+with_bytes files file bytes = changed (is_of file) (λ stored. record stored { bytes = bytes }) files
 
 -- the files and an empty one
 abbrev pub with_new : List Stored → FileId → List Stored
 with_new files file = files ++ record { file = file; bytes = [] } ∷ []
 
--- the other files
-abbrev pub without : List Stored → FileId → List Stored
-without files file = filter (λ stored. not (is_of file stored)) files
-
--- no file stands twice
-abbrev pub EachOnce : List Stored → Type 0
-EachOnce [] = Unit {0}
-EachOnce (first ∷ rest) = (list_any (is_of first.file) rest ≡ false) × EachOnce rest
+-- whether the two are one file
+abbrev pub same_file : Stored → Stored → Bool
+same_file stored other = is_of stored.file other
 
 -- no file is longer than the limit
 abbrev pub AreWithin : ℕ → List Stored → Type 0
@@ -54,4 +49,4 @@ AreWithin limit files = AllByRecursion (λ (stored : Stored). length stored.byte
 
 -- each file once, within the limit
 abbrev pub AreKept : ℕ → List Stored → Type 0
-AreKept limit files = EachOnce files × AreWithin limit files
+AreKept limit files = EachOnce same_file files × AreWithin limit files

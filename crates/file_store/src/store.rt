@@ -1,7 +1,8 @@
 ghost use Rattle.std.specs.Prelude.{◌≡◌, ◌≤◌, ◌<◌, ◌+◌, ◌*◌, [], false, Some, IfOk, OnOk, OnErr, IsTrue, length};
 ghost use Rattle.std.specs.List.{position};
 ghost use Rattle.file_store.specs.Content.{read_of, written, block_put};
-ghost use Rattle.file_store.specs.Files.{is_of, is_there, held, with_bytes, with_new, without};
+ghost use Rattle.sprite_ids.specs.Lists.{without};
+ghost use Rattle.file_store.specs.Files.{is_of, is_there, held, with_bytes, with_new};
 
 use crate::content::Content;
 use sprite_ids::{BlockNo, FileId, NoMemory};
@@ -136,7 +137,7 @@ impl Store {
     /// Drops the file, which is there.
     pub fn forget(&mut self, file: FileId)
         requires { IsTrue (is_there self.old.files file) }
-        ensures { self.new ≡ record self.old { files = without self.old.files file } }
+        ensures { self.new ≡ record self.old { files = without (is_of file) self.old.files } }
     {
         let at = place_of(self.files.as_slice(), file);
         self.files.remove(at);

@@ -7,9 +7,9 @@ use Rattle.link_plan.specs.declared.Fate.{Fate}
 use Rattle.link_plan.specs.declared.Fate.TheVariants.{Once, Lost, Twice, Late}
 use Rattle.link_plan.specs.Counts.{Asks, IsAsked, same_pair}
 use Rattle.kernel_rpc.specs.declared.call.PacketCopy.{PacketCopy}
-use Rattle.kernel_rpc.specs.Lists.{dropped}
+use Rattle.sprite_ids.specs.Lists.{less}
 use Rattle.kernel_rpc.specs.Copies.{copies_by, requests}
-use Rattle.kernel_rpc.proofs.FirstLaws.{or_false}
+use Rattle.sprite_ids.proofs.OnceLaws.{or_false}
 
 -- nothing passes in two lists together exactly where nothing passes in each
 pub none_append : {X : Type 0} (q : X → Bool) (xs ys : List X) → list_any q (xs ++ ys) ≡ false → (list_any q xs ≡ false) × (list_any q ys ≡ false)
@@ -26,20 +26,20 @@ both_none q (x ∷ xs) ys h k =
     ap (λ b. b || list_any q (xs ++ ys)) parts.0 ∙ both_none q xs ys parts.1 k
 
 -- where nothing passes, nothing passes without one item
-pub none_dropped : {X : Type 0} (q p : X → Bool) (xs : List X) → list_any q xs ≡ false → list_any q (dropped p xs) ≡ false
+pub none_dropped : {X : Type 0} (q p : X → Bool) (xs : List X) → list_any q xs ≡ false → list_any q (less p xs) ≡ false
 none_dropped q p [] h = refl
 none_dropped q p (x ∷ xs) h =
     let parts = or_false (q x) (list_any q xs) h in
-    elim (p x) as (λ b. list_any q (cond b xs (x ∷ dropped p xs)) ≡ false) [ true ↦ parts.1 | false ↦ ap (λ b. b || list_any q (dropped p xs)) parts.0 ∙ none_dropped q p xs parts.1 ]
+    elim (p x) as (λ b. list_any q (cond b xs (x ∷ less p xs)) ≡ false) [ true ↦ parts.1 | false ↦ ap (λ b. b || list_any q (less p xs)) parts.0 ∙ none_dropped q p xs parts.1 ]
 
-undropped_by : {X : Type 0} (q p : X → Bool) (x first : X) (xs : List X) → q x ≡ false → (find p xs ≡ Some x → list_any q (dropped p xs) ≡ false → list_any q xs ≡ false) → (b : Bool) → cond b (Some first) (find p xs) ≡ Some x → list_any q (cond b xs (first ∷ dropped p xs)) ≡ false → list_any q (first ∷ xs) ≡ false
+undropped_by : {X : Type 0} (q p : X → Bool) (x first : X) (xs : List X) → q x ≡ false → (find p xs ≡ Some x → list_any q (less p xs) ≡ false → list_any q xs ≡ false) → (b : Bool) → cond b (Some first) (find p xs) ≡ Some x → list_any q (cond b xs (first ∷ less p xs)) ≡ false → list_any q (first ∷ xs) ≡ false
 undropped_by q p x first xs unlike rest true found h = ap (λ b. b || list_any q xs) (ap q (some_is first x found) ∙ unlike) ∙ h
 undropped_by q p x first xs unlike rest false found h =
-    let parts = or_false (q first) (list_any q (dropped p xs)) h in
+    let parts = or_false (q first) (list_any q (less p xs)) h in
     ap (λ b. b || list_any q xs) parts.0 ∙ rest found parts.1
 
 -- where nothing passes without one item, and that doesn't pass either, nothing passes
-pub none_undropped : {X : Type 0} (q p : X → Bool) (x : X) (xs : List X) → find p xs ≡ Some x → q x ≡ false → list_any q (dropped p xs) ≡ false → list_any q xs ≡ false
+pub none_undropped : {X : Type 0} (q p : X → Bool) (x : X) (xs : List X) → find p xs ≡ Some x → q x ≡ false → list_any q (less p xs) ≡ false → list_any q xs ≡ false
 none_undropped q p x [] found unlike h = refl
 none_undropped q p x (first ∷ xs) found unlike h = undropped_by q p x first xs unlike (λ e k. none_undropped q p x xs e unlike k) (p first) found h
 
@@ -55,9 +55,9 @@ found_none q p x (first ∷ xs) found h =
     found_none_by q p x first xs (λ e. found_none q p x xs e parts.1) parts.0 (p first) found
 
 -- a fact of each item is one of each without one
-pub each_without : {X : Type 0} (P : X → Type 0) (p : X → Bool) (xs : List X) → AllByRecursion P xs → AllByRecursion P (dropped p xs)
+pub each_without : {X : Type 0} (P : X → Type 0) (p : X → Bool) (xs : List X) → AllByRecursion P xs → AllByRecursion P (less p xs)
 each_without P p [] h = tt
-each_without P p (x ∷ xs) h = elim (p x) as (λ b. AllByRecursion P (cond b xs (x ∷ dropped p xs))) [ true ↦ h.1 | false ↦ (h.0, each_without P p xs h.1) ]
+each_without P p (x ∷ xs) h = elim (p x) as (λ b. AllByRecursion P (cond b xs (x ∷ less p xs))) [ true ↦ h.1 | false ↦ (h.0, each_without P p xs h.1) ]
 
 -- a fact that copies of a packet have, whatever their numbers and lateness, is one of all its copies
 pub each_by : (P : PacketCopy → Type 0) (given : Fate) (packet : PacketCopy) → P packet → P (record packet { number = record { 0 = packet.number.0 + 1 } }) → P (record packet { late = true }) → AllByRecursion P (copies_by given packet)

@@ -13,21 +13,21 @@ use Rattle.kernel_rpc.specs.declared.call.Part.TheVariants.{Waiting, Holding, Si
 use Rattle.kernel_rpc.specs.declared.call.Arrival.TheVariants.{FirstRequest, FirstReply, AskedAgain, Past}
 use Rattle.kernel_rpc.specs.declared.call.Call.{Call}
 use Rattle.kernel_rpc.specs.declared.call.PacketCopy.{PacketCopy}
-use Rattle.kernel_rpc.specs.Lists.{changed, dropped}
+use Rattle.sprite_ids.specs.Lists.{changed, less}
 use Rattle.kernel_rpc.specs.Copies.{copies_by}
 use Rattle.kernel_rpc.specs.Machine.{Machine, answer, answered, arrival, arrival_at, arrival_back, arrival_of, call_of, copy_of, delivered_as, further, gave_up, holds, is_call, is_copy, is_of_call, landed, part_of, reply_to, replied, request, silent, with_part}
 use Rattle.kernel_rpc.specs.Links.{AsksBack}
 use Rattle.kernel_rpc.specs.Sound.{HasBegun, IsSound, OwnerStands, Sound, brings_on, is_reply_of}
-use Rattle.kernel_rpc.proofs.FirstLaws.{found_passes}
+use Rattle.sprite_ids.proofs.OnceLaws.{found_passes}
 use Rattle.kernel_rpc.proofs.NumberLaws.{each_changed, each_dropped, each_other, changed_same, numbered_changed, numbered_dropped}
 use Rattle.kernel_rpc.proofs.CopyLaws.{none_append, both_none, none_dropped, none_undropped, found_none, each_without, each_by, is_lost, pair_turned, lost_raises}
 use Rattle.kernel_rpc.proofs.PartLaws.{part_further, part_stays, and_false, false_first, both_true, eq_same}
 use Rattle.kernel_rpc.proofs.SoundLaws.{kept, found_is, found_sound, found_within, other_copy, others_none}
 
 -- a copy of another call landed
-landed_kept : (reads : List ℕ → Type 0) (faults : ℕ → ℕ → ℕ) (copies : List PacketCopy) (number : PacketCopy → Bool) (copy : PacketCopy) (call : Call) → find number copies ≡ Some copy → brings_on call copy ≡ false → IsSound reads faults copies call → IsSound reads faults (dropped number copies) call
+landed_kept : (reads : List ℕ → Type 0) (faults : ℕ → ℕ → ℕ) (copies : List PacketCopy) (number : PacketCopy → Bool) (copy : PacketCopy) (call : Call) → find number copies ≡ Some copy → brings_on call copy ≡ false → IsSound reads faults copies call → IsSound reads faults (less number copies) call
 landed_kept reads faults copies number copy call found unlike h =
-    kept reads faults faults copies (dropped number copies) call h (λ a b. omega arith) (λ none. none_dropped (is_reply_of call) number copies none) (λ none. none_undropped (brings_on call) number copy copies found unlike none)
+    kept reads faults faults copies (less number copies) call h (λ a b. omega arith) (λ none. none_dropped (is_reply_of call) number copies none) (λ none. none_undropped (brings_on call) number copy copies found unlike none)
 
 -- what a copy of another call is to a call
 unlike_other : (copy : PacketCopy) (call : Call) → is_call copy.tx call ≡ false → brings_on call copy ≡ false
@@ -42,7 +42,7 @@ now_holding None h = tt
 now_holding (Some reply) h = absurd h
 
 -- a request that a receiver takes
-taken_sound : (reads : List ℕ → Type 0) (faults : ℕ → ℕ → ℕ) (copies : List PacketCopy) (number : PacketCopy → Bool) (copy : PacketCopy) (call : Call) → find number copies ≡ Some copy → copy.reply ≡ false → part_of copy.to call.receivers ≡ Some Waiting → IsSound reads faults copies call → (b : Bool) → (copy.to == call.owner) ≡ b → IsSound reads faults (dropped number copies) (further copy.to Holding call)
+taken_sound : (reads : List ℕ → Type 0) (faults : ℕ → ℕ → ℕ) (copies : List PacketCopy) (number : PacketCopy → Bool) (copy : PacketCopy) (call : Call) → find number copies ≡ Some copy → copy.reply ≡ false → part_of copy.to call.receivers ≡ Some Waiting → IsSound reads faults copies call → (b : Bool) → (copy.to == call.owner) ≡ b → IsSound reads faults (less number copies) (further copy.to Holding call)
 taken_sound reads faults copies number copy call found request waits h true is =
     let owner = eqb-true copy.to call.owner is in
     let before : part_of call.owner call.receivers ≡ Some Waiting = subst (λ n. part_of n call.receivers ≡ Some Waiting) owner waits in
@@ -68,7 +68,7 @@ taken_sound reads faults copies number copy call found request waits h false is 
 
 pub take_request_sound : (reads : List ℕ → Type 0) (faults : ℕ → ℕ → ℕ) (machine : Machine) (copy : PacketCopy) (call : Call) → copy_of machine copy.number ≡ Some copy → call_of machine copy.tx ≡ Some call → copy.reply ≡ false → part_of copy.to call.receivers ≡ Some Waiting → (given : Fate) → Sound reads faults machine → Sound reads faults (delivered_as FirstRequest copy given (landed copy machine))
 take_request_sound reads faults machine copy call flying found request waits given h =
-    let after = dropped (is_copy copy.number) machine.copies in
+    let after = less (is_copy copy.number) machine.copies in
     let old = found_sound (IsSound reads faults machine.copies) (is_call copy.tx) call machine.unfinished found h.calls in
     let now = taken_sound reads faults machine.copies (is_copy copy.number) copy call flying request waits old (copy.to == call.owner) refl in
     record {
@@ -83,7 +83,7 @@ take_reply_sound reads faults machine copy flying given h =
     record {
       numbered = numbered_dropped (is_call copy.tx) 0 machine.begun machine.unfinished h.numbered;
       flying = each_without (HasBegun machine.begun) (is_copy copy.number) machine.copies h.flying;
-      calls = each_dropped (IsSound reads faults machine.copies) (IsSound reads faults (dropped (is_copy copy.number) machine.copies)) copy.tx 0 machine.begun machine.unfinished h.numbered (λ other e k. landed_kept reads faults machine.copies (is_copy copy.number) copy other flying (unlike_other copy other e) k) h.calls;
+      calls = each_dropped (IsSound reads faults machine.copies) (IsSound reads faults (less (is_copy copy.number) machine.copies)) copy.tx 0 machine.begun machine.unfinished h.numbered (λ other e k. landed_kept reads faults machine.copies (is_copy copy.number) copy other flying (unlike_other copy other e) k) h.calls;
     }
 
 -- a call that is given up
@@ -126,7 +126,7 @@ reply_moves faults asked before after call number given asks none =
 -- a reply that is sent again
 pub take_again_sound : {L : Type 0} (reads : List ℕ → Type 0) (faults asked : L → ℕ → ℕ → ℕ) (before after : L) (machine : Machine) (copy : PacketCopy) (call : Call) (given : Fate) → copy_of machine copy.number ≡ Some copy → call_of machine copy.tx ≡ Some call → is_some call.reply ≡ true → AsksBack faults asked before after given (Some call) → Sound reads (faults before) machine → Sound reads (faults after) (delivered_as AskedAgain copy given (landed copy machine))
 take_again_sound reads faults asked before after machine copy call given flying found there asks h =
-    let left = dropped (is_copy copy.number) machine.copies in
+    let left = less (is_copy copy.number) machine.copies in
     let packet = reply_to call machine.next_copy in
     let more = copies_by given packet in
     let grow = asks.never_fall in
@@ -189,7 +189,7 @@ no_reply : (reply : Option (List ℕ)) → arrival_back reply ≡ Past → is_so
 no_reply None e = refl
 no_reply (Some reply) e = absurd (cc)
 
-past_kept : (reads : List ℕ → Type 0) (faults : ℕ → ℕ → ℕ) (copies : List PacketCopy) (number : PacketCopy → Bool) (copy : PacketCopy) (call : Call) → find number copies ≡ Some copy → is_call copy.tx call ≡ true → IsSound reads faults copies call → (reply owner : Bool) → copy.reply ≡ reply → (copy.to == call.owner) ≡ owner → cond reply (arrival_back call.reply) (arrival_at (part_of copy.to call.receivers) call.reply) ≡ Past → IsSound reads faults (dropped number copies) call
+past_kept : (reads : List ℕ → Type 0) (faults : ℕ → ℕ → ℕ) (copies : List PacketCopy) (number : PacketCopy → Bool) (copy : PacketCopy) (call : Call) → find number copies ≡ Some copy → is_call copy.tx call ≡ true → IsSound reads faults copies call → (reply owner : Bool) → copy.reply ≡ reply → (copy.to == call.owner) ≡ owner → cond reply (arrival_back call.reply) (arrival_at (part_of copy.to call.receivers) call.reply) ≡ Past → IsSound reads faults (less number copies) call
 past_kept reads faults copies number copy call found is h true owner back to past =
     let none = found_none (is_reply_of call) number copy copies found (h.replies (no_reply call.reply past)) in
     let of_call : (copy.tx.0 == call.tx.0) ≡ true = grind (arith, nat_tests) in
@@ -216,11 +216,11 @@ nothing_passes : (p : Call → Bool) (calls : List Call) → find p calls ≡ No
 nothing_passes p [] e = refl
 nothing_passes p (first ∷ calls) e = nothing_by p first calls (nothing_passes p calls) (p first) e
 
-past_by : (reads : List ℕ → Type 0) (faults : ℕ → ℕ → ℕ) (machine : Machine) (copy : PacketCopy) → copy_of machine copy.number ≡ Some copy → Sound reads faults machine → (o : Option Call) → call_of machine copy.tx ≡ o → arrival_of copy o ≡ Past → AllByRecursion (IsSound reads faults (dropped (is_copy copy.number) machine.copies)) machine.unfinished
+past_by : (reads : List ℕ → Type 0) (faults : ℕ → ℕ → ℕ) (machine : Machine) (copy : PacketCopy) → copy_of machine copy.number ≡ Some copy → Sound reads faults machine → (o : Option Call) → call_of machine copy.tx ≡ o → arrival_of copy o ≡ Past → AllByRecursion (IsSound reads faults (less (is_copy copy.number) machine.copies)) machine.unfinished
 past_by reads faults machine copy flying h None found past =
-    each_other (IsSound reads faults machine.copies) (IsSound reads faults (dropped (is_copy copy.number) machine.copies)) (is_call copy.tx) machine.unfinished (nothing_passes (is_call copy.tx) machine.unfinished found) (λ other e k. landed_kept reads faults machine.copies (is_copy copy.number) copy other flying (unlike_other copy other e) k) h.calls
+    each_other (IsSound reads faults machine.copies) (IsSound reads faults (less (is_copy copy.number) machine.copies)) (is_call copy.tx) machine.unfinished (nothing_passes (is_call copy.tx) machine.unfinished found) (λ other e k. landed_kept reads faults machine.copies (is_copy copy.number) copy other flying (unlike_other copy other e) k) h.calls
 past_by reads faults machine copy flying h (Some call) found past =
-    let left = dropped (is_copy copy.number) machine.copies in
+    let left = less (is_copy copy.number) machine.copies in
     let old = found_sound (IsSound reads faults machine.copies) (is_call copy.tx) call machine.unfinished found h.calls in
     let now = past_kept reads faults machine.copies (is_copy copy.number) copy call flying (found_is copy.tx call machine.unfinished found) old copy.reply (copy.to == call.owner) refl refl past in
     let all = each_changed (IsSound reads faults machine.copies) (IsSound reads faults left) copy.tx (λ call. call) 0 machine.begun machine.unfinished h.numbered (λ other e k. landed_kept reads faults machine.copies (is_copy copy.number) copy other flying (unlike_other copy other e) k) (λ this e k. subst (IsSound reads faults left) (some_is call this (sym found ∙ e)) now) h.calls in

@@ -1,4 +1,3 @@
-pub mod FirstLaws
 pub mod SendLaws
 pub mod NumberLaws
 pub mod CopyLaws
@@ -10,3 +9,4 @@ pub mod BeginLaws
 pub mod RunLaws
 pub mod CauseLaws
 pub mod StayLaws
+pub mod PortLaws

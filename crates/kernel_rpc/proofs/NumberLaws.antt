@@ -4,10 +4,10 @@ use Rattle.std.specs.List.{AllByRecursion, find, list_any}
 use Rattle.std.proofs.lemmas.Bool.Decides.{nat_tests}
 use Rattle.sprite_ids.specs.declared.TxNo.{TxNo}
 use Rattle.kernel_rpc.specs.declared.call.Call.{Call}
-use Rattle.kernel_rpc.specs.Lists.{changed, dropped}
+use Rattle.sprite_ids.specs.Lists.{changed, less}
 use Rattle.kernel_rpc.specs.Machine.{is_call}
 use Rattle.kernel_rpc.specs.Sound.{IsNumbered}
-use Rattle.kernel_rpc.proofs.FirstLaws.{or_false}
+use Rattle.sprite_ids.proofs.OnceLaws.{or_false}
 
 -- the first number is at most the last
 pub first_to_last : (first last : ℕ) (calls : List Call) → IsNumbered first calls last → first ≤ last
@@ -23,9 +23,9 @@ later_none tx first last (call ∷ calls) h le =
     ap (λ b. b || list_any (is_call tx) calls) other ∙ later_none tx call.tx.0 last calls h.1 (omega arith)
 
 -- calls that ascend past a number ascend past a smaller one
-pub numbered_weaken : (less first last : ℕ) (calls : List Call) → less ≤ first → IsNumbered first calls last → IsNumbered less calls last
-numbered_weaken less first last [] le h = omega arith
-numbered_weaken less first last (call ∷ calls) le h = let here = h.0 in (omega arith, h.1)
+pub numbered_weaken : (lower first last : ℕ) (calls : List Call) → lower ≤ first → IsNumbered first calls last → IsNumbered lower calls last
+numbered_weaken lower first last [] le h = omega arith
+numbered_weaken lower first last (call ∷ calls) le h = let here = h.0 in (omega arith, h.1)
 
 -- a change that keeps the number keeps the order
 pub numbered_changed : (p : Call → Bool) (f : Call → Call) → ((call : Call) → (f call).tx ≡ call.tx) → (first last : ℕ) (calls : List Call) → IsNumbered first calls last → IsNumbered first (changed p f calls) last
@@ -34,10 +34,10 @@ numbered_changed p f same first last (call ∷ calls) h =
     elim (p call) as (λ b. IsNumbered first (cond b (f call ∷ calls) (call ∷ changed p f calls)) last) [ true ↦ subst (λ (tx : TxNo). (first < tx.0) × IsNumbered tx.0 calls last) (sym (same call)) h | false ↦ (h.0, numbered_changed p f same call.tx.0 last calls h.1) ]
 
 -- without one call the others ascend
-pub numbered_dropped : (p : Call → Bool) (first last : ℕ) (calls : List Call) → IsNumbered first calls last → IsNumbered first (dropped p calls) last
+pub numbered_dropped : (p : Call → Bool) (first last : ℕ) (calls : List Call) → IsNumbered first calls last → IsNumbered first (less p calls) last
 numbered_dropped p first last [] h = h
 numbered_dropped p first last (call ∷ calls) h =
-    elim (p call) as (λ b. IsNumbered first (cond b calls (call ∷ dropped p calls)) last) [ true ↦ (let here = h.0 in numbered_weaken first call.tx.0 last calls (omega arith) h.1) | false ↦ (h.0, numbered_dropped p call.tx.0 last calls h.1) ]
+    elim (p call) as (λ b. IsNumbered first (cond b calls (call ∷ less p calls)) last) [ true ↦ (let here = h.0 in numbered_weaken first call.tx.0 last calls (omega arith) h.1) | false ↦ (h.0, numbered_dropped p call.tx.0 last calls h.1) ]
 
 -- a call with the next number comes last
 pub numbered_push : (call : Call) (first last : ℕ) (calls : List Call) → call.tx.0 ≡ last + 1 → IsNumbered first calls last → IsNumbered first (calls ++ call ∷ []) (last + 1)
@@ -75,12 +75,12 @@ each_changed P Q tx f first last [] n other this h = tt
 each_changed P Q tx f first last (call ∷ calls) n other this h =
     changed_by P Q tx f first last call calls n other this h (λ e. each_changed P Q tx f call.tx.0 last calls n.1 other (later_this P Q tx f call calls this e) h.1) (is_call tx call) refl
 
-dropped_by : (P Q : Call → Type 0) (tx : TxNo) (first last : ℕ) (call : Call) (calls : List Call) → IsNumbered first (call ∷ calls) last → ((call : Call) → is_call tx call ≡ false → P call → Q call) → AllByRecursion P (call ∷ calls) → AllByRecursion Q (dropped (is_call tx) calls) → (b : Bool) → is_call tx call ≡ b → AllByRecursion Q (cond b calls (call ∷ dropped (is_call tx) calls))
+dropped_by : (P Q : Call → Type 0) (tx : TxNo) (first last : ℕ) (call : Call) (calls : List Call) → IsNumbered first (call ∷ calls) last → ((call : Call) → is_call tx call ≡ false → P call → Q call) → AllByRecursion P (call ∷ calls) → AllByRecursion Q (less (is_call tx) calls) → (b : Bool) → is_call tx call ≡ b → AllByRecursion Q (cond b calls (call ∷ less (is_call tx) calls))
 dropped_by P Q tx first last call calls n other h rest true e = each_other P Q (is_call tx) calls (none_after tx first last call calls e n) other h.1
 dropped_by P Q tx first last call calls n other h rest false e = (other call e h.0, rest)
 
 -- and without one
-pub each_dropped : (P Q : Call → Type 0) (tx : TxNo) (first last : ℕ) (calls : List Call) → IsNumbered first calls last → ((call : Call) → is_call tx call ≡ false → P call → Q call) → AllByRecursion P calls → AllByRecursion Q (dropped (is_call tx) calls)
+pub each_dropped : (P Q : Call → Type 0) (tx : TxNo) (first last : ℕ) (calls : List Call) → IsNumbered first calls last → ((call : Call) → is_call tx call ≡ false → P call → Q call) → AllByRecursion P calls → AllByRecursion Q (less (is_call tx) calls)
 each_dropped P Q tx first last [] n other h = tt
 each_dropped P Q tx first last (call ∷ calls) n other h =
     dropped_by P Q tx first last call calls n other h (each_dropped P Q tx call.tx.0 last calls n.1 other h.1) (is_call tx call) refl

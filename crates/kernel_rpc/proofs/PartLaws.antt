@@ -8,7 +8,7 @@ use Rattle.kernel_rpc.specs.declared.call.Part.{Part}
 use Rattle.kernel_rpc.specs.declared.call.Part.TheVariants.{Waiting}
 use Rattle.kernel_rpc.specs.declared.call.Receiver.{Receiver}
 use Rattle.kernel_rpc.specs.Machine.{fresh, holds, is_at, is_holding, part_of, with_part}
-use Rattle.kernel_rpc.proofs.FirstLaws.{or_false}
+use Rattle.sprite_ids.proofs.OnceLaws.{or_false}
 
 part_option : Option Receiver → Option Part
 part_option found = option_map (λ (receiver : Receiver). receiver.part) found

@@ -13,7 +13,7 @@ use Rattle.kernel_rpc.specs.declared.call.Arrival.TheVariants.{FirstRequest, Fir
 use Rattle.kernel_rpc.specs.declared.call.Call.{Call}
 use Rattle.kernel_rpc.specs.declared.call.PacketCopy.{PacketCopy}
 use Rattle.kernel_rpc.specs.declared.call.Receiver.{Receiver}
-use Rattle.kernel_rpc.specs.Lists.{changed, dropped}
+use Rattle.sprite_ids.specs.Lists.{changed, less}
 use Rattle.kernel_rpc.specs.Machine.{Machine, gave_up, new_call, answered, arrival, begun, call_of, copy_of, delivered_as, further, idle, is_call, is_last, landed, part_of, replied, resent, tried, with_part}
 use Rattle.kernel_rpc.specs.Sound.{IsNumbered}
 use Rattle.kernel_rpc.specs.Runs.{Act, Begin, Deliver, Answer, Silence, Expire, Counts, RepliesAtMostOnce, RequestsAtMostOnce, after, delivered_by, expired_by, hands_reply, hands_request, is_first_reply, is_first_request, is_reply_to, is_request_to, once_if, times_replied, times_requested}
@@ -46,9 +46,9 @@ later_less false x y z h = h
 
 -- a change by which no call has more left
 left_changed : (left : Call → ℕ) (tx : ℕ) (p : Call → Bool) (f : Call → Call) → ((call : Call) → (f call).tx ≡ call.tx) → ((call : Call) → left (f call) ≤ left call) → (calls : List Call) → left_of left tx (changed p f calls) ≤ left_of left tx calls
-left_changed left tx p f same less [] = omega arith
-left_changed left tx p f same less (call ∷ calls) =
-    elim (p call) as (λ b. left_of left tx (cond b (f call ∷ calls) (call ∷ changed p f calls)) ≤ left_of left tx (call ∷ calls)) [ true ↦ subst (λ (key : TxNo). cond (key.0 == tx) (left (f call)) (left_of left tx calls) ≤ cond (call.tx.0 == tx) (left call) (left_of left tx calls)) (sym (same call)) (same_or_less (call.tx.0 == tx) (left (f call)) (left call) (left_of left tx calls) (less call)) | false ↦ later_less (call.tx.0 == tx) (left call) (left_of left tx (changed p f calls)) (left_of left tx calls) (left_changed left tx p f same less calls) ]
+left_changed left tx p f same fewer [] = omega arith
+left_changed left tx p f same fewer (call ∷ calls) =
+    elim (p call) as (λ b. left_of left tx (cond b (f call ∷ calls) (call ∷ changed p f calls)) ≤ left_of left tx (call ∷ calls)) [ true ↦ subst (λ (key : TxNo). cond (key.0 == tx) (left (f call)) (left_of left tx calls) ≤ cond (call.tx.0 == tx) (left call) (left_of left tx calls)) (sym (same call)) (same_or_less (call.tx.0 == tx) (left (f call)) (left call) (left_of left tx calls) (fewer call)) | false ↦ later_less (call.tx.0 == tx) (left call) (left_of left tx (changed p f calls)) (left_of left tx calls) (left_changed left tx p f same fewer calls) ]
 
 none_later : (left : Call → ℕ) (tx first last : ℕ) (call : Call) (calls : List Call) → IsNumbered first (call ∷ calls) last → (call.tx.0 == tx) ≡ true → left_of left tx calls ≡ 0
 none_later left tx first last call calls h e =
@@ -60,17 +60,17 @@ dropped_by left tx first last call calls h true e = let none = none_later left t
 dropped_by left tx first last call calls h false e = omega arith
 
 -- without a call no more is left
-left_dropped : (left : Call → ℕ) (tx : ℕ) (p : Call → Bool) (first last : ℕ) (calls : List Call) → IsNumbered first calls last → left_of left tx (dropped p calls) ≤ left_of left tx calls
+left_dropped : (left : Call → ℕ) (tx : ℕ) (p : Call → Bool) (first last : ℕ) (calls : List Call) → IsNumbered first calls last → left_of left tx (less p calls) ≤ left_of left tx calls
 left_dropped left tx p first last [] h = omega arith
 left_dropped left tx p first last (call ∷ calls) h =
-    elim (p call) as (λ b. left_of left tx (cond b calls (call ∷ dropped p calls)) ≤ left_of left tx (call ∷ calls)) [ true ↦ dropped_by left tx first last call calls h (call.tx.0 == tx) refl | false ↦ later_less (call.tx.0 == tx) (left call) (left_of left tx (dropped p calls)) (left_of left tx calls) (left_dropped left tx p call.tx.0 last calls h.1) ]
+    elim (p call) as (λ b. left_of left tx (cond b calls (call ∷ less p calls)) ≤ left_of left tx (call ∷ calls)) [ true ↦ dropped_by left tx first last call calls h (call.tx.0 == tx) refl | false ↦ later_less (call.tx.0 == tx) (left call) (left_of left tx (less p calls)) (left_of left tx calls) (left_dropped left tx p call.tx.0 last calls h.1) ]
 
-gone_by : (left : Call → ℕ) (tx first last : ℕ) (call : Call) (calls : List Call) → IsNumbered first (call ∷ calls) last → left_of left tx (dropped (λ (call : Call). call.tx.0 == tx) calls) ≡ 0 → (b : Bool) → (call.tx.0 == tx) ≡ b → left_of left tx (cond b calls (call ∷ dropped (λ (call : Call). call.tx.0 == tx) calls)) ≡ 0
+gone_by : (left : Call → ℕ) (tx first last : ℕ) (call : Call) (calls : List Call) → IsNumbered first (call ∷ calls) last → left_of left tx (less (λ (call : Call). call.tx.0 == tx) calls) ≡ 0 → (b : Bool) → (call.tx.0 == tx) ≡ b → left_of left tx (cond b calls (call ∷ less (λ (call : Call). call.tx.0 == tx) calls)) ≡ 0
 gone_by left tx first last call calls h later true e = none_later left tx first last call calls h e
-gone_by left tx first last call calls h later false e = ap (λ b. cond b (left call) (left_of left tx (dropped (λ (call : Call). call.tx.0 == tx) calls))) e ∙ later
+gone_by left tx first last call calls h later false e = ap (λ b. cond b (left call) (left_of left tx (less (λ (call : Call). call.tx.0 == tx) calls))) e ∙ later
 
 -- without its call nothing is left
-left_gone : (left : Call → ℕ) (tx first last : ℕ) (calls : List Call) → IsNumbered first calls last → left_of left tx (dropped (λ (call : Call). call.tx.0 == tx) calls) ≡ 0
+left_gone : (left : Call → ℕ) (tx first last : ℕ) (calls : List Call) → IsNumbered first calls last → left_of left tx (less (λ (call : Call). call.tx.0 == tx) calls) ≡ 0
 left_gone left tx first last [] h = refl
 left_gone left tx first last (call ∷ calls) h = gone_by left tx first last call calls h (left_gone left tx call.tx.0 last calls h.1) (call.tx.0 == tx) refl
 
@@ -207,19 +207,19 @@ abbrev Shrinks : (Call → ℕ) → ℕ → Machine → Machine → Type 0
 Shrinks left tx old new = total left tx new ≤ total left tx old
 
 changed_shrinks : (left : Call → ℕ) (tx : ℕ) (key : TxNo) (f : Call → Call) (machine : Machine) → ((call : Call) → (f call).tx ≡ call.tx) → ((call : Call) → left (f call) ≤ left call) → cond (nat_lt machine.begun tx) 1 (left_of left tx (changed (is_call key) f machine.unfinished)) ≤ total left tx machine
-changed_shrinks left tx key f machine same less = total_less left tx machine.begun machine.unfinished (changed (is_call key) f machine.unfinished) (left_changed left tx (is_call key) f same less machine.unfinished)
+changed_shrinks left tx key f machine same fewer = total_less left tx machine.begun machine.unfinished (changed (is_call key) f machine.unfinished) (left_changed left tx (is_call key) f same fewer machine.unfinished)
 
-dropped_shrinks : (left : Call → ℕ) (tx : ℕ) (key : TxNo) (machine : Machine) → Ordered machine → cond (nat_lt machine.begun tx) 1 (left_of left tx (dropped (is_call key) machine.unfinished)) ≤ total left tx machine
-dropped_shrinks left tx key machine h = total_less left tx machine.begun machine.unfinished (dropped (is_call key) machine.unfinished) (left_dropped left tx (is_call key) 0 machine.begun machine.unfinished h)
+dropped_shrinks : (left : Call → ℕ) (tx : ℕ) (key : TxNo) (machine : Machine) → Ordered machine → cond (nat_lt machine.begun tx) 1 (left_of left tx (less (is_call key) machine.unfinished)) ≤ total left tx machine
+dropped_shrinks left tx key machine h = total_less left tx machine.begun machine.unfinished (less (is_call key) machine.unfinished) (left_dropped left tx (is_call key) 0 machine.begun machine.unfinished h)
 
 expired_shrinks : (left : Call → ℕ) (tx : ℕ) → ((call : Call) → left (tried call) ≤ left call) → (o : Option Call) (key : TxNo) (sent : List (ℕ × Fate)) (machine : Machine) → Ordered machine → Shrinks left tx machine (expired_by key o sent machine)
-expired_shrinks left tx less None key sent machine h = omega arith
-expired_shrinks left tx less (Some call) key sent machine h =
-    elim (is_last call) as (λ b. Shrinks left tx machine (cond b (gave_up key machine) (resent key (Some call) sent machine))) [ true ↦ dropped_shrinks left tx key machine h | false ↦ changed_shrinks left tx key tried machine (λ call. refl) less ]
+expired_shrinks left tx fewer None key sent machine h = omega arith
+expired_shrinks left tx fewer (Some call) key sent machine h =
+    elim (is_last call) as (λ b. Shrinks left tx machine (cond b (gave_up key machine) (resent key (Some call) sent machine))) [ true ↦ dropped_shrinks left tx key machine h | false ↦ changed_shrinks left tx key tried machine (λ call. refl) fewer ]
 
 answered_shrinks : (left : Call → ℕ) (tx : ℕ) (body : List ℕ) → ((call : Call) → left (answered body call) ≤ left call) → (o : Option Call) (key : TxNo) (given : Fate) (machine : Machine) → cond (nat_lt (replied o given machine).begun tx) 1 (left_of left tx (changed (is_call key) (answered body) (replied o given machine).unfinished)) ≤ total left tx machine
-answered_shrinks left tx body less None key given machine = changed_shrinks left tx key (answered body) machine (λ call. refl) less
-answered_shrinks left tx body less (Some call) key given machine = changed_shrinks left tx key (answered body) machine (λ call. refl) less
+answered_shrinks left tx body fewer None key given machine = changed_shrinks left tx key (answered body) machine (λ call. refl) fewer
+answered_shrinks left tx body fewer (Some call) key given machine = changed_shrinks left tx key (answered body) machine (λ call. refl) fewer
 
 not_both : (a b c : Bool) → c ≡ false → once_if (a && (b && c)) ≡ 0
 not_both true true c e = ap once_if e
@@ -242,12 +242,12 @@ request_strict machine copy h is =
 
 request_by : (machine : Machine) (copy : PacketCopy) → Ordered machine → arrival machine copy ≡ FirstRequest → (tx kernel : ℕ) (a b : Bool) → (copy.tx.0 == tx) ≡ a → (copy.to == kernel) ≡ b → once_if (a && (b && true)) + cond (nat_lt machine.begun tx) 1 (left_of (left_for kernel) tx (changed (is_call copy.tx) (further copy.to Holding) machine.unfinished)) ≤ total (left_for kernel) tx machine
 request_by machine copy h is tx kernel true true e k = subst (λ n. 1 + cond (nat_lt machine.begun tx) 1 (left_of (left_for n) tx (changed (is_call copy.tx) (further copy.to Holding) machine.unfinished)) ≤ total (left_for n) tx machine) (eqb-true copy.to kernel k) (subst (λ n. 1 + cond (nat_lt machine.begun n) 1 (left_of (left_for copy.to) n (changed (is_call copy.tx) (further copy.to Holding) machine.unfinished)) ≤ total (left_for copy.to) n machine) (eqb-true copy.tx.0 tx e) (request_strict machine copy h is))
-request_by machine copy h is tx kernel true false e k = let less = changed_shrinks (left_for kernel) tx copy.tx (further copy.to Holding) machine (λ call. refl) (λ call. less_further copy.to kernel Holding refl call.receivers) in omega arith
-request_by machine copy h is tx kernel false b e k = let less = changed_shrinks (left_for kernel) tx copy.tx (further copy.to Holding) machine (λ call. refl) (λ call. less_further copy.to kernel Holding refl call.receivers) in omega arith
+request_by machine copy h is tx kernel true false e k = let fewer = changed_shrinks (left_for kernel) tx copy.tx (further copy.to Holding) machine (λ call. refl) (λ call. less_further copy.to kernel Holding refl call.receivers) in omega arith
+request_by machine copy h is tx kernel false b e k = let fewer = changed_shrinks (left_for kernel) tx copy.tx (further copy.to Holding) machine (λ call. refl) (λ call. less_further copy.to kernel Holding refl call.receivers) in omega arith
 
 request_arrived : (a : Arrival) (copy : PacketCopy) (given : Fate) (machine : Machine) (tx kernel : ℕ) → Ordered machine → arrival machine copy ≡ a → once_if ((copy.tx.0 == tx) && ((copy.to == kernel) && is_first_request a)) + total (left_for kernel) tx (delivered_as a copy given (landed copy machine)) ≤ total (left_for kernel) tx machine
 request_arrived FirstRequest copy given machine tx kernel h is = request_by machine copy h is tx kernel (copy.tx.0 == tx) (copy.to == kernel) refl refl
-request_arrived FirstReply copy given machine tx kernel h is = (let less = dropped_shrinks (left_for kernel) tx copy.tx machine h in let none = not_both (copy.tx.0 == tx) (copy.to == kernel) false refl in omega arith)
+request_arrived FirstReply copy given machine tx kernel h is = (let fewer = dropped_shrinks (left_for kernel) tx copy.tx machine h in let none = not_both (copy.tx.0 == tx) (copy.to == kernel) false refl in omega arith)
 request_arrived AskedAgain copy given machine tx kernel h is = (let same = total_replied (left_for kernel) tx (call_of (landed copy machine) copy.tx) given (landed copy machine) in let none = not_both (copy.tx.0 == tx) (copy.to == kernel) false refl in omega arith)
 request_arrived Past copy given machine tx kernel h is = (let none = not_both (copy.tx.0 == tx) (copy.to == kernel) false refl in omega arith)
 
@@ -257,11 +257,11 @@ request_delivered (Some copy) given machine tx kernel h = request_arrived (arriv
 
 -- what is handed out was left
 request_step : (tx kernel : ℕ) (machine : Machine) (act : Act) → Ordered machine → once_if (hands_request tx kernel machine act) + total (left_for kernel) tx (after machine act) ≤ total (left_for kernel) tx machine
-request_step tx kernel machine (Begin from port servers owner body tries about before sent) h = (let less = total_begun (left_for kernel) tx (λ call. at_most_one (part_of kernel call.receivers)) machine (new_call machine from port servers owner body tries about before) sent refl in omega arith)
+request_step tx kernel machine (Begin from port servers owner body tries about before sent) h = (let fewer = total_begun (left_for kernel) tx (λ call. at_most_one (part_of kernel call.receivers)) machine (new_call machine from port servers owner body tries about before) sent refl in omega arith)
 request_step tx kernel machine (Deliver number given) h = request_delivered (copy_of machine number) given machine tx kernel h
-request_step tx kernel machine (Answer key body given) h = (let less = answered_shrinks (left_for kernel) tx body (λ call. less_further call.owner kernel Answered refl call.receivers) (call_of machine key) key given machine in omega arith)
-request_step tx kernel machine (Silence key at) h = (let less = changed_shrinks (left_for kernel) tx key (further at Silent) machine (λ call. refl) (λ call. less_further at kernel Silent refl call.receivers) in omega arith)
-request_step tx kernel machine (Expire key sent) h = (let less = expired_shrinks (left_for kernel) tx (λ call. omega arith) (call_of machine key) key sent machine h in omega arith)
+request_step tx kernel machine (Answer key body given) h = (let fewer = answered_shrinks (left_for kernel) tx body (λ call. less_further call.owner kernel Answered refl call.receivers) (call_of machine key) key given machine in omega arith)
+request_step tx kernel machine (Silence key at) h = (let fewer = changed_shrinks (left_for kernel) tx key (further at Silent) machine (λ call. refl) (λ call. less_further at kernel Silent refl call.receivers) in omega arith)
+request_step tx kernel machine (Expire key sent) h = (let fewer = expired_shrinks (left_for kernel) tx (λ call. omega arith) (call_of machine key) key sent machine h in omega arith)
 
 requests_bound : (tx kernel : ℕ) (machine : Machine) (steps : List (Act × Counts)) → Ordered machine → times_requested tx kernel machine steps ≤ total (left_for kernel) tx machine
 requests_bound tx kernel machine [] h = omega arith
@@ -281,7 +281,7 @@ requests_at_most_once steps tx kernel =
 abbrev one_left : Call → ℕ
 one_left call = 1
 
-reply_strict : (machine : Machine) (copy : PacketCopy) → Ordered machine → arrival machine copy ≡ FirstReply → 1 + cond (nat_lt machine.begun copy.tx.0) 1 (left_of one_left copy.tx.0 (dropped (is_call copy.tx) machine.unfinished)) ≤ total one_left copy.tx.0 machine
+reply_strict : (machine : Machine) (copy : PacketCopy) → Ordered machine → arrival machine copy ≡ FirstReply → 1 + cond (nat_lt machine.begun copy.tx.0) 1 (left_of one_left copy.tx.0 (less (is_call copy.tx) machine.unfinished)) ≤ total one_left copy.tx.0 machine
 reply_strict machine copy h is =
     let first = first_reply copy (call_of machine copy.tx) is in
     let within = found_within (is_call copy.tx) 0 machine.begun first.0 machine.unfinished h first.1 in
@@ -290,19 +290,19 @@ reply_strict machine copy h is =
     let one : left_of one_left copy.tx.0 machine.unfinished ≡ 1 = left_found one_left copy.tx.0 first.0 machine.unfinished first.1 in
     let none = left_gone one_left copy.tx.0 0 machine.begun machine.unfinished h in
     let old = ap (λ b. cond b 1 (left_of one_left copy.tx.0 machine.unfinished)) started in
-    let new = ap (λ b. cond b 1 (left_of one_left copy.tx.0 (dropped (is_call copy.tx) machine.unfinished))) started in
+    let new = ap (λ b. cond b 1 (left_of one_left copy.tx.0 (less (is_call copy.tx) machine.unfinished))) started in
     omega arith
 
-reply_by : (machine : Machine) (copy : PacketCopy) → Ordered machine → arrival machine copy ≡ FirstReply → (tx : ℕ) (a : Bool) → (copy.tx.0 == tx) ≡ a → once_if (a && true) + cond (nat_lt machine.begun tx) 1 (left_of one_left tx (dropped (is_call copy.tx) machine.unfinished)) ≤ total one_left tx machine
-reply_by machine copy h is tx true e = subst (λ n. 1 + cond (nat_lt machine.begun n) 1 (left_of one_left n (dropped (is_call copy.tx) machine.unfinished)) ≤ total one_left n machine) (eqb-true copy.tx.0 tx e) (reply_strict machine copy h is)
-reply_by machine copy h is tx false e = let less = dropped_shrinks one_left tx copy.tx machine h in omega arith
+reply_by : (machine : Machine) (copy : PacketCopy) → Ordered machine → arrival machine copy ≡ FirstReply → (tx : ℕ) (a : Bool) → (copy.tx.0 == tx) ≡ a → once_if (a && true) + cond (nat_lt machine.begun tx) 1 (left_of one_left tx (less (is_call copy.tx) machine.unfinished)) ≤ total one_left tx machine
+reply_by machine copy h is tx true e = subst (λ n. 1 + cond (nat_lt machine.begun n) 1 (left_of one_left n (less (is_call copy.tx) machine.unfinished)) ≤ total one_left n machine) (eqb-true copy.tx.0 tx e) (reply_strict machine copy h is)
+reply_by machine copy h is tx false e = let fewer = dropped_shrinks one_left tx copy.tx machine h in omega arith
 
 not_then : (a b : Bool) → b ≡ false → once_if (a && b) ≡ 0
 not_then true b e = ap once_if e
 not_then false b e = refl
 
 reply_arrived : (a : Arrival) (copy : PacketCopy) (given : Fate) (machine : Machine) (tx : ℕ) → Ordered machine → arrival machine copy ≡ a → once_if ((copy.tx.0 == tx) && is_first_reply a) + total one_left tx (delivered_as a copy given (landed copy machine)) ≤ total one_left tx machine
-reply_arrived FirstRequest copy given machine tx h is = (let less = changed_shrinks one_left tx copy.tx (further copy.to Holding) machine (λ call. refl) (λ call. omega arith) in let none = not_then (copy.tx.0 == tx) false refl in omega arith)
+reply_arrived FirstRequest copy given machine tx h is = (let fewer = changed_shrinks one_left tx copy.tx (further copy.to Holding) machine (λ call. refl) (λ call. omega arith) in let none = not_then (copy.tx.0 == tx) false refl in omega arith)
 reply_arrived FirstReply copy given machine tx h is = reply_by machine copy h is tx (copy.tx.0 == tx) refl
 reply_arrived AskedAgain copy given machine tx h is = (let same = total_replied one_left tx (call_of (landed copy machine) copy.tx) given (landed copy machine) in let none = not_then (copy.tx.0 == tx) false refl in omega arith)
 reply_arrived Past copy given machine tx h is = (let none = not_then (copy.tx.0 == tx) false refl in omega arith)
@@ -312,11 +312,11 @@ reply_delivered None given machine tx h = omega arith
 reply_delivered (Some copy) given machine tx h = reply_arrived (arrival machine copy) copy given machine tx h refl
 
 reply_step : (tx : ℕ) (machine : Machine) (act : Act) → Ordered machine → once_if (hands_reply tx machine act) + total one_left tx (after machine act) ≤ total one_left tx machine
-reply_step tx machine (Begin from port servers owner body tries about before sent) h = (let less = total_begun one_left tx (λ call. omega arith) machine (new_call machine from port servers owner body tries about before) sent refl in omega arith)
+reply_step tx machine (Begin from port servers owner body tries about before sent) h = (let fewer = total_begun one_left tx (λ call. omega arith) machine (new_call machine from port servers owner body tries about before) sent refl in omega arith)
 reply_step tx machine (Deliver number given) h = reply_delivered (copy_of machine number) given machine tx h
-reply_step tx machine (Answer key body given) h = (let less = answered_shrinks one_left tx body (λ call. omega arith) (call_of machine key) key given machine in omega arith)
-reply_step tx machine (Silence key at) h = (let less = changed_shrinks one_left tx key (further at Silent) machine (λ call. refl) (λ call. omega arith) in omega arith)
-reply_step tx machine (Expire key sent) h = (let less = expired_shrinks one_left tx (λ call. omega arith) (call_of machine key) key sent machine h in omega arith)
+reply_step tx machine (Answer key body given) h = (let fewer = answered_shrinks one_left tx body (λ call. omega arith) (call_of machine key) key given machine in omega arith)
+reply_step tx machine (Silence key at) h = (let fewer = changed_shrinks one_left tx key (further at Silent) machine (λ call. refl) (λ call. omega arith) in omega arith)
+reply_step tx machine (Expire key sent) h = (let fewer = expired_shrinks one_left tx (λ call. omega arith) (call_of machine key) key sent machine h in omega arith)
 
 replies_bound : (tx : ℕ) (machine : Machine) (steps : List (Act × Counts)) → Ordered machine → times_replied tx machine steps ≤ total one_left tx machine
 replies_bound tx machine [] h = omega arith

@@ -18,7 +18,7 @@ use Rattle.kernel_rpc.specs.Copies.{copies_by, requests}
 use Rattle.kernel_rpc.specs.Machine.{Machine, begun, call_of, fresh, holds, is_holding, is_call, is_due, is_of_call, is_taken, lost_more, new_call, part_of, request, resent, tried}
 use Rattle.kernel_rpc.specs.Links.{AsksAll}
 use Rattle.kernel_rpc.specs.Sound.{HasBegun, IsNumbered, IsSound, OwnerStands, Sound, brings_on, is_reply_of}
-use Rattle.kernel_rpc.proofs.FirstLaws.{or_false}
+use Rattle.sprite_ids.proofs.OnceLaws.{or_false}
 use Rattle.kernel_rpc.proofs.NumberLaws.{each_changed, numbered_changed, numbered_push, first_to_last}
 use Rattle.kernel_rpc.proofs.CopyLaws.{none_append, both_none, each_by, each_request, none_each, is_lost, pair_same, asks_grow, lost_raises}
 use Rattle.kernel_rpc.proofs.PartLaws.{part_fresh, none_holds, is_there, was_sent, and_false, false_first, both_true, eq_turned, eq_same}

@@ -9,7 +9,7 @@ use Rattle.kernel_rpc.specs.declared.call.Arrival.{Arrival}
 use Rattle.kernel_rpc.specs.declared.call.Arrival.TheVariants.{FirstRequest, FirstReply, AskedAgain, Past}
 use Rattle.kernel_rpc.specs.declared.call.Call.{Call}
 use Rattle.kernel_rpc.specs.declared.call.PacketCopy.{PacketCopy}
-use Rattle.kernel_rpc.specs.Lists.{changed, dropped}
+use Rattle.sprite_ids.specs.Lists.{changed, less}
 use Rattle.kernel_rpc.specs.Machine.{Machine, answered, arrival, call_of, copy_of, delivered_as, further, gave_up, is_call, is_last, landed, new_call, replied, resent, tried}
 use Rattle.kernel_rpc.specs.Runs.{Begin, Deliver, Answer, Silence, Expire, StaysUntilAnswered, delivered_by, expired_by, gives_up_by, is_first_reply, is_reply_to}
 
@@ -34,13 +34,13 @@ open_pushed : (tx : ℕ) (new : Call) (calls : List Call) → is_open tx calls �
 open_pushed tx new [] h = absurd (cc)
 open_pushed tx new (call ∷ calls) h = there_by (call.tx.0 == tx) call (find (λ (call : Call). call.tx.0 == tx) (calls ++ new ∷ [])) (find (λ (call : Call). call.tx.0 == tx) calls) (open_pushed tx new calls) h
 
-dropped_by : (tx : ℕ) (key : TxNo) (call : Call) (calls : List Call) → (key.0 == tx) ≡ false → (is_open tx calls ≡ true → is_open tx (dropped (is_call key) calls) ≡ true) → is_open tx (call ∷ calls) ≡ true → (b : Bool) → (call.tx.0 == key.0) ≡ b → is_open tx (cond b calls (call ∷ dropped (is_call key) calls)) ≡ true
+dropped_by : (tx : ℕ) (key : TxNo) (call : Call) (calls : List Call) → (key.0 == tx) ≡ false → (is_open tx calls ≡ true → is_open tx (less (is_call key) calls) ≡ true) → is_open tx (call ∷ calls) ≡ true → (b : Bool) → (call.tx.0 == key.0) ≡ b → is_open tx (cond b calls (call ∷ less (is_call key) calls)) ≡ true
 dropped_by tx key call calls apart later h true is =
     let other : (call.tx.0 == tx) ≡ false = subst (λ n. (n == tx) ≡ false) (sym (eqb-true call.tx.0 key.0 is)) apart in
     sym (ap (λ b. is_some (cond b (Some call) (find (λ (call : Call). call.tx.0 == tx) calls))) other) ∙ h
-dropped_by tx key call calls apart later h false is = there_by (call.tx.0 == tx) call (find (λ (call : Call). call.tx.0 == tx) (dropped (is_call key) calls)) (find (λ (call : Call). call.tx.0 == tx) calls) later h
+dropped_by tx key call calls apart later h false is = there_by (call.tx.0 == tx) call (find (λ (call : Call). call.tx.0 == tx) (less (is_call key) calls)) (find (λ (call : Call). call.tx.0 == tx) calls) later h
 
-open_dropped : (tx : ℕ) (key : TxNo) (calls : List Call) → (key.0 == tx) ≡ false → is_open tx calls ≡ true → is_open tx (dropped (is_call key) calls) ≡ true
+open_dropped : (tx : ℕ) (key : TxNo) (calls : List Call) → (key.0 == tx) ≡ false → is_open tx calls ≡ true → is_open tx (less (is_call key) calls) ≡ true
 open_dropped tx key [] apart h = absurd (cc)
 open_dropped tx key (call ∷ calls) apart h = dropped_by tx key call calls apart (open_dropped tx key calls apart) h (call.tx.0 == key.0) refl
 

@@ -1,4 +1,3 @@
-pub mod Lists
 pub mod Copies
 pub mod Machine
 pub mod Table

@@ -13,7 +13,7 @@ use Rattle.kernel_rpc.specs.declared.call.Call.{Call}
 use Rattle.kernel_rpc.specs.declared.call.PacketCopy.{PacketCopy}
 use Rattle.kernel_rpc.specs.declared.call.Arrival.{Arrival}
 use Rattle.kernel_rpc.specs.declared.call.Arrival.TheVariants.{FirstRequest, FirstReply, AskedAgain, Past}
-use Rattle.kernel_rpc.specs.Lists.{changed, dropped}
+use Rattle.sprite_ids.specs.Lists.{changed, less}
 use Rattle.kernel_rpc.specs.Copies.{copies_by, requests}
 
 -- how many calls were begun; those that aren't finished, in ascending order; the numbers of those that were given up; the
@@ -126,7 +126,7 @@ arrival machine copy = arrival_of copy (call_of machine copy.tx)
 
 -- the machine without the copy that came to its receiver
 abbrev pub landed : PacketCopy → Machine → Machine
-landed copy machine = record machine { copies = dropped (is_copy copy.number) machine.copies }
+landed copy machine = record machine { copies = less (is_copy copy.number) machine.copies }
 
 -- the machine after a change of one unfinished call
 abbrev pub with_call : TxNo → (Call → Call) → Machine → Machine
@@ -134,7 +134,7 @@ with_call tx change machine = record machine { unfinished = changed (is_call tx)
 
 -- the machine after a call was finished
 abbrev pub finished : TxNo → Machine → Machine
-finished tx machine = record machine { unfinished = dropped (is_call tx) machine.unfinished }
+finished tx machine = record machine { unfinished = less (is_call tx) machine.unfinished }
 
 -- the call after a receiver got further
 abbrev pub further : ℕ → Part → Call → Call
@@ -193,7 +193,7 @@ resent tx (Some call) sent machine = flown (requests (request call machine.next_
 
 -- the machine after a call was given up
 abbrev pub gave_up : TxNo → Machine → Machine
-gave_up tx machine = record machine { unfinished = dropped (is_call tx) machine.unfinished; given_up = machine.given_up ++ tx ∷ [] }
+gave_up tx machine = record machine { unfinished = less (is_call tx) machine.unfinished; given_up = machine.given_up ++ tx ∷ [] }
 
 -- whether that is what a receiver is with a call
 abbrev pub is_holding : Part → Bool

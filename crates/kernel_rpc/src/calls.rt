@@ -1,7 +1,7 @@
 ghost use Rattle.std.specs.Prelude.{◌≡◌, ◌≤◌, Some, Option, option_map};
 ghost use Rattle.std.specs.List.{find, position};
 ghost use Rattle.std.specs.Vec.{vec_capacity, vec_len};
-ghost use Rattle.kernel_rpc.specs.Lists.{changed, dropped};
+ghost use Rattle.sprite_ids.specs.Lists.{changed, less};
 ghost use Rattle.kernel_rpc.specs.Machine.{is_call, further, answered, tried, lost_more, is_last, is_taken};
 
 use crate::call::{Call, Part};
@@ -68,7 +68,7 @@ fn lost_more(tries: Tries, lost: u8) -> u8
 
 // The call is finished.
 pub(crate) fn finish(calls: &mut Vec<Call>, tx: TxNo)
-    ensures { calls.new.items ≡ dropped (is_call tx) calls.old.items }
+    ensures { calls.new.items ≡ less (is_call tx) calls.old.items }
 {
     if let Some(at) = place_of(calls.as_slice(), tx) {
         calls.remove(at);

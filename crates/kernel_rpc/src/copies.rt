@@ -1,7 +1,7 @@
 ghost use Rattle.std.specs.Prelude.{◌≡◌, ◌≤◌, ◌<◌, ◌+◌, ◌^◌, [], ◌∷◌, ◌++◌, ◌*◌, true, length, map, OnOk, Option};
 ghost use Rattle.std.specs.List.{find, list_any, position};
 ghost use Rattle.std.specs.Vec.{vec_capacity, vec_len};
-ghost use Rattle.kernel_rpc.specs.Lists.{dropped};
+ghost use Rattle.sprite_ids.specs.Lists.{less};
 ghost use Rattle.link_plan.specs.Counts.{Asks, IsAsked};
 ghost use Rattle.kernel_rpc.specs.Copies.{copies_by, requests};
 ghost use Rattle.kernel_rpc.specs.Machine.{is_copy, is_of_call};
@@ -36,7 +36,7 @@ pub(crate) fn is_flying(copies: &[PacketCopy], tx: TxNo) -> bool
 
 // The copy came to its receiver.
 pub(crate) fn land(copies: &mut Vec<PacketCopy>, number: CopyNo)
-    ensures items { copies.new.items ≡ dropped (is_copy number) copies.old.items }
+    ensures items { copies.new.items ≡ less (is_copy number) copies.old.items }
     ensures len { vec_len copies.new ≤ vec_len copies.old }
     ensures capacity { vec_capacity copies.new ≡ vec_capacity copies.old }
 {

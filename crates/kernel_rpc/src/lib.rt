@@ -18,7 +18,6 @@ pub use laws::{
     unfinished_calls_stay,
 };
 pub use results::{Delivered, Expired};
-pub use table::CallTable;
 pub use wire::Wire;
 
 #[cfg(test)]

@@ -16,19 +16,19 @@ use link_plan::{Fate, Link};
 use sprite_ids::{Bytes, CopyNo, Kernel, NoMemory, TxNo};
 use std::alloc::Global;
 
-/// The calls that aren't finished and the copies in flight.
+// The calls that aren't finished and the copies in flight.
 #[derive(Debug, Drop)]
-pub struct CallTable {
-    /// How many calls were begun.
-    pub begun: u32,
-    /// In ascending order of their numbers.
-    pub unfinished: Vec<Call>,
-    /// The calls that were given up, in this order.
-    pub given_up: Vec<TxNo>,
-    /// In the order of sending.
-    pub copies: Vec<PacketCopy>,
-    /// At least 1, and greater than the number of every copy so far.
-    pub next_copy: u64,
+pub(crate) struct CallTable {
+    // How many calls were begun.
+    pub(crate) begun: u32,
+    // In ascending order of their numbers.
+    pub(crate) unfinished: Vec<Call>,
+    // The calls that were given up, in this order.
+    pub(crate) given_up: Vec<TxNo>,
+    // In the order of sending.
+    pub(crate) copies: Vec<PacketCopy>,
+    // At least 1, and greater than the number of every copy so far.
+    pub(crate) next_copy: u64,
 }
 
 impl CallTable {
@@ -243,17 +243,12 @@ pub(crate) fn resend<L: Link>(
     let Some(call) = find_call(table.unfinished.as_slice(), tx) else {
         unreachable!();
     };
-    let count = call.receivers.len();
+    let receivers = call.receivers.as_slice();
+    let count = receivers.len();
     make_room(&mut table.copies, table.next_copy, count)?;
     let mut sent = Vec::with_capacity(alloc, count)?;
     let packet = request(call, table.next_copy, call.owner);
-    send_to(
-        link,
-        &mut table.copies,
-        &packet,
-        call.receivers.as_slice(),
-        &mut sent,
-    );
+    send_to(link, &mut table.copies, &packet, receivers, &mut sent);
     table.next_copy += 2 * (count as u64);
     set_tried(&mut table.unfinished, tx);
     Ok(sent)

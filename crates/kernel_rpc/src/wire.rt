@@ -324,19 +324,18 @@ impl<M: Message + Drop, L: Link> Wire<M, L> {
         !is_used(self.table.unfinished.as_slice(), kernel, port)
     }
 
-    /// The least port at which the kernel has no unfinished call; None only where it has one at each port below
-    /// 4,294,967,295.
-    pub fn free_port(&self, kernel: Kernel) -> Option<u32>
-        ensures free { IfSome result (λ port. is_free self.now.machine kernel port ≡ true) }
-        ensures least { IfSome result (λ port. AreUsed self.now.machine kernel port) }
-        ensures none { IfNone result (AreUsed self.now.machine kernel 4294967295) }
+    /// The least port at which the kernel has no unfinished call. There always is one, since no more calls are unfinished than
+    /// were begun; it is at most their number.
+    pub fn free_port(&self, kernel: Kernel) -> u32
+        ensures free { is_free self.now.machine kernel result ≡ true }
+        ensures least { AreUsed self.now.machine kernel result }
     {
-        for port in 0..u32::MAX {
+        for port in 0..=self.table.begun {
             if self.is_free(kernel, port) {
-                return Some(port);
+                return port;
             }
         }
-        None
+        unreachable!()
     }
 
     /// Whether the owner of the call has its request, and so may answer.

@@ -1,12 +1,14 @@
 -- The longest prefix is found, and each prefix is kept once.
-use Rattle.std.proofs.Common.{fold, rules, tests, ◌≡◌, ◌↔◌, inl, inr, ℕ, zero, suc, ◌+◌, ◌<◌, nat_lt, Bool, true, false, ◌||◌, not, cond, List, [], ◌∷◌, ◌++◌, length, map, Option, Some, None, refl, sym, ap, subst, ◌∙◌, arith, slice_set, get_or, is_some, option_map, IsTrue}
-use Rattle.std.specs.List.{AllByRecursion, find, list_any, position, position_or_len}
+use Rattle.std.proofs.Common.{fold, ◌≡◌, ◌↔◌, inl, inr, ℕ, zero, suc, ◌<◌, nat_lt, Bool, true, false, ◌||◌, cond, List, [], ◌∷◌, ◌++◌, length, map, Option, Some, None, refl, sym, ap, subst, ◌∙◌, arith, slice_set, get_or, option_map, IsTrue}
+use Rattle.std.specs.List.{AllByRecursion, find, list_any, position}
 use Rattle.std.proofs.lemmas.List.Quantifiers.{position-Some}
 use Rattle.std.proofs.lemmas.Bool.{ltb-true, ltb-false, true≢false}
 use Rattle.sprite_paths.specs.Path.{is_prefix}
 use Rattle.sprite_paths.proofs.PathLaws.{parts_decide, prefix_decides}
+use Rattle.sprite_ids.specs.Lists.{EachOnce}
+use Rattle.sprite_ids.proofs.OnceLaws.{or_false}
 use Rattle.prefix_table.specs.declared.prefixes.Domain.{Domain}
-use Rattle.prefix_table.specs.Prefixes.{is_of, knows, longer, better, longest, learned, EachOnce, IsAmong, Matches, MatchesUpTo}
+use Rattle.prefix_table.specs.Prefixes.{is_of, knows, longer, better, longest, learned, same_prefix, IsAmong, Matches, MatchesUpTo}
 use Rattle.prefix_table.specs.Laws.{IsLongest, server_at}
 
 -- ---- the longest prefix
@@ -109,10 +111,6 @@ none_matching xs path = (
 
 -- ---- each prefix once
 
-or_false : (a b : Bool) → (a || b) ≡ false → (a ≡ false) × (b ≡ false)
-or_false true b h = absurd (cc)
-or_false false b h = (refl, h)
-
 -- the test of a prefix tells whether it is that one
 pub is_of_same : (prefix : List (List ℕ)) (x : Domain) → (is_of prefix x ≡ true → x.prefix ≡ prefix) × (x.prefix ≡ prefix → is_of prefix x ≡ true)
 is_of_same prefix x = parts_decide x.prefix prefix
@@ -143,13 +141,13 @@ learned_any key prefix server (x ∷ xs) k h =
     let parts = or_false (is_of key x) (list_any (is_of key) xs) h in
     elim (is_of prefix x) as (λ b. list_any (is_of key) (cond b (record x { server = server } ∷ xs) (x ∷ learned xs prefix server)) ≡ false) [ true ↦ h | false ↦ ap (λ b. b || list_any (is_of key) (learned xs prefix server)) parts.0 ∙ learned_any key prefix server xs k parts.1 ]
 
-learned_once_by : (prefix : List (List ℕ)) (server : ℕ) (x : Domain) (xs : List Domain) (b : Bool) → is_of prefix x ≡ b → EachOnce (x ∷ xs) → EachOnce (learned xs prefix server) → EachOnce (cond b (record x { server = server } ∷ xs) (x ∷ learned xs prefix server))
+learned_once_by : (prefix : List (List ℕ)) (server : ℕ) (x : Domain) (xs : List Domain) (b : Bool) → is_of prefix x ≡ b → EachOnce same_prefix (x ∷ xs) → EachOnce same_prefix (learned xs prefix server) → EachOnce same_prefix (cond b (record x { server = server } ∷ xs) (x ∷ learned xs prefix server))
 learned_once_by prefix server x xs true e h more = h
 learned_once_by prefix server x xs false e h more =
     (learned_any x.prefix prefix server xs (λ is. differ prefix x e (sym is)) h.0, more)
 
 -- the domains after one was learned are each there once
-pub learned_once : (prefix : List (List ℕ)) (server : ℕ) (xs : List Domain) → EachOnce xs → EachOnce (learned xs prefix server)
+pub learned_once : (prefix : List (List ℕ)) (server : ℕ) (xs : List Domain) → EachOnce same_prefix xs → EachOnce same_prefix (learned xs prefix server)
 learned_once prefix server [] h = (refl, tt)
 learned_once prefix server (x ∷ xs) h =
     learned_once_by prefix server x xs (is_of prefix x) refl h (learned_once prefix server xs h.1)
@@ -172,19 +170,6 @@ pub learned_here : (prefix : List (List ℕ)) (server : ℕ) (xs : List Domain) 
 learned_here prefix server xs i d e is =
     let found = position-Some (is_of prefix) xs i d e in
     ap (λ (s : Domain). slice_set xs i (record s { server = server })) is ∙ sym (learned_there prefix server xs i d found.0 found.1 found.2)
-
-found_first : {X : Type 0} (p : X → Bool) (x : X) (n len : ℕ) (i : Option ℕ) (b : Bool) → i ≡ cond (nat_lt n len) (Some n) None → is_some (cond (nat_lt (cond (not b) (1 + n) 0) (suc len)) (Some (cond (not b) (1 + n) 0)) None) ≡ (b || is_some i)
-found_first p x n len i true e = search (rules, tests, e)
-found_first p x n len i false e = search (rules, tests, e)
-
-found_is_any : {X : Type 0} (p : X → Bool) (xs : List X) → is_some (position p xs) ≡ list_any p xs
-found_is_any p [] = refl
-found_is_any p (x ∷ xs) =
-    found_first p x (position_or_len p xs) (length xs) (position p xs) (p x) refl ∙ ap (λ b. p x || b) (found_is_any p xs)
-
--- none is found where no item passes
-pub none_found : {X : Type 0} (p : X → Bool) (xs : List X) → position p xs ≡ None → list_any p xs ≡ false
-none_found p xs e = sym (found_is_any p xs) ∙ ap is_some e
 
 -- ---- what learning leaves
 

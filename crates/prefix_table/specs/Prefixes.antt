@@ -1,5 +1,5 @@
 -- The known prefixes, and the longest one of a path.
-use Rattle.std.specs.Prelude.{◌≡◌, ◌⊎◌, ◌≤◌, ℕ, nat_eq, nat_lt, Bool, false, if◌then◌else◌, List, [], ◌∷◌, length, fold, Option, Some, None}
+use Rattle.std.specs.Prelude.{◌≡◌, ◌⊎◌, ◌≤◌, ℕ, nat_eq, nat_lt, Bool, if◌then◌else◌, List, [], ◌∷◌, length, fold, Option, Some, None}
 use Rattle.std.specs.List.{list_any}
 use Rattle.std.specs.Cmp.Lexicographic.{pointwise}
 use Rattle.sprite_paths.specs.Path.{is_prefix, IsPrefix}
@@ -35,10 +35,9 @@ abbrev pub learned : List Domain → List (List ℕ) → ℕ → List Domain
 learned [] prefix server = domain prefix server ∷ []
 learned (first ∷ rest) prefix server = if is_of prefix first then record first { server = server } ∷ rest else first ∷ learned rest prefix server
 
--- no prefix stands twice
-abbrev pub EachOnce : List Domain → Type 0
-EachOnce [] = Unit {0}
-EachOnce (first ∷ rest) = (list_any (is_of first.prefix) rest ≡ false) × EachOnce rest
+-- whether the two have one prefix
+abbrev pub same_prefix : Domain → Domain → Bool
+same_prefix entry other = is_of entry.prefix other
 
 -- the domain is one of these
 abbrev pub IsAmong : Domain → List Domain → Type 0

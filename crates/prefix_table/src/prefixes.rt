@@ -24,13 +24,14 @@ pub struct Prefixes {
 impl Model for Prefixes {
     ghost use Rattle.std.specs.Prelude.{List};
     ghost use Rattle.prefix_table.specs.declared.prefixes.Domain.{Domain};
-    ghost use Rattle.prefix_table.specs.Prefixes.{EachOnce};
+    ghost use Rattle.prefix_table.specs.Prefixes.{same_prefix};
+    ghost use Rattle.sprite_ids.specs.Lists.{EachOnce};
 
     ghost Value = { List Domain };
 
     ghost view = { λ prefixes. prefixes.domains.items };
 
-    ghost invariant = { λ prefixes. EachOnce prefixes.domains.items };
+    ghost invariant = { λ prefixes. EachOnce same_prefix prefixes.domains.items };
 }
 
 impl Prefixes {

@@ -1,7 +1,8 @@
 -- The shared streams, with their offsets and grants.
-use Rattle.std.specs.Prelude.{◌≡◌, ℕ, ◌+◌, ◌-◌, ◌==◌, nat_le, Bool, true, false, ◌&&◌, not, if◌then◌else◌, List, [], ◌∷◌, ◌++◌, Option, Some, None, option_map, slice_index, slice_set, replicate, fold}
-use Rattle.std.specs.List.{filter, find, list_all, list_any}
+use Rattle.std.specs.Prelude.{ℕ, ◌+◌, ◌-◌, ◌==◌, nat_le, Bool, true, ◌&&◌, if◌then◌else◌, List, [], ◌∷◌, ◌++◌, Option, Some, None, option_map, slice_index, slice_set, replicate, fold}
+use Rattle.std.specs.List.{find, list_all}
 use Rattle.sprite_ids.specs.declared.StreamNo.{StreamNo}
+use Rattle.sprite_ids.specs.Lists.{changed, without}
 use Rattle.shadow_streams.specs.declared.shadow.Shadow.{Shadow}
 
 -- how many grants a kernel holds; kernel 1 stands first
@@ -45,26 +46,17 @@ held kernel None = 0
 abbrev pub grants_of : List Shadow → StreamNo → ℕ → ℕ
 grants_of shadows stream kernel = held kernel (find (is_of stream) shadows)
 
--- the other streams
-abbrev pub without : List Shadow → StreamNo → List Shadow
-without shadows stream = filter (λ shadow. not (is_of stream shadow)) shadows
-
--- the streams after a change of one
-abbrev pub changed : (Shadow → Shadow) → StreamNo → List Shadow → List Shadow
-changed change stream [] = []
-changed change stream (first ∷ rest) = if is_of stream first then change first ∷ rest else first ∷ changed change stream rest
-
 -- the streams after one became shared
 abbrev pub share : List Shadow → StreamNo → ℕ → List ℕ → List Shadow
-share shadows stream offset kernels = without shadows stream ++ record { stream = stream; offset = offset; grants = counted kernels } ∷ []
+share shadows stream offset kernels = without (is_of stream) shadows ++ record { stream = stream; offset = offset; grants = counted kernels } ∷ []
 
 -- the streams after a grant
 abbrev pub grant : List Shadow → StreamNo → ℕ → List Shadow
-grant shadows stream kernel = changed (λ shadow. record shadow { grants = raised kernel shadow.grants }) stream shadows
+grant shadows stream kernel = changed (is_of stream) (λ shadow. record shadow { grants = raised kernel shadow.grants }) shadows
 
 -- the streams after a move of an offset
 abbrev pub set_offset : List Shadow → StreamNo → ℕ → List Shadow
-set_offset shadows stream offset = changed (λ shadow. record shadow { offset = offset }) stream shadows
+set_offset shadows stream offset = changed (is_of stream) (λ shadow. record shadow { offset = offset }) shadows
 
 -- whether a looked-up stream has no grant once these are taken off
 abbrev pub is_last : ℕ → ℕ → Option Shadow → Bool
@@ -77,13 +69,12 @@ is_closed shadows stream kernel fewer = is_last kernel fewer (find (is_of stream
 
 -- the streams after grants were taken off: a stream without grants goes
 abbrev pub close : List Shadow → StreamNo → ℕ → ℕ → List Shadow
-close shadows stream kernel fewer = if is_closed shadows stream kernel fewer then without shadows stream else changed (λ shadow. record shadow { grants = lowered kernel fewer shadow.grants }) stream shadows
+close shadows stream kernel fewer = if is_closed shadows stream kernel fewer then without (is_of stream) shadows else changed (is_of stream) (λ shadow. record shadow { grants = lowered kernel fewer shadow.grants }) shadows
 
 -- whether each count may be raised
 abbrev pub has_room : List Shadow → Bool
 has_room shadows = list_all (λ shadow. are_roomy shadow.grants) shadows
 
--- no stream stands twice
-abbrev pub EachOnce : List Shadow → Type 0
-EachOnce [] = Unit {0}
-EachOnce (first ∷ rest) = (list_any (is_of first.stream) rest ≡ false) × EachOnce rest
+-- whether the two are one stream
+abbrev pub same_stream : Shadow → Shadow → Bool
+same_stream shadow other = is_of shadow.stream other

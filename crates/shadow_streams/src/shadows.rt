@@ -15,14 +15,15 @@ pub struct Shadows {
 
 impl Model for Shadows {
     ghost use Rattle.std.specs.Prelude.{List};
+    ghost use Rattle.sprite_ids.specs.Lists.{EachOnce};
     ghost use Rattle.shadow_streams.specs.declared.shadow.Shadow.{Shadow};
-    ghost use Rattle.shadow_streams.specs.Shadows.{EachOnce};
+    ghost use Rattle.shadow_streams.specs.Shadows.{same_stream};
 
     ghost Value = { List Shadow };
 
     ghost view = { λ shadows. shadows.shadows.items };
 
-    ghost invariant = { λ shadows. EachOnce shadows.shadows.items };
+    ghost invariant = { λ shadows. EachOnce same_stream shadows.shadows.items };
 }
 
 impl Shadows {

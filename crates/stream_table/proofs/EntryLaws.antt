@@ -5,7 +5,7 @@ use Rattle.std.proofs.lemmas.Bool.Decides.{eqb_tells}
 use Rattle.sprite_ids.specs.declared.StreamNo.{StreamNo}
 use Rattle.stream_table.specs.Owners.{is_number}
 use Rattle.stream_table.specs.Entries.{is_of, same_entry}
-use Rattle.stream_table.proofs.ListLaws.{IsSameness}
+use Rattle.sprite_ids.proofs.OnceLaws.{IsSameness}
 
 eq_turned : (a b : ℕ) → (a == b) ≡ (b == a)
 eq_turned a b = search (rules, tests, eqb_tells a b, eqb_tells b a)

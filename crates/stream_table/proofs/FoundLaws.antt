@@ -5,10 +5,10 @@ use Rattle.std.proofs.lemmas.Bool.{and_parts}
 use Rattle.sprite_ids.specs.declared.StreamNo.{StreamNo}
 use Rattle.stream_table.specs.declared.entries.Entry.{Entry}
 use Rattle.stream_table.specs.declared.stream.Stream.{Stream}
-use Rattle.stream_table.specs.Lists.{put, without}
+use Rattle.sprite_ids.specs.Lists.{put, without}
 use Rattle.stream_table.specs.Owners.{is_number}
 use Rattle.stream_table.specs.Entries.{is_of, is_listed, is_open, is_roomy, has_room, is_placed_in, stream_in, holder_in, grants_in, stream_of, holder_of, left, leaving}
-use Rattle.stream_table.proofs.ListLaws.{dropped, stays, nothing_found}
+use Rattle.sprite_ids.proofs.OnceLaws.{dropped, stays, nothing_found}
 use Rattle.stream_table.proofs.EntryLaws.{one_number}
 
 -- the entry of a stream

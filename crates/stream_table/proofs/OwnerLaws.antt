@@ -3,9 +3,9 @@ use Rattle.std.proofs.Common.{rules, tests, ◌≡◌, ℕ, ◌==◌, true, fals
 use Rattle.std.proofs.lemmas.Bool.{eqb-true}
 use Rattle.std.proofs.lemmas.Bool.Decides.{eqb_tells}
 use Rattle.stream_table.specs.declared.owners.Owner.{Owner}
-use Rattle.stream_table.specs.Lists.{put, without}
+use Rattle.sprite_ids.specs.Lists.{put, without}
 use Rattle.stream_table.specs.Owners.{is_owner, same_owner, is_used, kept}
-use Rattle.stream_table.proofs.ListLaws.{IsSameness}
+use Rattle.sprite_ids.proofs.OnceLaws.{IsSameness}
 
 eq_turned : (a b : ℕ) → (a == b) ≡ (b == a)
 eq_turned a b = search (rules, tests, eqb_tells a b, eqb_tells b a)

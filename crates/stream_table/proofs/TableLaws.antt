@@ -9,11 +9,11 @@ use Rattle.stream_table.specs.declared.owners.Owner.{Owner}
 use Rattle.stream_table.specs.declared.stream.Stream.{Stream}
 use Rattle.stream_table.specs.declared.stream.Place.{Place}
 use Rattle.stream_table.specs.declared.stream.Carried.{Carried}
-use Rattle.stream_table.specs.Lists.{put, without, EachOnce}
+use Rattle.sprite_ids.specs.Lists.{put, without, EachOnce}
 use Rattle.stream_table.specs.Owners.{is_number, is_used, is_owner, same_owner, is_referred, nothing, numbers_of, descriptor, kept}
 use Rattle.stream_table.specs.Entries.{is_of, is_open, is_placed, is_placed_in, may_be_at, same_entry, stream_of, holder_of, opened, left, leaving}
 use Rattle.stream_table.specs.Streams.{free, with_descriptor, freed, numbers_in, merged, arrived, with_arrived, same_fd, numbered, IsTable}
-use Rattle.stream_table.proofs.ListLaws.{put_once, filtered_once, or_false}
+use Rattle.sprite_ids.proofs.OnceLaws.{put_once, filtered_once, or_false}
 use Rattle.stream_table.proofs.EntryLaws.{one_number, entries_same}
 use Rattle.stream_table.proofs.OwnerLaws.{owners_same, kept_none, kept_some}
 use Rattle.stream_table.proofs.FoundLaws.{entry, open_put, open_left, open_same, open_less, each_put, placed_found}

@@ -8,7 +8,7 @@ use Rattle.stream_table.specs.declared.entries.Entry.{Entry}
 use Rattle.stream_table.specs.declared.stream.Stream.{Stream}
 use Rattle.stream_table.specs.declared.stream.Place.{Place}
 use Rattle.stream_table.specs.declared.stream.Place.TheVariants.{Local, Shared}
-use Rattle.stream_table.specs.Lists.{put, without}
+use Rattle.sprite_ids.specs.Lists.{put, without}
 use Rattle.stream_table.specs.Owners.{is_number}
 
 -- whether the entry is of that stream

@@ -1,4 +1,3 @@
 pub mod Entries
-pub mod Lists
 pub mod Owners
 pub mod Streams

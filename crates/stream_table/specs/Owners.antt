@@ -3,7 +3,7 @@ use Rattle.std.specs.Prelude.{ℕ, ◌==◌, Bool, true, false, ◌&&◌, if◌t
 use Rattle.std.specs.List.{find, list_any}
 use Rattle.sprite_ids.specs.declared.StreamNo.{StreamNo}
 use Rattle.stream_table.specs.declared.owners.Owner.{Owner}
-use Rattle.stream_table.specs.Lists.{put, without}
+use Rattle.sprite_ids.specs.Lists.{put, without}
 
 -- whether the second is that stream
 abbrev pub is_number : StreamNo → StreamNo → Bool

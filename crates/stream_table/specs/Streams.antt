@@ -8,7 +8,7 @@ use Rattle.stream_table.specs.declared.entries.Entry.{Entry}
 use Rattle.stream_table.specs.declared.owners.Owner.{Owner}
 use Rattle.stream_table.specs.declared.stream.Stream.{Stream}
 use Rattle.stream_table.specs.declared.stream.Carried.{Carried}
-use Rattle.stream_table.specs.Lists.{put, EachOnce}
+use Rattle.sprite_ids.specs.Lists.{put, EachOnce}
 use Rattle.stream_table.specs.Owners.{is_free, is_used, is_owner, is_referred, numbers_of, nothing, descriptor, kept, same_owner}
 use Rattle.stream_table.specs.Entries.{is_of, is_open, is_placed_in, grants_in, stream_of, holder_of, opened, left, same_entry}
 

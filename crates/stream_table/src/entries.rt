@@ -1,6 +1,6 @@
 ghost use Rattle.std.specs.Prelude.{◌≡◌, IsTrue, IsOk, OnOk, OnErr};
 ghost use Rattle.std.specs.List.{find, list_any, position};
-ghost use Rattle.stream_table.specs.Lists.{put, without, EachOnce};
+ghost use Rattle.sprite_ids.specs.Lists.{put, without, EachOnce};
 ghost use Rattle.stream_table.specs.Entries.{is_of, is_listed, same_entry, stream_of, holder_of, grants_of, has_room, left};
 
 use crate::stream::Stream;

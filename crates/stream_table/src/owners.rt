@@ -1,7 +1,7 @@
 ghost use Rattle.std.specs.Prelude.{◌≡◌, ◌<◌, IsTrue, OnOk, false, slice_set, length};
 ghost use Rattle.std.specs.List.{list_any, position};
 ghost use Rattle.std.specs.Vec.{vec_capacity, vec_len};
-ghost use Rattle.stream_table.specs.Lists.{put, without, EachOnce};
+ghost use Rattle.sprite_ids.specs.Lists.{put, without, EachOnce};
 ghost use Rattle.stream_table.specs.Owners.{is_owner, names, refers, is_referred, is_free, nothing, numbers_of, named, kept, is_used, same_owner};
 
 use sprite_ids::{NoMemory, Pid, StreamNo};

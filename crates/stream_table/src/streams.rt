@@ -1,7 +1,7 @@
 ghost use Rattle.std.specs.Prelude.{◌≡◌, ◌≤◌, ◌<◌, ◌↔◌, [], true, false, Some, IfOk, IfErr, IfSome, OnOk, OnErr, IsTrue, IsOk, is_some};
 ghost use Rattle.std.specs.List.{AllByRecursion};
 ghost use Rattle.stream_table.specs.declared.stream.Carried.{Carried};
-ghost use Rattle.stream_table.specs.Lists.{EachOnce};
+ghost use Rattle.sprite_ids.specs.Lists.{EachOnce};
 ghost use Rattle.stream_table.specs.Owners.{is_used, is_referred, numbers_of, descriptor};
 ghost use Rattle.stream_table.specs.Entries.{is_listed, is_placed, may_be_at, stream_of, holder_of, has_room, has_lock, placed, locked, unlocked};
 ghost use Rattle.stream_table.specs.Streams.{Table, free, added, dup_answer, dupped, forked, closed, closed_stream, is_last, numbered, carried_of, closed_all, arriving, same_fd, IsAddCause};

@@ -1,6 +1,7 @@
 -- The pages that are kept.
-use Rattle.std.specs.Prelude.{◌≡◌, ℕ, ◌==◌, Bool, false, ◌&&◌, not, List, [], ◌∷◌, ◌++◌, Option, option_map}
-use Rattle.std.specs.List.{filter, find, list_any}
+use Rattle.std.specs.Prelude.{ℕ, ◌==◌, Bool, ◌&&◌, List, [], ◌∷◌, ◌++◌, Option, option_map}
+use Rattle.std.specs.List.{find}
+use Rattle.sprite_ids.specs.Lists.{without}
 use Rattle.swap_pages.specs.declared.swap.Kept.{Kept}
 
 -- whether it is that page of that process
@@ -11,15 +12,10 @@ is_of pid page kept = (kept.pid == pid) && (kept.page == page)
 abbrev pub bytes_of : List Kept → ℕ → ℕ → Option (List ℕ)
 bytes_of pages pid page = option_map (λ kept. kept.bytes) (find (is_of pid page) pages)
 
--- the other pages
-abbrev pub without : List Kept → ℕ → ℕ → List Kept
-without pages pid page = filter (λ kept. not (is_of pid page kept)) pages
-
 -- the pages after one was put
 abbrev pub put : List Kept → ℕ → ℕ → List ℕ → List Kept
-put pages pid page bytes = without pages pid page ++ record { pid = pid; page = page; bytes = bytes } ∷ []
+put pages pid page bytes = without (is_of pid page) pages ++ record { pid = pid; page = page; bytes = bytes } ∷ []
 
--- no page stands twice
-abbrev pub EachOnce : List Kept → Type 0
-EachOnce [] = Unit {0}
-EachOnce (first ∷ rest) = (list_any (is_of first.pid first.page) rest ≡ false) × EachOnce rest
+-- whether the two are one page
+abbrev pub same_page : Kept → Kept → Bool
+same_page kept other = is_of kept.pid kept.page other

@@ -1,6 +1,7 @@
 ghost use Rattle.std.specs.Prelude.{◌≡◌, [], OnOk, OnErr, option_map};
 ghost use Rattle.std.specs.List.{position};
-ghost use Rattle.swap_pages.specs.Swap.{is_of, bytes_of, without, put};
+ghost use Rattle.sprite_ids.specs.Lists.{without};
+ghost use Rattle.swap_pages.specs.Swap.{is_of, bytes_of, put};
 
 use sprite_ids::{Bytes, NoMemory, Pid};
 use std::alloc::Global;
@@ -23,14 +24,15 @@ pub struct Swap {
 
 impl Model for Swap {
     ghost use Rattle.std.specs.Prelude.{List};
+    ghost use Rattle.sprite_ids.specs.Lists.{EachOnce};
     ghost use Rattle.swap_pages.specs.declared.swap.Kept.{Kept};
-    ghost use Rattle.swap_pages.specs.Swap.{EachOnce};
+    ghost use Rattle.swap_pages.specs.Swap.{same_page};
 
     ghost Value = { List Kept };
 
     ghost view = { λ swap. swap.pages.items };
 
-    ghost invariant = { λ swap. EachOnce swap.pages.items };
+    ghost invariant = { λ swap. EachOnce same_page swap.pages.items };
 }
 
 impl Swap {
@@ -61,7 +63,7 @@ impl Swap {
     /// Takes the page out; None exactly where it isn't kept.
     pub fn take(&mut self, pid: Pid, page: u8) -> Option<Vec<u8>>
         ensures bytes { option_map (λ bytes. bytes.items) result ≡ bytes_of self.old pid page }
-        ensures pages { self.new ≡ without self.old pid page }
+        ensures pages { self.new ≡ without (is_of pid page) self.old }
     {
         match place_of(self.pages.as_slice(), pid, page) {
             Some(at) => {

@@ -1,4 +1,4 @@
--- The files of the table: each once, and what waits is ready.
+-- The files of the table: each once, coherent, and with what waits ready.
 use Rattle.std.proofs.Common.{rules, tests, ◌≡◌, ℕ, zero, suc, ◌<◌, ◌==◌, Bool, true, false, List, [], ◌∷◌, length, Option, Some, None, is_some, not, sym, refl, ap, subst, ◌∙◌, arith, get_or, slice_set}
 use Rattle.std.specs.List.{AllByRecursion, position, remove}
 use Rattle.std.proofs.lemmas.List.Quantifiers.{position-Some}
@@ -9,11 +9,13 @@ use Rattle.sprite_ids.specs.declared.StreamNo.{StreamNo}
 use Rattle.sprite_ids.proofs.ListLaws.{each_set, each_filter}
 use Rattle.version_table.specs.declared.versioned.Asking.{Asking}
 use Rattle.version_table.specs.declared.versioned.Versioned.{Versioned}
-use Rattle.version_table.specs.Lists.{EachOnce, without}
+use Rattle.sprite_ids.specs.Lists.{EachOnce, without}
 use Rattle.version_table.specs.Files.{fresh, is_busy, answered, settling, settled, closed, IsReadyFor, IsReady}
+use Rattle.version_table.specs.Coherence.{IsKept}
 use Rattle.version_table.specs.Versions.{Table, is_of, same_file, or_fresh, file_of, with_file, closing_in, with_closed, AreKept}
-use Rattle.version_table.proofs.ListLaws.{IsSameness, found_there, put_here, put_once, taken, none_taken, none_found, at_most_one, filtered_once}
+use Rattle.sprite_ids.proofs.OnceLaws.{IsSameness, found_there, put_here, put_once, taken, none_taken, none_found, at_most_one, filtered_once}
 use Rattle.version_table.proofs.OpenLaws.{found_none}
+use Rattle.version_table.proofs.CoherenceLaws.{answered_coherent, settled_coherent, closed_coherent}
 
 eq_turned : (a b : ℕ) → (a == b) ≡ (b == a)
 eq_turned a b = search (rules, tests, eqb_tells a b, eqb_tells b a)
@@ -44,22 +46,22 @@ file_changed f t cached xs file i d new view e is en =
     let base = ap (of cached) put_it in
     subst (λ (t : Table). of cached (slice_set xs i new) ≡ record t { files = with_file t.files file (f (file_of t.files file)) }) view base
 
--- the files are kept where the changed one is the same file and what waits of it is ready
-pub changed_kept : (xs : List Versioned) (file : FileId) (i : ℕ) (d new : Versioned) → position (is_of file) xs ≡ Some i → d ≡ get_or xs i d → new.file ≡ d.file → IsReady new → AreKept xs → AreKept (slice_set xs i new)
-changed_kept xs file i d new e is en ready h =
+-- the files are kept where the changed one is the same file and is kept
+pub changed_kept : (xs : List Versioned) (file : FileId) (i : ℕ) (d new : Versioned) → position (is_of file) xs ≡ Some i → d ≡ get_or xs i d → new.file ≡ d.file → IsKept new → AreKept xs → AreKept (slice_set xs i new)
+changed_kept xs file i d new e is en kept h =
     let found = position-Some (is_of file) xs i d e in
     let here : file ≡ d.file = one_file file d.file d (ap (is_of file) is ∙ found.1) refl in
     let place : position (is_of new.file) xs ≡ Some i = ap (λ (n : FileId). position (is_of n) xs) (en ∙ sym here) ∙ e in
-    (subst (EachOnce same_file) (sym (put_here (is_of new.file) new xs i d place)) (put_once same_file files_same new xs h.0), each_set IsReady xs i new ready h.1)
+    (subst (EachOnce same_file) (sym (put_here (is_of new.file) new xs i d place)) (put_once same_file files_same new xs h.0), each_set IsKept xs i new kept h.1)
 
-ready_at : (xs : List Versioned) (i : ℕ) (d : Versioned) → i < length xs → AllByRecursion IsReady xs → IsReady (get_or xs i d)
-ready_at [] i d h w = absurd (omega arith)
-ready_at (x ∷ xs) zero d h w = w.0
-ready_at (x ∷ xs) (suc i) d h w = ready_at xs i d (omega arith) w.1
+one_at : (xs : List Versioned) (i : ℕ) (d : Versioned) → i < length xs → AllByRecursion IsKept xs → IsKept (get_or xs i d)
+one_at [] i d h w = absurd (omega arith)
+one_at (x ∷ xs) zero d h w = w.0
+one_at (x ∷ xs) (suc i) d h w = one_at xs i d (omega arith) w.1
 
--- what waits of the file at a place is ready
-pub ready_there : (xs : List Versioned) (file : FileId) (i : ℕ) (d : Versioned) → position (is_of file) xs ≡ Some i → d ≡ get_or xs i d → AllByRecursion IsReady xs → IsReady d
-ready_there xs file i d e is w = subst IsReady (sym is) (ready_at xs i d (position-Some (is_of file) xs i d e).0 w)
+-- the file at a place is kept
+pub kept_there : (xs : List Versioned) (file : FileId) (i : ℕ) (d : Versioned) → position (is_of file) xs ≡ Some i → d ≡ get_or xs i d → AllByRecursion IsKept xs → IsKept d
+kept_there xs file i d e is w = subst IsKept (sym is) (one_at xs i d (position-Some (is_of file) xs i d e).0 w)
 
 settled_by : (file : Versioned) (o : Option Asking) → (settling file o).file ≡ file.file
 settled_by file (Some asking) = refl
@@ -72,22 +74,34 @@ settled_ready_by : (file : Versioned) (o : Option Asking) → IsReady file → I
 settled_ready_by file (Some asking) h = tt
 settled_ready_by file None h = h
 
-pub settled_ready : (file : Versioned) → IsReady file → IsReady (settled file)
+settled_ready : (file : Versioned) → IsReady file → IsReady (settled file)
 settled_ready file h = settled_ready_by file file.asking h
+
+-- a file is kept when it is settled
+pub settled_kept : (file : Versioned) → IsKept file → IsKept (settled file)
+settled_kept file h = record { ready = settled_ready file h.ready; coherent = settled_coherent file h.ready h.coherent }
 
 answered_ready_by : (file : Versioned) (kernel : ℕ) (o : Option Asking) → IsReadyFor file o → IsReadyFor (answered file kernel) o
 answered_ready_by file kernel (Some asking) h = h
 answered_ready_by file kernel None h = tt
 
-pub answered_ready : (file : Versioned) (kernel : ℕ) → IsReady file → IsReady (answered file kernel)
+answered_ready : (file : Versioned) (kernel : ℕ) → IsReady file → IsReady (answered file kernel)
 answered_ready file kernel h = answered_ready_by file kernel file.asking h
+
+-- when an answer comes
+pub answered_kept : (file : Versioned) (kernel : ℕ) → is_busy file ≡ true → IsKept file → IsKept (answered file kernel)
+answered_kept file kernel busy h = record { ready = answered_ready file kernel h.ready; coherent = answered_coherent file kernel busy h.coherent }
 
 closed_ready_by : (file changed : Versioned) (o : Option Asking) → is_some o ≡ false → IsReadyFor changed o
 closed_ready_by file changed (Some asking) h = absurd (cc)
 closed_ready_by file changed None h = tt
 
-pub closed_ready : (file : Versioned) (kernel : ℕ) (stream : StreamNo) (grants : ℕ) → is_busy file ≡ false → IsReady (closed file kernel stream grants)
+closed_ready : (file : Versioned) (kernel : ℕ) (stream : StreamNo) (grants : ℕ) → is_busy file ≡ false → IsReady (closed file kernel stream grants)
 closed_ready file kernel stream grants h = closed_ready_by file (closed file kernel stream grants) file.asking h
+
+-- and at a close
+pub closed_kept : (file : Versioned) (kernel : ℕ) (stream : StreamNo) (grants : ℕ) → is_busy file ≡ false → IsKept file → IsKept (closed file kernel stream grants)
+closed_kept file kernel stream grants free h = record { ready = closed_ready file kernel stream grants free; coherent = closed_coherent file kernel stream grants free h.coherent }
 
 -- a file without a place is one that nobody opened
 pub file_absent : (files : List Versioned) (file : FileId) → position (is_of file) files ≡ None → file_of files file ≡ fresh file
@@ -109,7 +123,7 @@ forgotten xs file i d new e en h = en ∙ taken (is_of file) xs i d (at_most_one
 -- the files without one are kept
 pub forgotten_kept : (xs : List Versioned) (file : FileId) (i : ℕ) (d : Versioned) (new : List Versioned) → position (is_of file) xs ≡ Some i → new ≡ remove xs i → AreKept xs → AreKept new
 forgotten_kept xs file i d new e en h =
-    subst AreKept (sym (forgotten xs file i d new e en h)) (filtered_once same_file (λ v. not (is_of file v)) xs h.0, each_filter IsReady (λ v. not (is_of file v)) xs h.1)
+    subst AreKept (sym (forgotten xs file i d new e en h)) (filtered_once same_file (λ v. not (is_of file v)) xs h.0, each_filter IsKept (λ v. not (is_of file v)) xs h.1)
 
 pub forgotten_there : (t : Table) (cached : Bool) (xs : List Versioned) (file : FileId) (i : ℕ) (d : Versioned) (new : List Versioned) → of cached xs ≡ t → position (is_of file) xs ≡ Some i → new ≡ remove xs i → AreKept xs → of cached new ≡ record t { files = without (is_of file) t.files }
 forgotten_there t cached xs file i d new view e en h =

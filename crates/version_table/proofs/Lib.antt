@@ -1,6 +1,9 @@
-pub mod ListLaws
 pub mod OpenLaws
 pub mod FileLaws
 pub mod DecisionLaws
 pub mod ReadyLaws
 pub mod SettleLaws
+pub mod SharingLaws
+pub mod CoherenceLaws
+pub mod SharedLaws
+pub mod StampLaws

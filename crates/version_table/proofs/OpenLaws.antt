@@ -1,47 +1,23 @@
 -- Opens and streams that are found, put and taken out, and room for one more grant.
-use Rattle.std.proofs.Common.{rules, tests, ◌≡◌, ℕ, zero, suc, ◌-◌, ◌<◌, ◌≤◌, nat_le, Bool, true, false, ◌&&◌, cond, List, [], ◌∷◌, ◌++◌, length, Option, Some, None, refl, sym, ap, subst, ◌∙◌, arith, slice_get, slice_set, get_or}
-use Rattle.std.specs.List.{find, list_all, list_any, position, remove}
-use Rattle.std.proofs.lemmas.List.Quantifiers.{position-Some}
+use Rattle.std.proofs.Common.{rules, tests, ◌≡◌, ℕ, ◌-◌, ◌<◌, ◌≤◌, nat_le, Bool, true, false, ◌&&◌, cond, List, [], ◌∷◌, ◌++◌, Option, Some, None, refl, sym, ap, subst, ◌∙◌, arith, slice_get, slice_set}
+use Rattle.std.specs.List.{find, list_all, position, remove}
 use Rattle.std.proofs.lemmas.Bool.{and_parts}
 use Rattle.sprite_ids.specs.declared.StreamNo.{StreamNo}
 use Rattle.sprite_ids.proofs.ListLaws.{some_is}
 use Rattle.version_table.specs.declared.opens.Open.{Open}
 use Rattle.version_table.specs.declared.action.Action.{Action}
 use Rattle.version_table.specs.declared.action.Action.TheVariants.{Opening, Moving}
-use Rattle.version_table.specs.Lists.{put, less}
+use Rattle.sprite_ids.specs.Lists.{put, less}
 use Rattle.version_table.specs.Opens.{is_at, open_at, count_in, taking, taken_off, left_by, are_roomy}
-use Rattle.version_table.proofs.ListLaws.{or_false, found_there, nothing_found, none_found, put_here, put_last}
-
-less_there : {X : Type 0} (p : X → Bool) (xs : List X) (i : ℕ) (d : X) → i < length xs → p (get_or xs i d) ≡ true → ((k : ℕ) → k < i → p (get_or xs k d) ≡ false) → remove xs i ≡ less p xs
-less_there p [] i d h t f = absurd (omega arith)
-less_there p (x ∷ xs) zero d h t f = sym (ap (λ b. cond b xs (x ∷ less p xs)) t)
-less_there p (x ∷ xs) (suc i) d h t f =
-    ap (λ ys. x ∷ ys) (less_there p xs i d (omega arith) t (λ k less_k. f (suc k) (omega arith))) ∙ sym (ap (λ b. cond b xs (x ∷ less p xs)) (f 0 (omega arith)))
-
--- the first item that passes is the one that is taken out
-pub less_here : {X : Type 0} (p : X → Bool) (xs : List X) (i : ℕ) (d : X) → position p xs ≡ Some i → remove xs i ≡ less p xs
-less_here p xs i d e =
-    let found = position-Some p xs i d e in
-    less_there p xs i d found.0 found.1 found.2
-
-less_nothing : {X : Type 0} (p : X → Bool) (xs : List X) → list_any p xs ≡ false → less p xs ≡ xs
-less_nothing p [] h = refl
-less_nothing p (x ∷ xs) h =
-    let parts = or_false (p x) (list_any p xs) h in
-    ap (λ b. cond b xs (x ∷ less p xs)) parts.0 ∙ ap (λ ys. x ∷ ys) (less_nothing p xs parts.1)
+use Rattle.sprite_ids.proofs.OnceLaws.{found_there, nothing_found, none_found, put_here, put_last, less_here, not_less, get_is}
 
 -- none is taken out where none passes
 pub less_none : {X : Type 0} (p : X → Bool) (xs : List X) → position p xs ≡ None → less p xs ≡ xs
-less_none p xs e = less_nothing p xs (none_found p xs e)
-
-get_is : {X : Type 0} (xs : List X) (i : ℕ) (x : X) → slice_get xs i ≡ Some x → get_or xs i x ≡ x
-get_is [] i x e = refl
-get_is (y ∷ ys) zero x e = some_is y x e
-get_is (y ∷ ys) (suc i) x e = get_is ys i x e
+less_none p xs e = not_less p xs (none_found p xs e)
 
 -- the item at the position is found
 pub found_get : {X : Type 0} (p : X → Bool) (xs : List X) (i : ℕ) (x : X) → position p xs ≡ Some i → slice_get xs i ≡ Some x → find p xs ≡ Some x
-found_get p xs i x e is = found_there p xs i x e ∙ ap Some (get_is xs i x is)
+found_get p xs i x e is = found_there p xs i x e ∙ ap Some (sym (get_is xs i x is))
 
 -- nothing is found without a position
 pub found_none : {X : Type 0} (p : X → Bool) (xs : List X) → position p xs ≡ None → find p xs ≡ None

@@ -1,5 +1,5 @@
 -- What waits after a decision is ready, and the decision in the table.
-use Rattle.std.proofs.Common.{◌≡◌, ℕ, zero, suc, ◌+◌, ◌≤◌, nat_le, Bool, true, ◌&&◌, List, [], ◌∷◌, ◌++◌, length, fold, Option, Some, None, Result, Ok, Err, OnOk, OnErr, IfOk, refl, sym, ap, subst, ◌∙◌, arith, get_or, slice_set, length-append}
+use Rattle.std.proofs.Common.{◌≡◌, ℕ, zero, suc, ◌+◌, ◌≤◌, nat_le, Bool, true, false, ◌&&◌, List, [], ◌∷◌, ◌++◌, length, fold, Option, Some, None, Result, Ok, Err, OnOk, OnErr, IfOk, refl, sym, ap, subst, ◌∙◌, arith, get_or, slice_set, length-append}
 use Rattle.std.specs.List.{AllByRecursion, position}
 use Rattle.std.proofs.lemmas.Bool.{and_parts}
 use Rattle.sprite_ids.specs.declared.FileId.{FileId}
@@ -10,14 +10,16 @@ use Rattle.version_table.specs.declared.action.Action.{Action}
 use Rattle.version_table.specs.declared.action.Decision.{Decision}
 use Rattle.version_table.specs.declared.versioned.Asking.{Asking}
 use Rattle.version_table.specs.declared.versioned.Versioned.{Versioned}
-use Rattle.version_table.specs.Lists.{EachOnce}
+use Rattle.sprite_ids.specs.Lists.{EachOnce}
 use Rattle.version_table.specs.Opens.{are_roomy}
-use Rattle.version_table.specs.Files.{fresh, is_uncached, call_of, with_call, calls_to, calls_of, called, told, waiting, deciding, decided, is_roomy, IsReadyFor, IsReady}
+use Rattle.version_table.specs.Files.{fresh, is_uncached, call_of, with_call, calls_to, calls_of, called, told, waiting, deciding, decided, is_roomy, IsReadyFor, IsReady, is_busy}
+use Rattle.version_table.specs.Coherence.{IsKept}
 use Rattle.version_table.specs.Decisions.{decision_of}
 use Rattle.version_table.specs.Versions.{Table, is_of, file_of, with_file, has_room, same_file, AreKept}
-use Rattle.version_table.proofs.ListLaws.{found_there, put_once}
+use Rattle.sprite_ids.proofs.OnceLaws.{found_there, put_once}
 use Rattle.version_table.proofs.OpenLaws.{all_found, is_few, put_end}
-use Rattle.version_table.proofs.FileLaws.{of, file_changed, changed_kept, ready_there, file_absent, files_same}
+use Rattle.version_table.proofs.CoherenceLaws.{fresh_coherent, decided_coherent}
+use Rattle.version_table.proofs.FileLaws.{of, file_changed, changed_kept, kept_there, file_absent, files_same}
 
 few_with : (file : Versioned) (kernel : ℕ) (o : Option CallKind) (calls : List Callback) (n : ℕ) → length calls ≤ n → length (with_call file kernel o calls) ≤ suc n
 few_with file kernel (Some kind) calls n h = simp length-append (omega (arith, h))
@@ -70,17 +72,21 @@ decided_ready cached file action h =
     let all = each_weaken (λ (call : Callback). call.stamp ≤ file.stamp + 16) (λ (call : Callback). call.stamp ≤ 2000000016) (calls_of cached file action) (λ call l. omega (arith, s, l)) low in
     deciding_ready (told (is_uncached cached file action) file) action (calls_of cached file action) s (is_few file.version more.0) all
 
+-- a decision keeps a file
+decided_keeps : (cached : Bool) (file : Versioned) (action : Action) → is_roomy file ≡ true → is_busy file ≡ false → IsKept file → IsKept (decided cached file action)
+decided_keeps cached file action room free h = record { ready = decided_ready cached file action room; coherent = decided_coherent cached file action free h.coherent }
+
 -- a file of a table with room has room
 pub roomy_there : (t : Table) (cached : Bool) (xs : List Versioned) (file : FileId) (i : ℕ) (d : Versioned) → of cached xs ≡ t → has_room t.files ≡ true → position (is_of file) xs ≡ Some i → d ≡ get_or xs i d → is_roomy d ≡ true
 roomy_there t cached xs file i d view room e is =
     all_found is_roomy (is_of file) xs d (ap (λ (t : Table). has_room t.files) view ∙ room) (found_there (is_of file) xs i d e ∙ ap Some (sym is))
 
 -- after a decision that may fail for want of memory
-pub decided_kept : {A B : Type 0} (r : Result A B) (cached : Bool) (xs : List Versioned) (file : FileId) (i : ℕ) (d new : Versioned) (action : Action) → OnOk r (new ≡ decided cached d action) → OnErr r (new ≡ d) → position (is_of file) xs ≡ Some i → d ≡ get_or xs i d → is_roomy d ≡ true → AreKept xs → AreKept (slice_set xs i new)
-decided_kept (Ok a) cached xs file i d new action went failed e is room h =
-    changed_kept xs file i d new e is (ap (λ (v : Versioned). v.file) went ∙ decided_file cached d action) (subst IsReady (sym went) (decided_ready cached d action room)) h
-decided_kept (Err b) cached xs file i d new action went failed e is room h =
-    changed_kept xs file i d new e is (ap (λ (v : Versioned). v.file) failed) (subst IsReady (sym failed) (ready_there xs file i d e is h.1)) h
+pub decided_kept : {A B : Type 0} (r : Result A B) (cached : Bool) (xs : List Versioned) (file : FileId) (i : ℕ) (d new : Versioned) (action : Action) → OnOk r (new ≡ decided cached d action) → OnErr r (new ≡ d) → position (is_of file) xs ≡ Some i → d ≡ get_or xs i d → is_roomy d ≡ true → is_busy d ≡ false → AreKept xs → AreKept (slice_set xs i new)
+decided_kept (Ok a) cached xs file i d new action went failed e is room free h =
+    changed_kept xs file i d new e is (ap (λ (v : Versioned). v.file) went ∙ decided_file cached d action) (subst IsKept (sym went) (decided_keeps cached d action room free (kept_there xs file i d e is h.1))) h
+decided_kept (Err b) cached xs file i d new action went failed e is room free h =
+    changed_kept xs file i d new e is (ap (λ (v : Versioned). v.file) failed) (subst IsKept (sym failed) (kept_there xs file i d e is h.1)) h
 
 pub decided_table : {A B : Type 0} (r : Result A B) (t : Table) (cached : Bool) (xs : List Versioned) (file : FileId) (i : ℕ) (d new : Versioned) (action : Action) → of cached xs ≡ t → OnOk r (new ≡ decided cached d action) → position (is_of file) xs ≡ Some i → d ≡ get_or xs i d → OnOk r (of cached (slice_set xs i new) ≡ record t { files = with_file t.files file (decided t.cached (file_of t.files file) action) })
 decided_table (Ok a) t cached xs file i d new action view went e is =
@@ -98,8 +104,8 @@ first_kept (Ok a) cached xs new file action went failed e h =
     let v = decided cached (fresh file) action in
     let place : position (is_of v.file) xs ≡ None = ap (λ (n : FileId). position (is_of n) xs) (decided_file cached (fresh file) action) ∙ e in
     let there = went ∙ sym (put_end (is_of v.file) v xs place) in
-    let ready = each_push IsReady xs v h.1 (decided_ready cached (fresh file) action refl) in
-    (subst (EachOnce same_file) (sym there) (put_once same_file files_same v xs h.0), subst (AllByRecursion IsReady) (sym went) ready)
+    let kept = each_push IsKept xs v h.1 (record { ready = decided_ready cached (fresh file) action refl; coherent = decided_coherent cached (fresh file) action refl (fresh_coherent file) }) in
+    (subst (EachOnce same_file) (sym there) (put_once same_file files_same v xs h.0), subst (AllByRecursion IsKept) (sym went) kept)
 first_kept (Err b) cached xs new file action went failed e h = subst AreKept (sym failed) h
 
 pub first_table : {A B : Type 0} (r : Result A B) (t : Table) (cached : Bool) (xs new : List Versioned) (file : FileId) (action : Action) → of cached xs ≡ t → OnOk r (new ≡ xs ++ decided cached (fresh file) action ∷ []) → position (is_of file) xs ≡ None → OnOk r (of cached new ≡ record t { files = with_file t.files file (decided t.cached (file_of t.files file) action) })

@@ -4,7 +4,7 @@ use Rattle.std.specs.List.{find}
 use Rattle.std.proofs.lemmas.Bool.{and_parts}
 use Rattle.sprite_ids.specs.declared.FileId.{FileId}
 use Rattle.version_table.specs.declared.versioned.Versioned.{Versioned}
-use Rattle.version_table.specs.Lists.{put}
+use Rattle.sprite_ids.specs.Lists.{put}
 use Rattle.version_table.specs.Files.{answered, is_out, is_any_out, is_last}
 use Rattle.version_table.specs.Versions.{is_of, or_fresh, file_of, with_file}
 use Rattle.version_table.proofs.FileLaws.{one_file}

@@ -13,7 +13,8 @@ use Rattle.version_table.specs.declared.opens.Open.{Open}
 use Rattle.version_table.specs.declared.action.Action.{Action}
 use Rattle.version_table.specs.declared.versioned.Asking.{Asking}
 use Rattle.version_table.specs.declared.versioned.Versioned.{Versioned}
-use Rattle.version_table.specs.Lists.{less, is_any}
+use Rattle.sprite_ids.specs.Lists.{less}
+use Rattle.version_table.specs.Lists.{is_any}
 use Rattle.version_table.specs.Modes.{caches, mode_of_grant, no_modes}
 use Rattle.version_table.specs.Opens.{is_stream, is_of_stream, receiver, truncates, is_writing, taken_off, opened, sharing, has_open, is_write_shared, are_roomy}
 

@@ -1,27 +1,7 @@
--- Lists in which an item is put or taken out by a test.
-use Rattle.std.specs.Prelude.{◌≡◌, Bool, true, false, not, if◌then◌else◌, List, [], ◌∷◌}
-use Rattle.std.specs.List.{filter, list_any}
-
--- the item in the place of the first that passes the test, else at the end
-abbrev pub put : {X : Type 0} → (X → Bool) → X → List X → List X
-put p x [] = x ∷ []
-put p x (y ∷ ys) = if p y then x ∷ ys else y ∷ put p x ys
-
--- the items without the first that passes the test
-abbrev pub less : {X : Type 0} → (X → Bool) → List X → List X
-less p [] = []
-less p (y ∷ ys) = if p y then ys else y ∷ less p ys
-
--- the items that don't pass the test
-abbrev pub without : {X : Type 0} → (X → Bool) → List X → List X
-without p xs = filter (λ x. not (p x)) xs
+-- Lists with and without items.
+use Rattle.std.specs.Prelude.{Bool, true, false, List, [], ◌∷◌}
 
 -- whether there is an item
 abbrev pub is_any : {X : Type 0} → List X → Bool
 is_any [] = false
 is_any (x ∷ xs) = true
-
--- no item stands twice
-abbrev pub EachOnce : {X : Type 0} → (X → X → Bool) → List X → Type 0
-EachOnce same [] = Unit {0}
-EachOnce same (x ∷ xs) = (list_any (same x) xs ≡ false) × EachOnce same xs

@@ -7,7 +7,7 @@ use Rattle.sprite_ids.specs.declared.Mode.TheVariants.{Read}
 use Rattle.version_table.specs.declared.opens.Open.{Open}
 use Rattle.version_table.specs.declared.action.Action.{Action}
 use Rattle.version_table.specs.declared.action.Action.TheVariants.{Opening, Moving}
-use Rattle.version_table.specs.Lists.{put, less}
+use Rattle.sprite_ids.specs.Lists.{put, less}
 use Rattle.version_table.specs.Modes.{writes}
 
 -- whether the second is that stream

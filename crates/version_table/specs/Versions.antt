@@ -4,8 +4,9 @@ use Rattle.std.specs.List.{AllByRecursion, find, list_all}
 use Rattle.sprite_ids.specs.declared.FileId.{FileId}
 use Rattle.sprite_ids.specs.declared.StreamNo.{StreamNo}
 use Rattle.version_table.specs.declared.versioned.Versioned.{Versioned}
-use Rattle.version_table.specs.Lists.{put, EachOnce}
-use Rattle.version_table.specs.Files.{fresh, closed, is_roomy, IsReady}
+use Rattle.sprite_ids.specs.Lists.{put, EachOnce}
+use Rattle.version_table.specs.Files.{fresh, closed, is_roomy}
+use Rattle.version_table.specs.Coherence.{IsKept}
 
 -- whether clients have a cache, and the files that anybody opened
 pub record Table : Type 0 where
@@ -46,6 +47,6 @@ with_closed files file kernel stream grants = closing_in files file kernel strea
 abbrev pub has_room : List Versioned → Bool
 has_room files = list_all is_roomy files
 
--- each file once, and what waits is ready
+-- each file once, and each coherent and with what waits ready
 abbrev pub AreKept : List Versioned → Type 0
-AreKept files = EachOnce same_file files × AllByRecursion IsReady files
+AreKept files = EachOnce same_file files × AllByRecursion IsKept files

@@ -4,11 +4,13 @@
 #![tactic(auto)]
 
 mod action;
+mod laws;
 mod opens;
 mod versioned;
 mod versions;
 
 pub use action::{Action, Decision};
+pub use laws::{callbacks_go_once, grants_say_whether_cached, stamps_rise};
 pub use opens::Open;
 pub use versioned::{Asking, Versioned};
 pub use versions::Versions;

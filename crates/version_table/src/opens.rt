@@ -1,7 +1,7 @@
 ghost use Rattle.std.specs.Prelude.{◌≡◌, IsTrue, OnOk, OnErr, IfOk};
 ghost use Rattle.std.specs.List.{list_any, find, position};
 ghost use Rattle.version_table.specs.Modes.{writes};
-ghost use Rattle.version_table.specs.Lists.{less, put};
+ghost use Rattle.sprite_ids.specs.Lists.{less, put};
 ghost use Rattle.version_table.specs.Opens.{is_stream, is_of_stream, is_at, open_at, count_in, stream_mode, mode_of, taken_off, added, left_by, opened, sharing, has_open, is_elsewhere, is_spread, is_written, is_write_shared, are_roomy};
 
 use crate::action::Action;

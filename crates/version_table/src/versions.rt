@@ -1,9 +1,11 @@
 ghost use Rattle.std.specs.Prelude.{◌≡◌, IsTrue, IfOk, OnOk, OnErr, Some, None, [], false, not, option_map, length, ◌<◌, ◌++◌, ◌∷◌, remove};
 ghost use Rattle.std.specs.List.{find, position};
-ghost use Rattle.version_table.specs.Lists.{is_any, without};
+ghost use Rattle.sprite_ids.specs.Lists.{without};
+ghost use Rattle.version_table.specs.Lists.{is_any};
 ghost use Rattle.version_table.specs.Opens.{count_in, open_at, stream_mode};
 ghost use Rattle.version_table.specs.Files.{fresh, is_busy, is_any_out, is_roomy, decided, answered, is_last, settled, settled_grant, closed, is_closed, current, IsReady};
 ghost use Rattle.version_table.specs.Decisions.{decision_of};
+ghost use Rattle.version_table.specs.Laws.{CachedIsUnshared, CachingIsUnshared, CachingIsHolder, UncachedIsStopped};
 ghost use Rattle.version_table.specs.Versions.{is_of, file_of, with_file, has_room, with_closed};
 
 use crate::action::{Action, Decision};
@@ -159,6 +161,19 @@ impl Versions {
             Some(versioned) => versioned.mode(&stream),
             None => None,
         }
+    }
+
+    /// A law of each file, whatever was called so far (Nelson, Welch and Ousterhout 1988): where the file isn't uncached, and
+    /// where any kernel was given mode On last, a kernel that has it open for writing is the only kernel that has it open.
+    /// Where it isn't busy, a kernel that has it open for writing and was given mode On last is the possible holder of dirty
+    /// blocks. Of an uncached file no kernel was given mode On last.
+    pub fn writers_are_alone(&self, file: FileId)
+        ensures cached { CachedIsUnshared (file_of self.now.files file) }
+        ensures caching { CachingIsUnshared (file_of self.now.files file) }
+        ensures holder { CachingIsHolder (file_of self.now.files file) }
+        ensures stopped { UncachedIsStopped (file_of self.now.files file) }
+    {
+        let _ = &self.files;
     }
 
     /// Drops what is kept of the file. Its number is never used again.

@@ -1,8 +1,9 @@
 -- The list of dirty blocks, from the oldest to the newest.
-use Rattle.std.specs.Prelude.{◌≡◌, ℕ, ◌+◌, ◌≤◌, ◌<◌, take, drop, ◌==◌, nat_le, Bool, false, ◌&&◌, not, if◌then◌else◌, List, [], ◌∷◌, Option, option_map}
-use Rattle.std.specs.List.{AllByRecursion, filter, find, list_any}
+use Rattle.std.specs.Prelude.{ℕ, ◌+◌, ◌≤◌, ◌<◌, take, drop, ◌==◌, nat_le, Bool, ◌&&◌, if◌then◌else◌, List, [], ◌∷◌, Option, option_map}
+use Rattle.std.specs.List.{AllByRecursion, find, list_any}
 use Rattle.sprite_ids.specs.declared.FileId.{FileId}
 use Rattle.sprite_ids.specs.declared.BlockNo.{BlockNo}
+use Rattle.sprite_ids.specs.Lists.{without, EachOnce}
 use Rattle.write_delay.specs.declared.delays.Delayed.{Delayed}
 
 -- whether the entry is of that block of that file
@@ -13,10 +14,6 @@ is_of file block entry = (entry.file.server == file.server) && (entry.file.numbe
 abbrev pub listed : List Delayed → FileId → BlockNo → Bool
 listed entries file block = list_any (is_of file block) entries
 
--- the other blocks
-abbrev pub without : List Delayed → FileId → BlockNo → List Delayed
-without entries file block = filter (λ entry. not (is_of file block entry)) entries
-
 -- the list with one more entry, which stands behind those that aren't newer
 abbrev pub placed : Delayed → List Delayed → List Delayed
 placed entry [] = entry ∷ []
@@ -24,7 +21,7 @@ placed entry (first ∷ rest) = if nat_le first.step entry.step then first ∷ p
 
 -- the list after the block was made dirty at that step: its old entry gives way to the new one
 abbrev pub dirtied : List Delayed → FileId → BlockNo → ℕ → List Delayed
-dirtied entries file block step = placed (record { file = file; block = block; step = step }) (without entries file block)
+dirtied entries file block step = placed (record { file = file; block = block; step = step }) (without (is_of file block) entries)
 
 -- whether the block was made dirty at least 30 steps before that step
 abbrev pub is_due : ℕ → Delayed → Bool
@@ -39,15 +36,14 @@ abbrev pub InOrder : List Delayed → Type 0
 InOrder [] = Unit {0}
 InOrder (first ∷ rest) = AllByRecursion (λ entry. first.step ≤ entry.step) rest × InOrder rest
 
--- no block stands twice
-abbrev pub EachOnce : List Delayed → Type 0
-EachOnce [] = Unit {0}
-EachOnce (first ∷ rest) = (listed rest first.file first.block ≡ false) × EachOnce rest
+-- whether the two are of one block
+abbrev pub same_block : Delayed → Delayed → Bool
+same_block entry other = is_of entry.file entry.block other
 
 -- what a list of delayed blocks always is
 pub record AreDelays (entries : List Delayed) : Type 0 where
   pub in_order : InOrder entries
-  pub each_once : EachOnce entries
+  pub each_once : EachOnce same_block entries
 
 -- an entry of that step belongs there: the entries before aren't newer, and those from there on are
 pub record IsPlace (step : ℕ) (entries : List Delayed) (at : ℕ) : Type 0 where

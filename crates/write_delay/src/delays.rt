@@ -1,7 +1,8 @@
 ghost use Rattle.std.specs.Prelude.{◌≡◌, ◌≤◌, ◌<◌, [], false, OnOk, OnErr, IsTrue, length};
 ghost use Rattle.std.specs.List.{position};
 ghost use Rattle.std.specs.Vec.{vec_capacity, vec_len};
-ghost use Rattle.write_delay.specs.Delays.{is_of, listed, without, dirtied, due, InOrder, EachOnce, IsPlace};
+ghost use Rattle.sprite_ids.specs.Lists.{without, EachOnce};
+ghost use Rattle.write_delay.specs.Delays.{is_of, listed, dirtied, due, same_block, InOrder, IsPlace};
 
 use sprite_ids::{BlockNo, FileId, NoMemory};
 use std::alloc::Global;
@@ -66,7 +67,7 @@ impl Delays {
 
     /// Takes the block off the list, where it is listed.
     pub fn cleaned(&mut self, file: FileId, block: BlockNo)
-        ensures { self.new ≡ without self.old file block }
+        ensures { self.new ≡ without (is_of file block) self.old }
     {
         take_off(&mut self.entries, file, block);
     }
@@ -105,8 +106,8 @@ fn place_of(entries: &[Delayed], file: FileId, block: BlockNo) -> Option<usize>
 
 // Takes the block off the list. Where it was listed, the list then has room for one more.
 fn take_off(entries: &mut Vec<Delayed>, file: FileId, block: BlockNo)
-    requires { EachOnce entries.old.items }
-    ensures list { entries.new.items ≡ without entries.old.items file block }
+    requires { EachOnce same_block entries.old.items }
+    ensures list { entries.new.items ≡ without (is_of file block) entries.old.items }
     ensures room { IsTrue (listed entries.old.items file block) → vec_len entries.new < vec_capacity entries.new }
 {
     if let Some(at) = place_of(entries.as_slice(), file, block) {

@@ -1,5 +1,6 @@
 use Rattle.file_store.specs.Files.{is_of}
-use Rattle.file_store.proofs.FileLaws.{changed_any, made_there, none_left}
+use Rattle.sprite_ids.proofs.OnceLaws.{none_left}
+use Rattle.file_store.proofs.FileLaws.{changed_any, made_there}
 use Rattle.file_store.proofs.laws.files_are_there.Goals as goal
 
 pub returns : goal.returns

@@ -1,7 +1,7 @@
 use Rattle.std.proofs.Common.{sym, ap, ◌∙◌}
 use Rattle.std.specs.List.{position}
 use Rattle.kernel_rpc.specs.Machine.{is_call, tried}
-use Rattle.kernel_rpc.proofs.FirstLaws.{none_found, changed_here, unchanged}
+use Rattle.sprite_ids.proofs.OnceLaws.{none_found, changed_here, unchanged}
 use Rattle.kernel_rpc.proofs.calls.set_tried.Goals as goal
 
 pub returns-in-Some : goal.returns-in-Some

@@ -1,6 +1,6 @@
 use Rattle.std.proofs.Common.{sym, ap, ◌∙◌, Some}
 use Rattle.kernel_rpc.specs.Machine.{is_copy}
-use Rattle.kernel_rpc.proofs.FirstLaws.{none_found, found_there, nothing_found}
+use Rattle.sprite_ids.proofs.OnceLaws.{none_found, found_there, nothing_found}
 use Rattle.kernel_rpc.proofs.copies.find_copy.Goals as goal
 
 pub returns-in-Some : goal.returns-in-Some

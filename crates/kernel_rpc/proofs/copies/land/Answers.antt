@@ -1,7 +1,7 @@
 use Rattle.std.proofs.Common.{sym, ap, ◌∙◌}
 use Rattle.std.specs.List.{position}
 use Rattle.kernel_rpc.specs.Machine.{is_copy}
-use Rattle.kernel_rpc.proofs.FirstLaws.{none_found, dropped_here, undropped}
+use Rattle.sprite_ids.proofs.OnceLaws.{none_found, less_here, not_less}
 use Rattle.kernel_rpc.proofs.copies.land.Goals as goal
 
 pub returns-in-Some-clause-items : goal.returns-in-Some-clause-items
@@ -9,11 +9,11 @@ returns-in-Some-clause-items c =
     let p = is_copy c.args.number in
     let xs = c.args.copies.now.items in
     let place = ap (position p) (sym c.as_slice.ensures.value) ∙ sym c.place_of.ensures ∙ c.in-Some.is in
-    c.remove.ensures.items ∙ dropped_here p xs c.in-Some.at c.remove.result place
+    c.remove.ensures.items ∙ less_here p xs c.in-Some.at c.remove.result place
 
 pub returns-in_default-clause-items : goal.returns-in_default-clause-items
 returns-in_default-clause-items c =
     let p = is_copy c.args.number in
     let xs = c.args.copies.now.items in
     let place = ap (position p) (sym c.as_slice.ensures.value) ∙ sym c.place_of.ensures ∙ c.in_default.is in
-    sym (undropped p xs (none_found p xs place))
+    sym (not_less p xs (none_found p xs place))

@@ -2,7 +2,7 @@ use Rattle.std.proofs.Common.{sym, ap, ◌∙◌}
 use Rattle.std.specs.List.{position}
 use Rattle.kernel_rpc.specs.declared.call.Receiver.{Receiver}
 use Rattle.kernel_rpc.specs.Machine.{is_at}
-use Rattle.kernel_rpc.proofs.FirstLaws.{get_is, none_found, changed_here, unchanged}
+use Rattle.sprite_ids.proofs.OnceLaws.{get_is, none_found, changed_here, unchanged}
 use Rattle.kernel_rpc.proofs.receivers.set_part.Goals as goal
 
 pub returns-in-Some : goal.returns-in-Some

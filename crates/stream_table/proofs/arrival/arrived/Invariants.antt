@@ -1,5 +1,5 @@
 use Rattle.std.proofs.Common.{◌≡◌, drop, fold}
-use Rattle.stream_table.specs.Lists.{put}
+use Rattle.sprite_ids.specs.Lists.{put}
 use Rattle.stream_table.specs.Entries.{is_of}
 use Rattle.stream_table.specs.Streams.{arrived, merged}
 use Rattle.stream_table.proofs.arrival.arrived.Given as goal

@@ -1,6 +1,6 @@
 use Rattle.std.proofs.Common.{Some, sym, ap, ◌∙◌}
 use Rattle.stream_table.specs.Entries.{is_of}
-use Rattle.stream_table.proofs.ListLaws.{found_there, nothing_found, none_found}
+use Rattle.sprite_ids.proofs.OnceLaws.{found_there, nothing_found, none_found}
 use Rattle.stream_table.proofs.entries.entry_of.Goals as goal
 
 pub returns-in-Some : goal.returns-in-Some

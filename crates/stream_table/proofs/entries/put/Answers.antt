@@ -1,6 +1,6 @@
 use Rattle.std.proofs.Common.{position, sym, ap, ◌∙◌, true≢false}
 use Rattle.stream_table.specs.Entries.{is_of}
-use Rattle.stream_table.proofs.ListLaws.{put_here, put_last, none_found}
+use Rattle.sprite_ids.proofs.OnceLaws.{put_here, put_last, none_found}
 use Rattle.stream_table.proofs.entries.put.Goals as goal
 
 pub returns-in_err-extend_from_slice-in-None-clause-listed : goal.returns-in_err-extend_from_slice-in-None-clause-listed

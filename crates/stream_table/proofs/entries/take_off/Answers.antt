@@ -1,7 +1,7 @@
 use Rattle.std.proofs.Common.{None, position, sym, ap, ◌∙◌}
 use Rattle.stream_table.specs.declared.entries.Entry.{Entry}
 use Rattle.stream_table.specs.Entries.{is_of}
-use Rattle.stream_table.proofs.ListLaws.{taken, none_taken, none_found, at_most_one}
+use Rattle.sprite_ids.proofs.OnceLaws.{taken, none_taken, none_found, at_most_one}
 use Rattle.stream_table.proofs.EntryLaws.{entries_same}
 use Rattle.stream_table.proofs.entries.take_off.Goals as goal
 

@@ -1,6 +1,6 @@
 use Rattle.std.proofs.Common.{position, sym, ap, ◌∙◌, true≢false}
 use Rattle.stream_table.specs.Owners.{is_owner}
-use Rattle.stream_table.proofs.ListLaws.{taken, none_found, at_most_one}
+use Rattle.sprite_ids.proofs.OnceLaws.{taken, none_found, at_most_one}
 use Rattle.stream_table.proofs.OwnerLaws.{owners_same, kept_none}
 use Rattle.stream_table.proofs.owners.keep.Goals as goal
 

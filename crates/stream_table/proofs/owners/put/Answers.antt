@@ -1,6 +1,6 @@
 use Rattle.std.proofs.Common.{position, sym, ap, ◌∙◌, arith}
 use Rattle.stream_table.specs.Owners.{is_owner}
-use Rattle.stream_table.proofs.ListLaws.{put_here, put_last, none_found}
+use Rattle.sprite_ids.proofs.OnceLaws.{put_here, put_last, none_found}
 use Rattle.stream_table.proofs.owners.put.Goals as goal
 
 pub unreachable-requires : goal.unreachable-requires

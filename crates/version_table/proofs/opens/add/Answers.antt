@@ -1,8 +1,8 @@
 use Rattle.std.proofs.Common.{ℕ, ◌+◌, sym, ap, ◌∙◌, arith}
 use Rattle.version_table.specs.declared.opens.Open.{Open}
-use Rattle.version_table.specs.Lists.{put}
+use Rattle.sprite_ids.specs.Lists.{put}
 use Rattle.version_table.specs.Opens.{is_at}
-use Rattle.version_table.proofs.ListLaws.{put_here}
+use Rattle.sprite_ids.proofs.OnceLaws.{put_here}
 use Rattle.version_table.proofs.OpenLaws.{count_few, put_end}
 use Rattle.version_table.proofs.opens.add.Goals as goal
 

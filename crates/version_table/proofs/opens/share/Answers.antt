@@ -1,6 +1,6 @@
 use Rattle.std.proofs.Common.{sym, ◌∙◌}
 use Rattle.version_table.specs.Opens.{is_stream}
-use Rattle.version_table.proofs.ListLaws.{put_here}
+use Rattle.sprite_ids.proofs.OnceLaws.{put_here}
 use Rattle.version_table.proofs.OpenLaws.{put_end}
 use Rattle.version_table.proofs.opens.share.Goals as goal
 

@@ -1,6 +1,7 @@
 use Rattle.std.proofs.Common.{sym, ◌∙◌}
 use Rattle.version_table.specs.Opens.{is_stream}
-use Rattle.version_table.proofs.OpenLaws.{less_here, less_none}
+use Rattle.sprite_ids.proofs.OnceLaws.{less_here}
+use Rattle.version_table.proofs.OpenLaws.{less_none}
 use Rattle.version_table.proofs.opens.take_out.Goals as goal
 
 pub returns-in-Some : goal.returns-in-Some

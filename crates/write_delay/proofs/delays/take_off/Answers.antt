@@ -1,6 +1,7 @@
 use Rattle.std.proofs.Common.{sym, ap, ◌∙◌, rules, tests, position}
 use Rattle.write_delay.specs.Delays.{is_of}
-use Rattle.write_delay.proofs.DelayLaws.{taken, none_taken, none_found, at_most_one}
+use Rattle.sprite_ids.proofs.OnceLaws.{taken, none_taken, none_found}
+use Rattle.write_delay.proofs.DelayLaws.{one_entry}
 use Rattle.write_delay.proofs.delays.take_off.Goals as goal
 
 pub returns-in-Some-clause-list : goal.returns-in-Some-clause-list
@@ -8,7 +9,7 @@ returns-in-Some-clause-list c =
     let p = is_of c.args.file c.args.block in
     let xs = c.args.entries.now.items in
     let found = ap (position p) (sym c.as_slice.ensures.value) ∙ sym c.place_of.ensures ∙ c.in-Some.is in
-    c.remove.ensures.items ∙ taken p xs c.in-Some.at c.remove.result (at_most_one c.args.file c.args.block xs c.requires) found
+    c.remove.ensures.items ∙ taken p xs c.in-Some.at c.remove.result (one_entry c.args.file c.args.block xs c.requires) found
 
 pub returns-in_default-clause-list : goal.returns-in_default-clause-list
 returns-in_default-clause-list c =

@@ -1,8 +1,10 @@
 use Rattle.std.proofs.Common.{ℕ, List, Some, sym, refl, ap, subst, ◌∙◌, slice_set}
 use Rattle.std.specs.List.{position}
 use Rattle.shadow_streams.specs.declared.shadow.Shadow.{Shadow}
-use Rattle.shadow_streams.specs.Shadows.{is_of, is_last, are_none, lowered, EachOnce}
-use Rattle.shadow_streams.proofs.ShadowLaws.{taken, none_taken, none_found, nothing_found, found_there, at_most_one, without_once, changed_here, changed_once, closes, lowers}
+use Rattle.shadow_streams.specs.Shadows.{is_of, is_last, are_none, lowered, same_stream}
+use Rattle.sprite_ids.specs.Lists.{EachOnce}
+use Rattle.sprite_ids.proofs.OnceLaws.{taken, none_taken, none_found, nothing_found, found_there, changed_here}
+use Rattle.shadow_streams.proofs.ShadowLaws.{without_once, changed_once, closes, lowers, one_entry}
 use Rattle.shadow_streams.proofs.shadows.Shadows.close.Goals as goal
 
 pub returns-in_default-clause-shadows : goal.returns-in_default-clause-shadows
@@ -28,8 +30,8 @@ invariant_of-self c =
     let p = is_of c.args.stream in
     let xs = c.self.inside.shadows.items in
     let place = ap (position p) (sym c.as_slice.ensures.value) ∙ sym c.place_of.ensures ∙ c.in-Some.is in
-    let gone = c.remove.ensures.items ∙ taken p xs c.in-Some.at c.remove.result (at_most_one c.args.stream xs c.self.invariant) place in
-    subst EachOnce (sym gone) (without_once c.args.stream xs c.self.invariant)
+    let gone = c.remove.ensures.items ∙ taken p xs c.in-Some.at c.remove.result (one_entry c.args.stream xs c.self.invariant) place in
+    subst (EachOnce same_stream) (sym gone) (without_once c.args.stream xs c.self.invariant)
 
 pub returns-then-are_none-clause-shadows : goal.returns-then-are_none-clause-shadows
 returns-then-are_none-clause-shadows c =
@@ -38,7 +40,7 @@ returns-then-are_none-clause-shadows c =
     let place = ap (position p) (sym c.as_slice.ensures.value) ∙ sym c.place_of.ensures ∙ c.in-Some.is in
     let found = found_there p xs c.in-Some.at c.index.result.now place ∙ ap Some (sym c.index.ensures) in
     let left = ap (is_last c.args.kernel c.args.grants) found ∙ ap are_none (sym c.lower.ensures) ∙ sym c.are_none.ensures ∙ c.if-are_none.true in
-    let gone = c.remove.ensures.items ∙ taken p xs c.in-Some.at c.remove.result (at_most_one c.args.stream xs c.self.invariant) place in
+    let gone = c.remove.ensures.items ∙ taken p xs c.in-Some.at c.remove.result (one_entry c.args.stream xs c.self.invariant) place in
     rw (← c.self.view_is) (gone ∙ sym (closes xs c.args.stream c.args.kernel c.args.grants left))
 
 pub returns-then-are_none-clause-closed : goal.returns-then-are_none-clause-closed
@@ -57,8 +59,8 @@ invariant_of-self-2 c =
     let place = ap (position p) (sym c.as_slice.ensures.value) ∙ sym c.place_of.ensures ∙ c.in-Some.is in
     let f : Shadow → Shadow = λ shadow. record shadow { grants = lowered c.args.kernel c.args.grants shadow.grants } in
     let new : List ℕ → Shadow = λ grants. record { stream = c.index.result.now.stream; offset = c.index.result.now.offset; grants = grants } in
-    let there = ap (λ grants. slice_set xs c.in-Some.at (new grants)) c.lower.ensures ∙ changed_here f c.args.stream xs c.in-Some.at c.index.result.now place c.index.ensures in
-    subst EachOnce (sym there) (changed_once f (λ s. refl) c.args.stream xs c.self.invariant)
+    let there = ap (λ grants. slice_set xs c.in-Some.at (new grants)) c.lower.ensures ∙ changed_here (is_of c.args.stream) f xs c.in-Some.at c.index.result.now place c.index.ensures in
+    subst (EachOnce same_stream) (sym there) (changed_once f (λ s. refl) c.args.stream xs c.self.invariant)
 
 pub returns-clause-shadows : goal.returns-clause-shadows
 returns-clause-shadows c =
@@ -69,7 +71,7 @@ returns-clause-shadows c =
     let left = ap (is_last c.args.kernel c.args.grants) found ∙ ap are_none (sym c.lower.ensures) ∙ sym c.are_none.ensures ∙ c.if-are_none.false in
     let f : Shadow → Shadow = λ shadow. record shadow { grants = lowered c.args.kernel c.args.grants shadow.grants } in
     let new : List ℕ → Shadow = λ grants. record { stream = c.index.result.now.stream; offset = c.index.result.now.offset; grants = grants } in
-    let there = ap (λ grants. slice_set xs c.in-Some.at (new grants)) c.lower.ensures ∙ changed_here f c.args.stream xs c.in-Some.at c.index.result.now place c.index.ensures in
+    let there = ap (λ grants. slice_set xs c.in-Some.at (new grants)) c.lower.ensures ∙ changed_here (is_of c.args.stream) f xs c.in-Some.at c.index.result.now place c.index.ensures in
     rw (← c.self.view_is) (there ∙ sym (lowers xs c.args.stream c.args.kernel c.args.grants left))
 
 pub returns-clause-closed : goal.returns-clause-closed

@@ -2,7 +2,7 @@ use Rattle.std.proofs.Common.{Some, sym, ap, ◌∙◌, option_map}
 use Rattle.std.specs.List.{position}
 use Rattle.shadow_streams.specs.declared.shadow.Shadow.{Shadow}
 use Rattle.shadow_streams.specs.Shadows.{is_of}
-use Rattle.shadow_streams.proofs.ShadowLaws.{none_found, nothing_found, found_there}
+use Rattle.sprite_ids.proofs.OnceLaws.{none_found, nothing_found, found_there}
 use Rattle.shadow_streams.proofs.shadows.Shadows.offset.Goals as goal
 
 pub returns-in-Some : goal.returns-in-Some

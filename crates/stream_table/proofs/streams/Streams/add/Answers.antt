@@ -1,6 +1,6 @@
 use Rattle.std.proofs.Common.{Some, ℕ, List, Option, sym, ap, subst, ◌∙◌, position, slice_set}
 use Rattle.sprite_ids.specs.declared.StreamNo.{StreamNo}
-use Rattle.stream_table.specs.Lists.{put}
+use Rattle.sprite_ids.specs.Lists.{put}
 use Rattle.stream_table.specs.Owners.{is_owner, is_free, numbers_of}
 use Rattle.stream_table.specs.Entries.{is_of, holder_of}
 use Rattle.stream_table.specs.Streams.{IsTable, with_descriptor}

@@ -1,6 +1,6 @@
 use Rattle.std.proofs.Common.{Some, List, Option, sym, ap, subst, ◌∙◌, position, slice_set, true≢false}
 use Rattle.sprite_ids.specs.declared.StreamNo.{StreamNo}
-use Rattle.stream_table.specs.Lists.{put}
+use Rattle.sprite_ids.specs.Lists.{put}
 use Rattle.stream_table.specs.Owners.{is_owner, is_free, numbers_of, descriptor}
 use Rattle.stream_table.specs.Streams.{Table, IsTable}
 use Rattle.stream_table.proofs.ReferLaws.{owner, descriptor_known}

@@ -1,6 +1,6 @@
 use Rattle.std.proofs.Common.{Some, Option, sym, ap, subst, ◌∙◌, true≢false}
 use Rattle.stream_table.specs.declared.stream.Stream.{Stream}
-use Rattle.stream_table.specs.Lists.{put}
+use Rattle.sprite_ids.specs.Lists.{put}
 use Rattle.stream_table.specs.Owners.{is_referred}
 use Rattle.stream_table.specs.Entries.{is_of, stream_of}
 use Rattle.stream_table.specs.Streams.{Table, IsTable}

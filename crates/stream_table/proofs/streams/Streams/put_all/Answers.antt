@@ -1,6 +1,6 @@
 use Rattle.std.proofs.Common.{List, Option, sym, ap, subst, ◌∙◌}
 use Rattle.sprite_ids.specs.declared.StreamNo.{StreamNo}
-use Rattle.stream_table.specs.Lists.{put}
+use Rattle.sprite_ids.specs.Lists.{put}
 use Rattle.stream_table.specs.Owners.{is_owner, is_used, numbers_of}
 use Rattle.stream_table.specs.Streams.{Table, IsTable, arrived, with_arrived}
 use Rattle.stream_table.proofs.ReferLaws.{owner}

@@ -1,6 +1,6 @@
 use Rattle.std.proofs.Common.{Some, Option, ℕ, sym, ap, subst, ◌∙◌}
 use Rattle.stream_table.specs.declared.stream.Stream.{Stream}
-use Rattle.stream_table.specs.Lists.{put}
+use Rattle.sprite_ids.specs.Lists.{put}
 use Rattle.stream_table.specs.Entries.{is_of, stream_of, holder_of, may_be_at}
 use Rattle.stream_table.specs.Streams.{Table, IsTable}
 use Rattle.stream_table.proofs.FoundLaws.{entry, listed_stream}

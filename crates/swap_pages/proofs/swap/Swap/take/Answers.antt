@@ -1,8 +1,10 @@
 use Rattle.std.proofs.Common.{sym, ap, subst, ◌∙◌, option_map, Some}
 use Rattle.std.specs.List.{position}
 use Rattle.swap_pages.specs.declared.swap.Kept.{Kept}
-use Rattle.swap_pages.specs.Swap.{is_of, EachOnce}
-use Rattle.swap_pages.proofs.SwapLaws.{taken, none_taken, none_found, nothing_found, found_there, at_most_one, without_once}
+use Rattle.swap_pages.specs.Swap.{is_of, same_page}
+use Rattle.sprite_ids.specs.Lists.{EachOnce}
+use Rattle.sprite_ids.proofs.OnceLaws.{taken, none_taken, none_found, nothing_found, found_there}
+use Rattle.swap_pages.proofs.SwapLaws.{one_page, without_once}
 use Rattle.swap_pages.proofs.swap.Swap.take.Goals as goal
 
 pub invariant_of-self : goal.invariant_of-self
@@ -10,8 +12,8 @@ invariant_of-self c =
     let p = is_of c.args.pid c.args.page in
     let xs = c.self.inside.pages.items in
     let found = ap (position p) (sym c.as_slice.ensures.value) ∙ sym c.place_of.ensures ∙ c.in-Some.is in
-    let left = c.remove-kept.ensures.items ∙ taken p xs c.in-Some.at c.remove-kept.result (at_most_one c.args.pid c.args.page xs c.self.invariant) found in
-    subst EachOnce (sym left) (without_once c.args.pid c.args.page xs c.self.invariant)
+    let left = c.remove-kept.ensures.items ∙ taken p xs c.in-Some.at c.remove-kept.result (one_page c.args.pid c.args.page xs c.self.invariant) found in
+    subst (EachOnce same_page) (sym left) (without_once c.args.pid c.args.page xs c.self.invariant)
 
 pub returns-in-Some-clause-bytes : goal.returns-in-Some-clause-bytes
 returns-in-Some-clause-bytes c =
@@ -26,7 +28,7 @@ returns-in-Some-clause-pages c =
     let p = is_of c.args.pid c.args.page in
     let xs = c.self.inside.pages.items in
     let found = ap (position p) (sym c.as_slice.ensures.value) ∙ sym c.place_of.ensures ∙ c.in-Some.is in
-    rw (← c.self.view_is) (c.remove-kept.ensures.items ∙ taken p xs c.in-Some.at c.remove-kept.result (at_most_one c.args.pid c.args.page xs c.self.invariant) found)
+    rw (← c.self.view_is) (c.remove-kept.ensures.items ∙ taken p xs c.in-Some.at c.remove-kept.result (one_page c.args.pid c.args.page xs c.self.invariant) found)
 
 pub returns-in-None-clause-bytes : goal.returns-in-None-clause-bytes
 returns-in-None-clause-bytes c =

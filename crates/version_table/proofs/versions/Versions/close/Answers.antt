@@ -1,8 +1,9 @@
 use Rattle.std.proofs.Common.{sym, ap, subst, ◌∙◌}
 use Rattle.std.specs.List.{position}
-use Rattle.version_table.specs.Files.{is_busy, IsReady, is_closed}
+use Rattle.version_table.specs.Files.{is_busy, is_closed}
+use Rattle.version_table.specs.Coherence.{IsKept}
 use Rattle.version_table.specs.Versions.{is_of, file_of, Table}
-use Rattle.version_table.proofs.FileLaws.{file_there, file_absent, changed_kept, closed_ready, closed_there, closed_absent}
+use Rattle.version_table.proofs.FileLaws.{file_there, file_absent, changed_kept, kept_there, closed_kept, closed_there, closed_absent}
 use Rattle.version_table.proofs.versions.Versions.close.Goals as goal
 
 pub invariant_of-self : goal.invariant_of-self
@@ -13,8 +14,8 @@ invariant_of-self c =
     let place = ap (position (is_of c.args.file)) (sym c.as_slice.ensures.value) ∙ sym c.place_of.ensures ∙ c.in-Some.is in
     let is = c.index_mut.ensures.value in
     let here = ap (λ (t : Table). file_of t.files c.args.file) (sym c.self.view_is) ∙ file_there xs c.args.file at d place is in
-    let ready = subst IsReady (sym c.close.ensures.file) (closed_ready d c.args.kernel c.args.stream c.args.grants (sym (ap is_busy here) ∙ c.requires)) in
-    changed_kept xs c.args.file at d c.close.new.self place is (ap (λ v. v.file) c.close.ensures.file) ready c.self.invariant
+    let kept = subst IsKept (sym c.close.ensures.file) (closed_kept d c.args.kernel c.args.stream c.args.grants (sym (ap is_busy here) ∙ c.requires) (kept_there xs c.args.file at d place is c.self.invariant.1)) in
+    changed_kept xs c.args.file at d c.close.new.self place is (ap (λ v. v.file) c.close.ensures.file) kept c.self.invariant
 
 pub returns-in-Some-clause-table : goal.returns-in-Some-clause-table
 returns-in-Some-clause-table c =

@@ -1,7 +1,7 @@
 use Rattle.std.proofs.Common.{sym, ap, ◌∙◌}
 use Rattle.std.specs.List.{position}
-use Rattle.version_table.specs.Files.{fresh}
-use Rattle.version_table.specs.Versions.{is_of}
+use Rattle.version_table.specs.Files.{fresh, is_busy}
+use Rattle.version_table.specs.Versions.{is_of, file_of, Table}
 use Rattle.version_table.proofs.FileLaws.{file_there, file_absent}
 use Rattle.version_table.proofs.versions.Versions.decide.Goals as goal
 use Rattle.version_table.proofs.ReadyLaws.{decided_kept, decided_table, decided_answer, roomy_there, first_kept, first_table}
@@ -19,7 +19,8 @@ invariant_of-self c =
     let d = c.index_mut.result.now in
     let place = ap (position (is_of c.args.file)) (sym c.as_slice.ensures.value) ∙ sym c.place_of.ensures ∙ c.in-Some.is in
     let is = c.index_mut.ensures.value in
-    decided_kept c.decide.result c.self.inside.cached xs c.args.file at d c.decide.new.self c.args.action c.decide.ensures.ok c.decide.ensures.err place is (roomy_there c.args.self.now c.self.inside.cached xs c.args.file at d c.self.view_is c.requires.room place is) c.self.invariant
+    let here = ap (λ (t : Table). file_of t.files c.args.file) (sym c.self.view_is) ∙ file_there xs c.args.file at d place is in
+    decided_kept c.decide.result c.self.inside.cached xs c.args.file at d c.decide.new.self c.args.action c.decide.ensures.ok c.decide.ensures.err place is (roomy_there c.args.self.now c.self.inside.cached xs c.args.file at d c.self.view_is c.requires.room place is) (sym (ap is_busy here) ∙ c.requires.free) c.self.invariant
 
 pub invariant_of-self-in-None : goal.invariant_of-self-in-None
 invariant_of-self-in-None c =

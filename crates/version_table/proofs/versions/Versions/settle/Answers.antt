@@ -1,8 +1,9 @@
 use Rattle.std.proofs.Common.{sym, ap, subst, ◌∙◌, true≢false}
 use Rattle.std.specs.List.{position}
 use Rattle.version_table.specs.Files.{is_busy, IsReady, settled, settled_grant}
+use Rattle.version_table.specs.Coherence.{IsKept}
 use Rattle.version_table.specs.Versions.{is_of, file_of, Table}
-use Rattle.version_table.proofs.FileLaws.{file_there, file_absent, file_changed, changed_kept, ready_there, settled_file, settled_ready}
+use Rattle.version_table.proofs.FileLaws.{file_there, file_absent, file_changed, changed_kept, kept_there, settled_file, settled_kept}
 use Rattle.version_table.proofs.versions.Versions.settle.Goals as goal
 
 pub settle-requires-clause-busy : goal.settle-requires-clause-busy
@@ -22,7 +23,7 @@ settle-requires-clause-ready c =
     let d = c.index_mut.result.now in
     let place = ap (position (is_of c.args.file)) (sym c.as_slice.ensures.value) ∙ sym c.place_of.ensures ∙ c.in-Some.is in
     let is = c.index_mut.ensures.value in
-    ready_there xs c.args.file at d place is c.self.invariant.1
+    (kept_there xs c.args.file at d place is c.self.invariant.1).ready
 
 pub invariant_of-self : goal.invariant_of-self
 invariant_of-self c =
@@ -31,8 +32,8 @@ invariant_of-self c =
     let d = c.index_mut.result.now in
     let place = ap (position (is_of c.args.file)) (sym c.as_slice.ensures.value) ∙ sym c.place_of.ensures ∙ c.in-Some.is in
     let is = c.index_mut.ensures.value in
-    let ready = subst IsReady (sym c.settle.ensures.file) (settled_ready d (ready_there xs c.args.file at d place is c.self.invariant.1)) in
-    changed_kept xs c.args.file at d c.settle.new.self place is (ap (λ v. v.file) c.settle.ensures.file ∙ settled_file d) ready c.self.invariant
+    let kept = subst IsKept (sym c.settle.ensures.file) (settled_kept d (kept_there xs c.args.file at d place is c.self.invariant.1)) in
+    changed_kept xs c.args.file at d c.settle.new.self place is (ap (λ v. v.file) c.settle.ensures.file ∙ settled_file d) kept c.self.invariant
 
 pub unreachable-requires : goal.unreachable-requires
 unreachable-requires c =
@@ -49,7 +50,7 @@ returns-clause-ready c =
     let place = ap (position (is_of c.args.file)) (sym c.as_slice.ensures.value) ∙ sym c.place_of.ensures ∙ c.in-Some.is in
     let is = c.index_mut.ensures.value in
     let here = ap (λ (t : Table). file_of t.files c.args.file) (sym c.self.view_is) ∙ file_there xs c.args.file at d place is in
-    subst IsReady (sym here) (ready_there xs c.args.file at d place is c.self.invariant.1)
+    subst IsReady (sym here) (kept_there xs c.args.file at d place is c.self.invariant.1).ready
 
 pub returns-clause-table : goal.returns-clause-table
 returns-clause-table c =

@@ -2,7 +2,8 @@ use Rattle.std.proofs.Common.{◌≡◌, sym, ap, subst, ◌∙◌, arith, false
 use Rattle.std.specs.List.{insert}
 use Rattle.write_delay.specs.declared.delays.Delayed.{Delayed}
 use Rattle.write_delay.specs.Delays.{is_of, listed, placed, AreDelays, InOrder}
-use Rattle.write_delay.proofs.DelayLaws.{none_taken, without_is, dirtied_is, placed_at, not_true}
+use Rattle.sprite_ids.proofs.OnceLaws.{none_taken}
+use Rattle.write_delay.proofs.DelayLaws.{without_is, dirtied_is, placed_at, not_true}
 use Rattle.write_delay.proofs.delays.Delays.dirtied.Goals as goal
 
 pub place_for-at-requires : goal.place_for-at-requires
