@@ -1,0 +1,22 @@
+//! One client kernel's cache of file blocks (Nelson, Welch and Ousterhout 1988): what it holds of each file, under the
+//! grants and callbacks of the file's server, and the blocks of all files in one order of use.
+#![tactic(auto)]
+
+mod block;
+mod block_bytes;
+mod blocks;
+mod cache;
+mod file_state;
+mod filled;
+mod key;
+mod span;
+
+pub use block::Block;
+pub use block_bytes::BlockBytes;
+pub use cache::Cache;
+pub use file_state::FileState;
+pub use filled::Filled;
+pub use key::BlockKey;
+
+#[cfg(test)]
+mod tests;
