@@ -8,13 +8,9 @@ use Rattle.sprite_ids.specs.declared.FileId.{FileId}
 use Rattle.block_cache.specs.declared.key.BlockKey.{BlockKey}
 use Rattle.block_cache.specs.declared.block.Block.{Block}
 use Rattle.block_cache.specs.Files.{is_file}
-use Rattle.block_cache.specs.Blocks.{Blocks, is_at, without, dropped_under}
+use Rattle.block_cache.specs.Blocks.{Blocks, is_at, is_key, without, dropped_under}
 use Rattle.block_cache.specs.Held.{IsReached}
 use Rattle.block_cache.proofs.KeyLaws.{one_block, same_file}
-
--- whether two keys are one
-abbrev pub is_key : BlockKey → BlockKey → Bool
-is_key key other = is_at key.file key.block.0 other
 
 -- whether it is no block of the file under that one
 abbrev stays : FileId → ℕ → BlockKey × Block → Bool

@@ -1,8 +1,8 @@
 -- The blocks of all files that a client holds, the most recently used first.
 use Rattle.std.specs.Prelude.{ℕ, zero, suc, ◌+◌, ◌-◌, ◌*◌, ◌==◌, nat_le, Bool, true, ◌&&◌, not, is_some, if◌then◌else◌, List, [], ◌∷◌, ◌++◌, map, Option, Some, None}
-use Rattle.std.specs.List.{filter}
+use Rattle.std.specs.List.{IsDistinct, filter}
 use Rattle.std.specs.Option.{option_or}
-use Rattle.std.specs.Map.{lookup, remove_entry, set_value}
+use Rattle.std.specs.Map.{keys_of, lookup, remove_entry, set_value}
 use Rattle.sprite_ids.specs.declared.FileId.{FileId}
 use Rattle.sprite_ids.specs.declared.BlockNo.{BlockNo}
 use Rattle.lru.specs.LruCache.{promoted}
@@ -18,6 +18,14 @@ Blocks = List (BlockKey × Block)
 -- whether it is that block of that file
 abbrev pub is_at : FileId → ℕ → BlockKey → Bool
 is_at file number key = is_file file key.file && (number == key.block.0)
+
+-- whether two keys are one
+abbrev pub is_key : BlockKey → BlockKey → Bool
+is_key key other = is_at key.file key.block.0 other
+
+-- no block is held twice
+abbrev pub AreOnce : Blocks → Type 0
+AreOnce blocks = IsDistinct is_key (keys_of blocks)
 
 -- a block that is held
 abbrev pub block_at : Blocks → FileId → ℕ → Option Block

@@ -1,6 +1,7 @@
 ghost use Rattle.std.specs.Prelude.{◌≡◌, ◌≤◌, ◌+◌, IfOk, length};
 ghost use Rattle.block_cache.specs.Ranges.{over, padded};
 
+use crate::span::BLOCK;
 use sprite_ids::NoMemory;
 use std::alloc::Global;
 use std::marker::Model;
@@ -28,7 +29,7 @@ impl BlockBytes {
         ensures { IfOk result (λ block. block ≡ padded bytes.now) }
     {
         let mut items = Vec::from_slice(alloc, bytes)?;
-        items.resize(4096, 0)?;
+        items.resize(BLOCK as usize, 0)?;
         Ok(BlockBytes { items })
     }
 

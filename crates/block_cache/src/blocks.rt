@@ -8,7 +8,8 @@ ghost use Rattle.block_cache.specs.Ranges.{file_blocks, part, piece, cut};
 use crate::block::Block;
 use crate::block_bytes::BlockBytes;
 use crate::key::BlockKey;
-use crate::span::{BLOCK, Span};
+use crate::parts::{cut, part, piece, start_of};
+use crate::span::Span;
 use lru::LruCache;
 use sprite_ids::{BlockNo, Bytes, FileId, Items, NoMemory};
 use std::alloc::Global;
@@ -182,7 +183,7 @@ pub(crate) fn missing(
     file: &FileId,
     span: &Span,
 ) -> Option<BlockNo>
-    requires { span.now.first + span.now.count ≤ 1025 }
+    requires { span.now.first + span.now.count ≤ 1024 }
     ensures { result ≡ missing_of blocks.now.entries file.now span.now.first span.now.count }
 {
     for place in 0..span.count {
@@ -203,7 +204,7 @@ pub(crate) fn read(
     end: u32,
     span: &Span,
 ) -> Result<Vec<u8>, NoMemory>
-    requires { span.now.first + span.now.count ≤ 1025 }
+    requires { span.now.first + span.now.count ≤ 1024 }
     ensures { IfOk result (λ bytes. bytes.items ≡ parts blocks.now.entries file.now from end span.now.first span.now.count) }
 {
     let mut bytes = Vec::new(alloc);
@@ -232,7 +233,7 @@ fn append(
 
 // Uses the span's blocks, in ascending order.
 pub(crate) fn use_all(blocks: &mut LruCache<BlockKey, Block>, file: &FileId, span: &Span)
-    requires { span.now.first + span.now.count ≤ 1025 }
+    requires { span.now.first + span.now.count ≤ 1024 }
     ensures { blocks.new ≡ lru_cache (used blocks.old.entries file.now span.now.first span.now.count) blocks.old.cap }
 {
     for place in 0..span.count {
@@ -256,7 +257,7 @@ pub(crate) fn write(
     last: u64,
     span: &Span,
 )
-    requires span { span.now.first + span.now.count ≤ 1025 }
+    requires span { span.now.first + span.now.count ≤ 1024 }
     requires touches { from ≤ 4096 * span.now.first + 4096 }
     requires last { last ≤ 2000000000 }
     ensures { blocks.new ≡ lru_cache (written blocks.old.entries file.now from bytes.now last span.now.first span.now.count) blocks.old.cap }
@@ -284,130 +285,4 @@ fn write_one(
         held.bytes.write(at, piece(bytes, key.block, from));
         held.dirty = Some(number);
     }
-}
-
-// The least recently used dirty block of the file, or of all, with its number.
-pub(crate) fn oldest_dirty(
-    blocks: &LruCache<BlockKey, Block>,
-    file: &Option<FileId>,
-) -> Option<(FileId, BlockNo, u64)>
-    ensures { result ≡ named_of (oldest (is_dirty_of file.now) blocks.now.entries) }
-{
-    for (key, block) in blocks.iter().rev() {
-        if is_dirty_of(file, key, block) {
-            return named(key, block);
-        }
-    }
-    None
-}
-
-// The least recently used clean block outside these of the file.
-pub(crate) fn oldest_clean(
-    blocks: &LruCache<BlockKey, Block>,
-    file: &FileId,
-    first: BlockNo,
-    last: BlockNo,
-) -> Option<BlockKey>
-    ensures { result ≡ option_map (λ entry. entry.0) (oldest (is_clean_outside file.now first last) blocks.now.entries) }
-{
-    for (key, block) in blocks.iter().rev() {
-        if is_clean_outside(file, first, last, key, block) {
-            return Some(key.copied());
-        }
-    }
-    None
-}
-
-// Whether it is a dirty block of the file, or of any.
-fn is_dirty_of(file: &Option<FileId>, key: &BlockKey, block: &Block) -> bool
-    ensures { result ≡ is_dirty_of file.now (key.now, block.now) }
-{
-    is_of(file, key) && block.dirty.is_some()
-}
-
-// Whether the block is one of the file, or of any.
-fn is_of(file: &Option<FileId>, key: &BlockKey) -> bool
-    ensures { result ≡ is_of file.now key.now }
-{
-    match file {
-        Some(file) => key.file == *file,
-        None => true,
-    }
-}
-
-// What the block is written back by, where it is dirty.
-fn named(key: &BlockKey, block: &Block) -> Option<(FileId, BlockNo, u64)>
-    ensures { result ≡ named (key.now, block.now) block.now.dirty }
-{
-    match block.dirty {
-        Some(number) => Some((key.file, key.block, number)),
-        None => None,
-    }
-}
-
-// Whether it is a clean block outside these of the file.
-fn is_clean_outside(
-    file: &FileId,
-    first: BlockNo,
-    last: BlockNo,
-    key: &BlockKey,
-    block: &Block,
-) -> bool
-    ensures { result ≡ is_clean_outside file.now first last (key.now, block.now) }
-{
-    block.dirty.is_none() && !is_within(file, first, last, key)
-}
-
-// Whether it is one of these blocks of the file.
-fn is_within(file: &FileId, first: BlockNo, last: BlockNo, key: &BlockKey) -> bool
-    ensures { result ≡ is_within file.now first last key.now }
-{
-    key.file == *file && first.0 <= key.block.0 && key.block.0 <= last.0
-}
-
-// Where the byte at the block's begin stands in its file.
-fn start_of(block: BlockNo) -> u32
-    ensures { result ≡ 4096 * block.0 }
-{
-    u32::from(block.0) * BLOCK
-}
-
-// The bytes of a block that stand before the file's size.
-fn cut(bytes: &[u8], block: BlockNo, size: u32) -> &[u8]
-    ensures { result.now ≡ cut bytes.now block.0 size }
-{
-    let (cut, _) = bytes.split_at(
-        bytes
-            .len()
-            .min(size.saturating_sub(start_of(block)) as usize),
-    );
-    cut
-}
-
-// The bytes of a block that stand in the range.
-fn part(bytes: &[u8], block: BlockNo, from: u32, end: u32) -> &[u8]
-    ensures { result.now ≡ part bytes.now block.0 from end }
-{
-    let (head, _) = bytes.split_at(
-        bytes
-            .len()
-            .min(end.saturating_sub(start_of(block)) as usize),
-    );
-    let (_, part) = head.split_at(
-        head.len()
-            .min(from.saturating_sub(start_of(block)) as usize),
-    );
-    part
-}
-
-// Those of the bytes from there on that stand in the block.
-fn piece(bytes: &[u8], block: BlockNo, from: u32) -> &[u8]
-    requires { block.0 ≤ 1024 }
-    ensures { result.now ≡ piece bytes.now block.0 from }
-{
-    let start = start_of(block);
-    let room = (start + BLOCK).saturating_sub(from) as usize;
-    let (head, _) = bytes.split_at(bytes.len().min(room));
-    let (_, piece) = head.split_at(head.len().min(start.saturating_sub(from) as usize));
-    piece
 }

@@ -3,15 +3,15 @@ ghost use Rattle.std.specs.List.{list_all};
 ghost use Rattle.indexmap.specs.IndexMap.{values};
 ghost use Rattle.block_cache.specs.Files.{is_low, grown, known, state_of, with_state};
 ghost use Rattle.block_cache.specs.Ranges.{cut, file_blocks};
-ghost use Rattle.block_cache.specs.Blocks.{is_held, dirty_at, bytes_at, held_under, dirty_under};
+ghost use Rattle.block_cache.specs.Blocks.{AreOnce, is_held, dirty_at, bytes_at, held_under, dirty_under};
 ghost use Rattle.block_cache.specs.Held.{IsSound, has_room, is_full, is_newer, after_grant, after_callback, flushed_of, missing, fill_answer, after_fill, read_of, after_read, after_write, write_back_next, is_written_back, after_write_back, oldest_clean, after_drop};
 
 use crate::block::Block;
-use crate::blocks;
 use crate::file_state::FileState;
 use crate::filled::Filled;
 use crate::key::BlockKey;
 use crate::span::Span;
+use crate::{blocks, oldest};
 use indexmap::IndexMap;
 use lru::LruCache;
 use sprite_ids::{BlockNo, CallKind, FileId, Flushed, Grant, NoMemory};
@@ -24,7 +24,7 @@ const COUNTER: u64 = 2_000_000_000;
 
 /// What one client kernel holds of files. Contracts see how many blocks there may be, what is known of each file, the
 /// blocks, the most recently used first, and the dirty number that was given last.
-#[derive(Drop)]
+#[derive(Debug, Drop)]
 pub struct Cache {
     alloc: Global,
     size: u16,
@@ -221,7 +221,7 @@ impl Cache {
     pub fn write_back_next(&self, file: Option<FileId>) -> Option<(FileId, BlockNo, u64)>
         ensures { result ≡ write_back_next self.now file }
     {
-        blocks::oldest_dirty(&self.blocks, &file)
+        oldest::oldest_dirty(&self.blocks, &file)
     }
 
     /// Takes the answer to a write-back of the block, which was sent under that stamp with that dirty number. True comes
@@ -256,14 +256,15 @@ impl Cache {
         ensures answer { result ≡ option_map (λ entry. (entry.0.file, entry.0.block)) (oldest_clean self.old file first last) }
         ensures blocks { self.new ≡ after_drop self.old file first last }
     {
-        let key = blocks::oldest_clean(&self.blocks, &file, first, last)?;
+        let key = oldest::oldest_clean(&self.blocks, &file, first, last)?;
         self.blocks.pop(&key);
         Some((key.file, key.block))
     }
 
-    /// Whether there is no room for one more block.
+    /// Whether there is no room for one more block. That no block is held twice comes with it.
     pub fn full(&self) -> bool
-        ensures { result ≡ is_full self.now }
+        ensures full { result ≡ is_full self.now }
+        ensures once { AreOnce self.now.blocks }
     {
         self.blocks.len() >= usize::from(self.size)
     }

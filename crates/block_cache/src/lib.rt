@@ -9,6 +9,8 @@ mod cache;
 mod file_state;
 mod filled;
 mod key;
+mod oldest;
+mod parts;
 mod span;
 
 pub use block::Block;

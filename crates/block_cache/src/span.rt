@@ -1,9 +1,6 @@
 ghost use Rattle.std.specs.Prelude.{◌≡◌, ◌≤◌, ◌+◌, ◌*◌, ◌<◌};
 ghost use Rattle.block_cache.specs.Ranges.{first_block, block_count};
 
-/// The most bytes of a file that are reached: 1,024 blocks (this project).
-pub(crate) const LIMIT: u32 = 4_194_304;
-
 /// How many bytes a block has.
 pub(crate) const BLOCK: u32 = 4096;
 
@@ -15,13 +12,13 @@ pub(crate) struct Span {
 }
 
 impl Span {
-    // The blocks of that many bytes from there on.
+    // The blocks of that many bytes from there on, among the first 4,194,304, which are 1,024 blocks (this project).
     pub fn of(from: u32, length: u32) -> Span
         requires { from + length ≤ 4194304 }
         ensures first { result.first ≡ first_block from }
         ensures count { result.count ≡ block_count from length }
         ensures touches { from ≤ 4096 * result.first + 4096 }
-        ensures within { result.first + result.count ≤ 1025 }
+        ensures within { result.first + result.count ≤ 1024 }
     {
         let first = from / BLOCK;
         let count = if length == 0 {

@@ -2,7 +2,7 @@ use Rattle.std.proofs.Common.{List, ℕ, ◌∷◌, None, ap, ◌∙◌}
 use Rattle.lru.specs.LruCache.{lru_cache}
 use Rattle.block_cache.specs.declared.block.Block.{Block}
 use Rattle.block_cache.specs.Blocks.{Blocks}
-use Rattle.block_cache.proofs.DropLaws.{is_key}
+use Rattle.block_cache.specs.Blocks.{is_key}
 use Rattle.block_cache.proofs.HeldLaws.{put_new}
 use Rattle.block_cache.proofs.blocks.put.Goals as goal
 

@@ -2,7 +2,7 @@ use Rattle.std.proofs.Common.{sym, ap, ◌∙◌}
 use Rattle.block_cache.specs.Blocks.{is_dirty_of}
 use Rattle.block_cache.specs.Held.{named_of}
 use Rattle.block_cache.proofs.OrderLaws.{stops_at, goes_past}
-use Rattle.block_cache.proofs.blocks.oldest_dirty.Goals as goal
+use Rattle.block_cache.proofs.oldest.oldest_dirty.Goals as goal
 
 pub returns-then-is_dirty_of : goal.returns-then-is_dirty_of
 returns-then-is_dirty_of c =

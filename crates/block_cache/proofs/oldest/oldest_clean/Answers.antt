@@ -1,7 +1,7 @@
 use Rattle.std.proofs.Common.{Some, option_map, sym, ap, ◌∙◌}
 use Rattle.block_cache.specs.Blocks.{is_clean_outside}
 use Rattle.block_cache.proofs.OrderLaws.{stops_at, goes_past}
-use Rattle.block_cache.proofs.blocks.oldest_clean.Goals as goal
+use Rattle.block_cache.proofs.oldest.oldest_clean.Goals as goal
 
 pub returns-then-is_clean_outside : goal.returns-then-is_clean_outside
 returns-then-is_clean_outside c =
