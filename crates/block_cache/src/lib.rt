@@ -9,6 +9,7 @@ mod cache;
 mod file_state;
 mod filled;
 mod key;
+mod laws;
 mod oldest;
 mod parts;
 mod span;
@@ -19,6 +20,9 @@ pub use cache::Cache;
 pub use file_state::FileState;
 pub use filled::Filled;
 pub use key::BlockKey;
+pub use laws::{
+    dirty_blocks_stay, older_grants_do_nothing, other_blocks_stay, written_bytes_are_read,
+};
 
 #[cfg(test)]
 mod tests;
