@@ -85,6 +85,13 @@ impl Cache {
         self.files.get(&file).copied()
     }
 
+    /// Whether the file is cached: the last grant let it be, and no callback stopped that since.
+    pub fn cached(&self, file: FileId) -> bool
+        ensures { result ≡ (known self.now.files file).on }
+    {
+        self.known(&file).on
+    }
+
     /// Takes a grant of the file's server. False comes exactly where its stamp isn't newer than the file's, which is 0
     /// where nothing is known, and then nothing changes.
     ///

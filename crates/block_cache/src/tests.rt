@@ -1,3 +1,5 @@
+ghost use Rattle.std.specs.Prelude.{◌≡◌};
+
 use crate::cache::Cache;
 use crate::filled::Filled;
 use sprite_ids::{BlockNo, CallKind, FileId, Flushed, Grant, Kernel, NoMemory};
@@ -217,7 +219,9 @@ fn look(cache: &Cache, server: &Kernel, act: &Act) -> Result<Seen, NoMemory> {
     }
 }
 
-fn file_of(server: &Kernel, number: u32) -> FileId {
+fn file_of(server: &Kernel, number: u32) -> FileId
+    ensures { result ≡ record { server = server.now; number = number } }
+{
     FileId {
         server: *server,
         number,
@@ -269,14 +273,6 @@ fn sent(flushed: &Flushed) -> Seen {
     Seen::Sent(flushed.size, blocks.len(), Some(first))
 }
 
-// Whether the file is cached.
-fn is_cached(cache: &Cache, server: &Kernel, file: u32) -> bool {
-    match cache.state(file_of(server, file)) {
-        Some(state) => state.on,
-        None => false,
-    }
-}
-
 fn fill(
     cache: &mut Cache,
     server: &Kernel,
@@ -285,16 +281,20 @@ fn fill(
     block: u16,
     bytes: (u8, u8),
 ) -> Result<Seen, NoMemory> {
-    if block >= 1_024 || !is_cached(cache, server, file) {
+    if block >= 1_024 || !cache.cached(file_of(server, file)) {
         return Ok(Seen::Never);
     }
-    let file = file_of(server, file);
-    let filled = cache.fill(file, stamp, BlockNo(block), &[bytes.0, bytes.1])?;
+    let filled = cache.fill(
+        file_of(server, file),
+        stamp,
+        BlockNo(block),
+        &[bytes.0, bytes.1],
+    )?;
     Ok(Seen::Filled(filled))
 }
 
 fn read(cache: &mut Cache, server: &Kernel, file: u32, from: u32) -> Result<Seen, NoMemory> {
-    if from > 4_000_000 || !is_cached(cache, server, file) {
+    if from > 4_000_000 || !cache.cached(file_of(server, file)) {
         return Ok(Seen::Never);
     }
     if cache.missing(file_of(server, file), from, 4).is_some() {
@@ -308,7 +308,11 @@ fn read(cache: &mut Cache, server: &Kernel, file: u32, from: u32) -> Result<Seen
 }
 
 fn write(cache: &mut Cache, server: &Kernel, file: u32, from: u32, bytes: &[u8]) -> Seen {
-    if from > 4_000_000 || bytes.len() > 100 || !is_cached(cache, server, file) || !cache.room() {
+    if from > 4_000_000
+        || bytes.len() > 100
+        || !cache.cached(file_of(server, file))
+        || !cache.room()
+    {
         return Seen::Never;
     }
     let length = bytes.len() as u32;
