@@ -22,7 +22,7 @@ use Rattle.block_cache.specs.Held.{Held, IsSound, is_newer, is_full, kept_blocks
 use Rattle.block_cache.specs.Laws.{block_of, is_touched}
 use Rattle.block_cache.proofs.KeyLaws.{one_block, same_block, same_file}
 use Rattle.block_cache.proofs.LookupLaws.{apart, at_key, removed_other, written_other, written_same, cleaned_elsewhere, without_elsewhere}
-use Rattle.block_cache.proofs.WriteLaws.{read_written, apart_number}
+use Rattle.block_cache.proofs.WriteLaws.{read_written, parts_length, apart_number}
 
 -- an older grant does nothing
 pub older_grant : (held : Held) (grant : Grant) → grant.stamp ≤ (known held.files grant.file).stamp → after_grant held grant ≡ held
@@ -66,6 +66,19 @@ read_again held file from (x ∷ xs) sound there =
     let reached : length new ≤ 4096 * (first + count) - from = subst (λ (c : ℕ). length new ≤ 4096 * (first + c) - from) (sym (count_of from (length xs))) (omega (arith, reaches from (length xs))) in
     read_written held.files held.last held.blocks file from new held.last first count (below from) (above from) sound.kept (all_held held.blocks file first count there)
     ∙ take_all (4096 * (first + count) - from) new reached
+
+read_long : (held : Held) (file : FileId) (from n : ℕ) → IsSound held → missing held file from (suc n) ≡ None → length (read_of held file from (suc n)) ≡ suc n
+read_long held file from n sound there =
+    let first = first_block from in
+    let count = block_count from (suc n) in
+    let reached : from + suc n ≤ 4096 * (first + count) = subst (λ (c : ℕ). from + suc n ≤ 4096 * (first + c)) (sym (count_of from n)) (reaches from n) in
+    parts_length held.files held.last held.blocks file from (from + suc n) first count (omega arith) (below from) (above from) sound.kept (all_held held.blocks file first count there)
+    ∙ omega (arith, reached)
+
+-- a read gives as many bytes as were asked
+pub read_whole : (held : Held) (file : FileId) (from many : ℕ) → IsSound held → missing held file from many ≡ None → length (read_of held file from many) ≡ many
+read_whole held file from zero sound there = refl
+read_whole held file from (suc n) sound there = read_long held file from n sound there
 
 put_in_only : (a h f : Bool) → cond a Old (cond h Kept (cond f Full PutIn)) ≡ PutIn → h ≡ false
 put_in_only true h f e = absurd (cc)

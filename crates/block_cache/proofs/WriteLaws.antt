@@ -103,3 +103,26 @@ read_written files last blocks file from new given first (suc n) below touches k
     ∙ ap (λ bs. take (4096 * (first + n) - from) new ++ bs) back
     ∙ joined new (4096 * (first + n) - from) (4096 * (first + n) + 4096 - from) (omega arith)
     ∙ ap (λ k. take k new) up
+
+part_length : (bytes : List ℕ) (number from end : ℕ) → length bytes ≡ 4096 → length (part bytes number from end) ≡ min (end - 4096 * number) 4096 - (from - 4096 * number)
+part_length bytes number from end whole = simp (length-drop, length-take) (ap (λ n. min (end - 4096 * number) n - (from - 4096 * number)) whole)
+
+bytes_whole : (files : Files) (last : ℕ) (blocks : Blocks) (file : FileId) (number : ℕ) (o : Option Block) → block_at blocks file number ≡ o → is_some o ≡ true → AreKept files last blocks → length (bytes_at blocks file number) ≡ 4096
+bytes_whole files last blocks file number None is held kept = absurd (cc)
+bytes_whole files last blocks file number (Some block) is held kept =
+    ap (λ (p : Option Block). length (bytes_of p)) is ∙ held_whole files last blocks file number block kept is
+
+added : (first n from end : ℕ) → from ≤ end → 4096 * first ≤ from → from ≤ 4096 * first + 4096 → (min (4096 * (first + n)) end - from) + (min (end - 4096 * (first + n)) 4096 - (from - 4096 * (first + n))) ≡ min (4096 * (first + suc n)) end - from
+added first n from end order below touches = omega (arith, order, below, touches)
+
+-- the blocks of a range give as many bytes as it has
+pub parts_length : (files : Files) (last : ℕ) (blocks : Blocks) (file : FileId) (from end first n : ℕ) → from ≤ end → 4096 * first ≤ from → from ≤ 4096 * first + 4096 → AreKept files last blocks → ((m : ℕ) → m < n → is_held blocks file (first + m) ≡ true) → length (parts blocks file from end first n) ≡ min (4096 * (first + n)) end - from
+parts_length files last blocks file from end first zero order below touches kept held = omega (arith, below)
+parts_length files last blocks file from end first (suc n) order below touches kept held =
+    let front = parts_length files last blocks file from end first n order below touches kept (λ m under. held m (omega (arith, under))) in
+    let whole = bytes_whole files last blocks file (first + n) (block_at blocks file (first + n)) refl (held n (omega arith)) kept in
+    let back = part_length (bytes_at blocks file (first + n)) (first + n) from end whole in
+    length-append (parts blocks file from end first n) (part (bytes_at blocks file (first + n)) (first + n) from end)
+    ∙ ap (λ k. k + length (part (bytes_at blocks file (first + n)) (first + n) from end)) front
+    ∙ ap (λ k. (min (4096 * (first + n)) end - from) + k) back
+    ∙ added first n from end order below touches

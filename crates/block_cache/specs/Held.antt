@@ -29,11 +29,11 @@ abbrev pub IsUpTo : Option ℕ → ℕ → Type 0
 IsUpTo (Some number) last = number ≤ last
 IsUpTo None last = Unit {0}
 
--- what is true of each block that is held: it is one of 1,024, whole, of a file that is cached, and its number was given
 -- a block is one of the 1,024 of its file
 abbrev pub IsReached : BlockKey × Block → Type 0
 IsReached entry = entry.0.block.0 < 1024
 
+-- what is true of each block that is held: it is one of 1,024, whole, of a file that is cached, and its number was given
 pub record IsKept (files : Files) (last : ℕ) (entry : BlockKey × Block) : Type 0 where
   pub reached : entry.0.block.0 < 1024
   pub whole : length entry.1.bytes ≡ 4096
@@ -129,11 +129,12 @@ abbrev pub after_write : Held → FileId → ℕ → List ℕ → Held
 after_write held file from [] = held
 after_write held file from (first ∷ rest) = after_writing held file from (first ∷ rest)
 
--- what a dirty block is written back by: its file, its place in it and its number
+-- what a block with that dirty number is written back by: its file, its place in it and the number
 abbrev pub named : BlockKey × Block → Option ℕ → Option (FileId × BlockNo × ℕ)
 named entry (Some number) = Some (entry.0.file, entry.0.block, number)
 named entry None = None
 
+-- what a looked-up block is written back by
 abbrev pub named_of : Option (BlockKey × Block) → Option (FileId × BlockNo × ℕ)
 named_of (Some entry) = named entry entry.1.dirty
 named_of None = None

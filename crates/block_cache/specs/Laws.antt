@@ -28,6 +28,10 @@ OlderGrantsDoNothing = (held : Held) (grant : Grant) → grant.stamp ≤ (known 
 abbrev pub WrittenBytesAreRead : Type 0
 WrittenBytesAreRead = (held : Held) (file : FileId) (from : ℕ) (new : List ℕ) → IsSound held → missing held file from (length new) ≡ None → read_of (after_write held file from new) file from (length new) ≡ new
 
+-- a read gives as many bytes as were asked
+abbrev pub ReadsAreWhole : Type 0
+ReadsAreWhole = (held : Held) (file : FileId) (from many : ℕ) → IsSound held → missing held file from many ≡ None → length (read_of held file from many) ≡ many
+
 -- a dirty block is left as it is by fills, reads, the dropping of clean blocks, and grants that let blocks stay, and
 -- stays dirty at writes
 pub record DirtyBlocksStay : Type 0 where

@@ -1,9 +1,9 @@
-ghost use Rattle.std.specs.Prelude.{◌≡◌, ◌≤◌, ◌<◌, ◌+◌, ◌*◌, ◌∷◌, ◌++◌, IfOk, OnOk, OnErr, length, option_map, option_copied, false, true};
+ghost use Rattle.std.specs.Prelude.{◌≡◌, ◌≤◌, ◌<◌, ◌+◌, ◌*◌, ◌∷◌, ◌++◌, IfOk, OnOk, OnErr, length, option_copied, false};
 ghost use Rattle.std.specs.List.{AllByRecursion};
 ghost use Rattle.lru.specs.LruCache.{lru_cache, promoted};
-ghost use Rattle.block_cache.specs.Blocks.{is_at, block_at, is_of, written_there, is_held, dirty_at, bytes_at, without, held_under, dirty_under, flushed, cleaned, cleaned_under, missing_of, used, parts, written, oldest, is_dirty_of, is_clean_outside, is_within};
-ghost use Rattle.block_cache.specs.Held.{IsReached, clean_block, named, named_of, without_one};
-ghost use Rattle.block_cache.specs.Ranges.{file_blocks, part, piece, cut};
+ghost use Rattle.block_cache.specs.Blocks.{is_at, block_at, written_there, is_held, dirty_at, bytes_at, without, held_under, dirty_under, flushed, cleaned, cleaned_under, missing_of, used, parts, written};
+ghost use Rattle.block_cache.specs.Held.{IsReached, clean_block};
+ghost use Rattle.block_cache.specs.Ranges.{file_blocks, part, cut};
 
 use crate::block::Block;
 use crate::block_bytes::BlockBytes;
@@ -14,15 +14,12 @@ use lru::LruCache;
 use sprite_ids::{BlockNo, Bytes, FileId, Items, NoMemory};
 use std::alloc::Global;
 
-/// How many blocks a file has at most (this project).
-const BLOCKS: u16 = 1024;
-
-// How many blocks a file has at most.
+// How many blocks a file has at most (this project).
 #[tactic(auto, unfolding(crate::specs::Ranges::file_blocks))]
 fn file_blocks() -> u16
     ensures { result ≡ file_blocks }
 {
-    BLOCKS
+    1024
 }
 
 // The block, where it is held.

@@ -1,9 +1,9 @@
-ghost use Rattle.std.specs.Prelude.{◌≡◌, ◌≤◌, ◌<◌, ◌+◌, [], true, None, Some, IfOk, OnOk, OnErr, IsSome, IsTrue, length, nat_le, option_map};
+ghost use Rattle.std.specs.Prelude.{◌≡◌, ◌≤◌, ◌<◌, ◌+◌, [], true, None, IfOk, OnOk, OnErr, IsSome, IsTrue, length, option_map};
 ghost use Rattle.std.specs.List.{list_all};
 ghost use Rattle.indexmap.specs.IndexMap.{values};
 ghost use Rattle.block_cache.specs.Files.{is_low, grown, known, state_of, with_state};
 ghost use Rattle.block_cache.specs.Ranges.{cut, file_blocks};
-ghost use Rattle.block_cache.specs.Blocks.{AreOnce, is_held, dirty_at, bytes_at, held_under, dirty_under};
+ghost use Rattle.block_cache.specs.Blocks.{AreOnce, dirty_at, bytes_at, held_under, dirty_under};
 ghost use Rattle.block_cache.specs.Held.{IsSound, has_room, is_full, is_newer, after_grant, after_callback, flushed_of, missing, fill_answer, after_fill, read_of, after_read, after_write, write_back_next, is_written_back, after_write_back, oldest_clean, after_drop};
 
 use crate::block::Block;

@@ -1,4 +1,4 @@
-ghost use Rattle.block_cache.specs.Laws.{OlderGrantsDoNothing, WrittenBytesAreRead, DirtyBlocksStay, OtherBlocksStay};
+ghost use Rattle.block_cache.specs.Laws.{OlderGrantsDoNothing, WrittenBytesAreRead, ReadsAreWhole, DirtyBlocksStay, OtherBlocksStay};
 
 /// A law: a grant that isn't newer than what is known of its file changes nothing.
 pub fn older_grants_do_nothing()
@@ -8,6 +8,11 @@ pub fn older_grants_do_nothing()
 /// A law: a read of the range of a write gives the bytes that were written.
 pub fn written_bytes_are_read()
     ensures { WrittenBytesAreRead }
+{}
+
+/// A law: a read gives as many bytes as were asked.
+pub fn reads_are_whole()
+    ensures { ReadsAreWhole }
 {}
 
 /// A law: a dirty block leaves, or becomes clean, only by the answer to its write-back, by a callback, or by a grant of

@@ -21,7 +21,8 @@ pub use file_state::FileState;
 pub use filled::Filled;
 pub use key::BlockKey;
 pub use laws::{
-    dirty_blocks_stay, older_grants_do_nothing, other_blocks_stay, written_bytes_are_read,
+    dirty_blocks_stay, older_grants_do_nothing, other_blocks_stay, reads_are_whole,
+    written_bytes_are_read,
 };
 
 #[cfg(test)]
