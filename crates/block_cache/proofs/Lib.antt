@@ -1,0 +1,11 @@
+pub mod DropLaws
+pub mod EachLaws
+pub mod HeldLaws
+pub mod KeptLaws
+pub mod KeyLaws
+pub mod LookupLaws
+pub mod OrderLaws
+pub mod SoundLaws
+pub mod StateLaws
+pub mod StayLaws
+pub mod WriteLaws

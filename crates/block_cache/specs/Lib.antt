@@ -1,0 +1,5 @@
+pub mod Blocks
+pub mod Files
+pub mod Held
+pub mod Laws
+pub mod Ranges
