@@ -1,0 +1,170 @@
+-- How values are spelled one behind another, and read again.
+use Rattle.std.specs.Prelude.{◌≡◌, ℕ, zero, suc, ◌<◌, ◌^◌, nat_lt, if◌then◌else◌, List, [], ◌∷◌, ◌++◌, length, take, drop, slice_index, Option, Some, None, Result, Ok, Err, IfSome}
+use Rattle.std.specs.List.{flat_map, AllByRecursion}
+use Rattle.std.specs.Int.{Width, w16, w32, w64, byte_len, to_le_bytes, from_le_bytes}
+use Rattle.wire_format.specs.declared.field_end.FieldEnd.{FieldEnd}
+use Rattle.wire_format.specs.declared.field_end.FieldEnd.TheVariants.{NotSpelled, NoMemory}
+
+-- a value that stands at the front of bytes, and the bytes behind it; None where none stands there
+abbrev pub Reads : Type 0 → Type 0
+Reads A = Option (A × List ℕ)
+
+-- that value, and that rest
+abbrev pub found : {A : Type 0} → A → List ℕ → Reads A
+found x rest = Some (x, rest)
+
+-- the one way to spell the values of a type: which values have a spelling, that spelling, and the reading
+pub record Codec (A : Type 0) : Type 1 where
+  pub Fits : A → Type 0
+  pub spelled : A → List ℕ
+  pub read : List ℕ → Reads A
+
+-- numbers that are bytes
+abbrev pub AreBytes : List ℕ → Type 0
+AreBytes bytes = (i : ℕ) → slice_index bytes i < 256
+
+-- the bytes are the value's spelling and the rest
+pub record Took {A : Type 0} (codec : Codec A) (bytes : List ℕ) (value : A) (rest : List ℕ) : Type 0 where
+  pub parts : bytes ≡ codec.spelled value ++ rest
+  pub fits : codec.Fits value
+
+-- what is spelled is read again, and what is read is spelled so
+pub record IsCodec {A : Type 0} (codec : Codec A) : Type 0 where
+  pub again : (value : A) (rest : List ℕ) → codec.Fits value → codec.read (codec.spelled value ++ rest) ≡ Some (value, rest)
+  pub takes : (bytes : List ℕ) (value : A) (rest : List ℕ) → AreBytes bytes → codec.read bytes ≡ Some (value, rest) → Took codec bytes value rest
+
+-- the first value beside what is read behind it
+abbrev pub beside : {A B : Type 0} → A → Reads B → Reads (A × B)
+beside x None = None
+beside x (Some (y, rest)) = Some ((x, y), rest)
+
+-- one value, and then the other
+abbrev pub then_read : {A B : Type 0} → Reads A → (List ℕ → Reads B) → Reads (A × B)
+then_read None next = None
+then_read (Some (x, rest)) next = beside x (next rest)
+
+-- the value that is made of what was read
+abbrev pub made : {A B : Type 0} → (A → B) → Reads A → Reads B
+made f None = None
+made f (Some (x, rest)) = Some (f x, rest)
+
+-- the value, where there is one, before the rest
+abbrev pub placed : {A : Type 0} → Option A → List ℕ → Reads A
+placed None rest = None
+placed (Some x) rest = Some (x, rest)
+
+-- the value that is chosen by what was read, where one is
+abbrev pub chosen : {A B : Type 0} → (A → Option B) → Reads A → Reads B
+chosen f None = None
+chosen f (Some (x, rest)) = placed (f x) rest
+
+-- a value, and another behind it
+infixr 10 ◌before◌
+abbrev pub ◌before◌ : {A B : Type 0} → Codec A → Codec B → Codec (A × B)
+c before d = record {
+  Fits = λ pair. c.Fits pair.0 × d.Fits pair.1;
+  spelled = λ pair. c.spelled pair.0 ++ d.spelled pair.1;
+  read = λ bytes. then_read (c.read bytes) d.read;
+}
+
+-- a value that is made of others
+abbrev pub made_of : {A B : Type 0} → (A → B) → (B → A) → Codec A → Codec B
+made_of make parts c = record {
+  Fits = λ value. c.Fits (parts value);
+  spelled = λ value. c.spelled (parts value);
+  read = λ bytes. made make (c.read bytes);
+}
+
+-- a value that only some others give
+abbrev pub chosen_by : {A B : Type 0} → (A → Option B) → (B → A) → (B → Type 0) → Codec A → Codec B
+chosen_by choose parts Is c = record {
+  Fits = λ value. c.Fits (parts value) × Is value;
+  spelled = λ value. c.spelled (parts value);
+  read = λ bytes. chosen choose (c.read bytes);
+}
+
+-- ---- numbers, the lowest byte first
+
+abbrev pub byte_spelled : ℕ → List ℕ
+byte_spelled n = n ∷ []
+
+abbrev pub byte_read : List ℕ → Reads ℕ
+byte_read [] = None
+byte_read (byte ∷ rest) = Some (byte, rest)
+
+abbrev pub byte : Codec ℕ
+byte = record { Fits = λ n. n < 256; spelled = byte_spelled; read = byte_read }
+
+unfoldable pub number_spelled : Width → ℕ → List ℕ
+number_spelled w n = to_le_bytes w n
+
+unfoldable pub number_read : Width → List ℕ → Reads ℕ
+number_read w bytes = if nat_lt (length bytes) (byte_len w) then None else Some (from_le_bytes w (take (byte_len w) bytes), drop (byte_len w) bytes)
+
+abbrev pub number16 : Codec ℕ
+number16 = record { Fits = λ n. n < 2 ^ 16; spelled = number_spelled w16; read = number_read w16 }
+
+abbrev pub number32 : Codec ℕ
+number32 = record { Fits = λ n. n < 2 ^ 32; spelled = number_spelled w32; read = number_read w32 }
+
+abbrev pub number64 : Codec ℕ
+number64 = record { Fits = λ n. n < 2 ^ 64; spelled = number_spelled w64; read = number_read w64 }
+
+-- ---- values that may be away, and lists
+
+-- 0, or 1 and the value
+abbrev pub optional_spelled : {A : Type 0} → (A → List ℕ) → Option A → List ℕ
+optional_spelled spelled None = 0 ∷ []
+optional_spelled spelled (Some x) = 1 ∷ spelled x
+
+abbrev pub optional_read : {A : Type 0} → (List ℕ → Reads A) → List ℕ → Reads (Option A)
+optional_read read [] = None
+optional_read read (zero ∷ rest) = Some (None, rest)
+optional_read read (suc zero ∷ rest) = made Some (read rest)
+optional_read read (suc (suc n) ∷ rest) = None
+
+abbrev pub optional : {A : Type 0} → Codec A → Codec (Option A)
+optional c = record {
+  Fits = λ value. IfSome value c.Fits;
+  spelled = optional_spelled c.spelled;
+  read = optional_read c.read;
+}
+
+-- what a number that was read says of the rest
+abbrev pub counted : {A : Type 0} → Reads ℕ → (ℕ → List ℕ → Reads A) → Reads A
+counted None next = None
+counted (Some (n, rest)) next = next n rest
+
+-- so many values, one behind another
+abbrev pub items_read : {A : Type 0} → (List ℕ → Reads A) → ℕ → List ℕ → Reads (List A)
+items_read read zero bytes = Some ([], bytes)
+items_read read (suc n) bytes = made (λ pair. pair.0 ∷ pair.1) (then_read (read bytes) (items_read read n))
+
+-- their number in four bytes, and the values
+abbrev pub listed : {A : Type 0} → Codec A → Codec (List A)
+listed c = record {
+  Fits = λ items. (length items < 2 ^ 32) × AllByRecursion c.Fits items;
+  spelled = λ items. number_spelled w32 (length items) ++ flat_map c.spelled items;
+  read = λ bytes. counted (number_read w32 bytes) (items_read c.read);
+}
+
+-- so many bytes
+abbrev pub bytes_read : ℕ → List ℕ → Reads (List ℕ)
+bytes_read n bytes = if nat_lt (length bytes) n then None else Some (take n bytes, drop n bytes)
+
+-- their number in four bytes, and the bytes
+abbrev pub text : Codec (List ℕ)
+text = record {
+  Fits = λ bytes. length bytes < 2 ^ 32;
+  spelled = λ bytes. number_spelled w32 (length bytes) ++ bytes;
+  read = λ bytes. counted (number_read w32 bytes) bytes_read;
+}
+
+-- what a function returned is what reading gives, unless memory ran out
+abbrev pub Fails : {A : Type 0} → FieldEnd → Reads A → Type 0
+Fails NotSpelled reads = reads ≡ None
+Fails NoMemory reads = Unit {0}
+
+abbrev pub Gives : {X A : Type 0} → (X → A × List ℕ) → Result X FieldEnd → Reads A → Type 0
+Gives view (Ok x) reads = reads ≡ Some (view x)
+Gives view (Err end) reads = Fails end reads

@@ -1,0 +1,117 @@
+-- What codecs made of codecs keep.
+use Rattle.std.proofs.Common.{◌≡◌, ℕ, zero, suc, List, [], ◌∷◌, ◌++◌, Option, Some, None, refl, sym, ap, subst, ◌∙◌, append_assoc}
+use Rattle.sprite_ids.proofs.ListLaws.{some_is}
+use Rattle.wire_format.specs.Codec.{Reads, Codec, AreBytes, Took, IsCodec, found, beside, then_read, made, placed, chosen, ◌before◌, made_of, chosen_by, optional_spelled, optional_read, optional}
+
+-- ---- bytes
+
+-- what stands behind a part of bytes is bytes
+bytes_behind : (front rest : List ℕ) → AreBytes (front ++ rest) → AreBytes rest
+bytes_behind [] rest are = are
+bytes_behind (byte ∷ front) rest are = bytes_behind front rest (λ i. are (suc i))
+
+pub bytes_left : {A : Type 0} (c : Codec A) (bytes : List ℕ) (x : A) (rest : List ℕ) → AreBytes bytes → Took c bytes x rest → AreBytes rest
+bytes_left c bytes x rest are took = bytes_behind (c.spelled x) rest (subst AreBytes took.parts are)
+
+-- ---- what was read
+
+pub some_pair : {A : Type 0} (x y : A) (r s : List ℕ) → found x r ≡ found y s → (x ≡ y) × (r ≡ s)
+some_pair {A} x y r s e =
+    let front : A × List ℕ = (x, r) in
+    let back : A × List ℕ = (y, s) in
+    let same = some_is front back e in
+    (ap (λ (p : A × List ℕ). p.0) same, ap (λ (p : A × List ℕ). p.1) same)
+
+pub made_found : {A B : Type 0} (f : A → B) (reads : Reads A) (y : B) (rest : List ℕ) → made f reads ≡ found y rest → (x : A) × (reads ≡ found x rest) × (f x ≡ y)
+made_found f None y rest e = absurd cc
+made_found f (Some (x, r)) y rest e = let same = some_pair (f x) y r rest e in (x, ap (found x) same.1, same.0)
+
+placed_found : {A : Type 0} (o : Option A) (r : List ℕ) (y : A) (rest : List ℕ) → placed o r ≡ found y rest → (o ≡ Some y) × (r ≡ rest)
+placed_found None r y rest e = absurd cc
+placed_found (Some x) r y rest e = let same = some_pair x y r rest e in (ap Some same.0, same.1)
+
+pub chosen_found : {A B : Type 0} (f : A → Option B) (reads : Reads A) (y : B) (rest : List ℕ) → chosen f reads ≡ found y rest → (x : A) × (reads ≡ found x rest) × (f x ≡ Some y)
+chosen_found f None y rest e = absurd cc
+chosen_found f (Some (x, r)) y rest e = let is = placed_found (f x) r y rest e in (x, ap (found x) is.1, is.0)
+
+beside_found : {A B : Type 0} (x : A) (reads : Reads B) (p : A × B) (rest : List ℕ) → beside x reads ≡ found p rest → (x ≡ p.0) × (reads ≡ found p.1 rest)
+beside_found x None p rest e = absurd cc
+beside_found {A} {B} x (Some (y, r)) p rest e =
+    let pair : A × B = (x, y) in
+    let same = some_pair pair p r rest e in
+    (ap (λ (q : A × B). q.0) same.0, ap (λ (q : A × B). found q.1 r) same.0 ∙ ap (found p.1) same.1)
+
+pub then_found : {A B : Type 0} (reads : Reads A) (next : List ℕ → Reads B) (p : A × B) (rest : List ℕ) → then_read reads next ≡ found p rest → (between : List ℕ) × (reads ≡ found p.0 between) × (next between ≡ found p.1 rest)
+then_found None next p rest e = absurd cc
+then_found (Some (x, r)) next p rest e = let is = beside_found x (next r) p rest e in (r, ap (λ z. found z r) is.0, is.1)
+
+-- ---- one value behind another
+
+before_again : {A B : Type 0} (c : Codec A) (d : Codec B) → IsCodec c → IsCodec d → (p : A × B) (rest : List ℕ) → c.Fits p.0 × d.Fits p.1 → then_read (c.read ((c.spelled p.0 ++ d.spelled p.1) ++ rest)) d.read ≡ found p rest
+before_again c d first second p rest fits =
+    ap (λ bytes. then_read (c.read bytes) d.read) (append_assoc (c.spelled p.0) (d.spelled p.1) rest)
+    ∙ ap (λ reads. then_read reads d.read) (first.again p.0 (d.spelled p.1 ++ rest) fits.0)
+    ∙ ap (beside p.0) (second.again p.1 rest fits.1)
+
+before_takes : {A B : Type 0} (c : Codec A) (d : Codec B) → IsCodec c → IsCodec d → (bytes : List ℕ) (p : A × B) (rest : List ℕ) → AreBytes bytes → then_read (c.read bytes) d.read ≡ found p rest → Took (c before d) bytes p rest
+before_takes c d first second bytes p rest are e =
+    let split = then_found (c.read bytes) d.read p rest e in
+    let a = first.takes bytes p.0 split.0 are split.1 in
+    let b = second.takes split.0 p.1 rest (bytes_left c bytes p.0 split.0 are a) split.2 in
+    record { parts = a.parts ∙ ap (λ left. c.spelled p.0 ++ left) b.parts ∙ sym (append_assoc (c.spelled p.0) (d.spelled p.1) rest); fits = (a.fits, b.fits) }
+
+pub before_is : {A B : Type 0} {c : Codec A} {d : Codec B} → IsCodec c → IsCodec d → IsCodec (c before d)
+before_is {c = c} {d = d} first second = record { again = before_again c d first second; takes = before_takes c d first second }
+
+-- ---- values made of values
+
+made_of_takes : {A B : Type 0} (make : A → B) (parts : B → A) (c : Codec A) → ((x : A) → parts (make x) ≡ x) → IsCodec c → (bytes : List ℕ) (y : B) (rest : List ℕ) → AreBytes bytes → made make (c.read bytes) ≡ found y rest → Took (made_of make parts c) bytes y rest
+made_of_takes make parts c forth is bytes y rest are e =
+    let m = made_found make (c.read bytes) y rest e in
+    let took = subst (λ x. Took c bytes x rest) (sym (forth m.0) ∙ ap parts m.2) (is.takes bytes m.0 rest are m.1) in
+    record { parts = took.parts; fits = took.fits }
+
+pub made_of_is : {A B : Type 0} (make : A → B) (parts : B → A) {c : Codec A} → ((y : B) → make (parts y) ≡ y) → ((x : A) → parts (make x) ≡ x) → IsCodec c → IsCodec (made_of make parts c)
+made_of_is make parts {c = c} back forth is = record {
+  again = λ y rest fits. ap (made make) (is.again (parts y) rest fits) ∙ ap (λ z. found z rest) (back y);
+  takes = made_of_takes make parts c forth is;
+}
+
+-- what a choice of a value keeps
+pub record IsChoice {A B : Type 0} (choose : A → Option B) (parts : B → A) (Is : B → Type 0) : Type 0 where
+  pub back : (y : B) → Is y → choose (parts y) ≡ Some y
+  pub forth : (x : A) (y : B) → choose x ≡ Some y → (x ≡ parts y) × Is y
+
+chosen_takes : {A B : Type 0} (choose : A → Option B) (parts : B → A) (Is : B → Type 0) (c : Codec A) → IsChoice choose parts Is → IsCodec c → (bytes : List ℕ) (y : B) (rest : List ℕ) → AreBytes bytes → chosen choose (c.read bytes) ≡ found y rest → Took (chosen_by choose parts Is c) bytes y rest
+chosen_takes choose parts Is c choice is bytes y rest are e =
+    let m = chosen_found choose (c.read bytes) y rest e in
+    let from = choice.forth m.0 y m.2 in
+    let took = subst (λ x. Took c bytes x rest) from.0 (is.takes bytes m.0 rest are m.1) in
+    record { parts = took.parts; fits = (took.fits, from.1) }
+
+pub chosen_by_is : {A B : Type 0} {choose : A → Option B} {parts : B → A} {Is : B → Type 0} {c : Codec A} → IsChoice choose parts Is → IsCodec c → IsCodec (chosen_by choose parts Is c)
+chosen_by_is {choose = choose} {parts = parts} {Is = Is} {c = c} choice is = record {
+  again = λ y rest fits. ap (chosen choose) (is.again (parts y) rest fits.0) ∙ ap (λ o. placed o rest) (choice.back y fits.1);
+  takes = chosen_takes choose parts Is c choice is;
+}
+
+-- ---- values that may be away
+
+optional_again : {A : Type 0} (c : Codec A) → IsCodec c → (o : Option A) (rest : List ℕ) → (optional c).Fits o → optional_read c.read (optional_spelled c.spelled o ++ rest) ≡ found o rest
+optional_again c is None rest fits = refl
+optional_again c is (Some x) rest fits = ap (made Some) (is.again x rest fits)
+
+optional_takes : {A : Type 0} (c : Codec A) → IsCodec c → (bytes : List ℕ) (o : Option A) (rest : List ℕ) → AreBytes bytes → optional_read c.read bytes ≡ found o rest → Took (optional c) bytes o rest
+optional_takes c is [] o rest are e = absurd cc
+optional_takes {A} c is (zero ∷ bytes) o rest are e =
+    let none : Option A = None in
+    let same = some_pair none o bytes rest e in
+    subst (λ z. Took (optional c) (0 ∷ bytes) z rest) same.0 (record { parts = ap (λ r. 0 ∷ r) same.1; fits = tt })
+optional_takes c is (suc zero ∷ bytes) o rest are e =
+    let m = made_found Some (c.read bytes) o rest e in
+    let took = is.takes bytes m.0 rest (λ i. are (suc i)) m.1 in
+    subst (λ z. Took (optional c) (1 ∷ bytes) z rest) m.2 (record { parts = ap (λ r. 1 ∷ r) took.parts; fits = took.fits })
+optional_takes c is (suc (suc n) ∷ bytes) o rest are e = absurd cc
+
+pub optional_is : {A : Type 0} {c : Codec A} → IsCodec c → IsCodec (optional c)
+optional_is {c = c} is = record { again = optional_again c is; takes = optional_takes c is }

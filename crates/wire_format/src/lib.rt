@@ -1,0 +1,10 @@
+//! The packets that kernels send each other, as bytes: each packet has exactly one spelling (this project).
+#![tactic(auto)]
+
+mod field;
+mod field_end;
+mod numbers;
+mod parts;
+
+pub use field::Field;
+pub use field_end::FieldEnd;
