@@ -1,6 +1,6 @@
 -- How values are spelled one behind another, and read again.
-use Rattle.std.specs.Prelude.{◌≡◌, ℕ, zero, suc, ◌<◌, ◌^◌, nat_lt, if◌then◌else◌, List, [], ◌∷◌, ◌++◌, length, take, drop, slice_index, Option, Some, None, Result, Ok, Err, IfSome}
-use Rattle.std.specs.List.{flat_map, AllByRecursion}
+use Rattle.std.specs.Prelude.{◌≡◌, ℕ, zero, suc, ◌<◌, ◌^◌, nat_lt, ◌==◌, Bool, if◌then◌else◌, List, [], ◌∷◌, ◌++◌, length, take, drop, slice_index, Option, Some, None, Result, Ok, Err, IfSome}
+use Rattle.std.specs.List.{find, flat_map, AllByRecursion}
 use Rattle.std.specs.Int.{Width, w16, w32, w64, byte_len, to_le_bytes, from_le_bytes}
 use Rattle.wire_format.specs.declared.field_end.FieldEnd.{FieldEnd}
 use Rattle.wire_format.specs.declared.field_end.FieldEnd.TheVariants.{NotSpelled, NoMemory}
@@ -67,18 +67,18 @@ c before d = record {
   read = λ bytes. then_read (c.read bytes) d.read;
 }
 
--- a value that is made of others
-abbrev pub made_of : {A B : Type 0} → (A → B) → (B → A) → Codec A → Codec B
-made_of make parts c = record {
+-- a value that is made of others, spelled as those
+abbrev pub made_of : {A B : Type 0} → Codec A → (A → B) → (B → A) → Codec B
+made_of c make parts = record {
   Fits = λ value. c.Fits (parts value);
   spelled = λ value. c.spelled (parts value);
   read = λ bytes. made make (c.read bytes);
 }
 
--- a value that only some others give
-abbrev pub chosen_by : {A B : Type 0} → (A → Option B) → (B → A) → (B → Type 0) → Codec A → Codec B
-chosen_by choose parts Is c = record {
-  Fits = λ value. c.Fits (parts value) × Is value;
+-- a value that only some others give, spelled as those
+abbrev pub chosen_by : {A B : Type 0} → Codec A → (A → Option B) → (B → A) → (B → Type 0) → Codec B
+chosen_by c choose parts Is = record {
+  Fits = Is;
   spelled = λ value. c.spelled (parts value);
   read = λ bytes. chosen choose (c.read bytes);
 }
@@ -111,6 +111,22 @@ abbrev pub number64 : Codec ℕ
 number64 = record { Fits = λ n. n < 2 ^ 64; spelled = number_spelled w64; read = number_read w64 }
 
 -- ---- values that may be away, and lists
+
+-- the value where it passes the test
+abbrev pub passed : {A : Type 0} → (A → Bool) → A → Option A
+passed test x = if test x then Some x else None
+
+-- the values that pass a test
+abbrev pub within : {A : Type 0} → Codec A → (A → Bool) → (A → Type 0) → Codec A
+within c test Is = chosen_by c (passed test) (λ x. x) Is
+
+-- one of a few values, as its number in one byte
+abbrev pub numbered : {A : Type 0} → (A → ℕ) → List A → Codec A
+numbered number all = record {
+  Fits = λ value. Unit {0};
+  spelled = λ value. number value ∷ [];
+  read = λ bytes. chosen (λ n. find (λ value. number value == n) all) (byte_read bytes);
+}
 
 -- 0, or 1 and the value
 abbrev pub optional_spelled : {A : Type 0} → (A → List ℕ) → Option A → List ℕ

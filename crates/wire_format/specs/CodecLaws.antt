@@ -1,7 +1,9 @@
 -- What codecs made of codecs keep.
-use Rattle.std.proofs.Common.{◌≡◌, ℕ, zero, suc, List, [], ◌∷◌, ◌++◌, Option, Some, None, refl, sym, ap, subst, ◌∙◌, append_assoc}
+use Rattle.std.proofs.Common.{◌≡◌, ℕ, zero, suc, Bool, true, false, cond, ◌==◌, inl, inr, List, [], ◌∷◌, ◌++◌, Option, Some, None, refl, sym, ap, subst, ◌∙◌, append_assoc}
+use Rattle.std.specs.List.{find}
+use Rattle.std.proofs.lemmas.Bool.{cases_Bool, cond-true, cond-false, eqb-true}
 use Rattle.sprite_ids.proofs.ListLaws.{some_is}
-use Rattle.wire_format.specs.Codec.{Reads, Codec, AreBytes, Took, IsCodec, found, beside, then_read, made, placed, chosen, ◌before◌, made_of, chosen_by, optional_spelled, optional_read, optional}
+use Rattle.wire_format.specs.Codec.{Reads, Codec, AreBytes, Took, IsCodec, found, beside, then_read, made, placed, chosen, ◌before◌, made_of, chosen_by, passed, within, byte_read, numbered, optional_spelled, optional_read, optional}
 
 -- ---- bytes
 
@@ -65,34 +67,78 @@ before_is {c = c} {d = d} first second = record { again = before_again c d first
 
 -- ---- values made of values
 
-made_of_takes : {A B : Type 0} (make : A → B) (parts : B → A) (c : Codec A) → ((x : A) → parts (make x) ≡ x) → IsCodec c → (bytes : List ℕ) (y : B) (rest : List ℕ) → AreBytes bytes → made make (c.read bytes) ≡ found y rest → Took (made_of make parts c) bytes y rest
-made_of_takes make parts c forth is bytes y rest are e =
+made_of_takes : {A B : Type 0} (c : Codec A) (make : A → B) (parts : B → A) → ((x : A) → parts (make x) ≡ x) → IsCodec c → (bytes : List ℕ) (y : B) (rest : List ℕ) → AreBytes bytes → made make (c.read bytes) ≡ found y rest → Took (made_of c make parts) bytes y rest
+made_of_takes c make parts forth is bytes y rest are e =
     let m = made_found make (c.read bytes) y rest e in
     let took = subst (λ x. Took c bytes x rest) (sym (forth m.0) ∙ ap parts m.2) (is.takes bytes m.0 rest are m.1) in
     record { parts = took.parts; fits = took.fits }
 
-pub made_of_is : {A B : Type 0} (make : A → B) (parts : B → A) {c : Codec A} → ((y : B) → make (parts y) ≡ y) → ((x : A) → parts (make x) ≡ x) → IsCodec c → IsCodec (made_of make parts c)
-made_of_is make parts {c = c} back forth is = record {
+pub made_of_is : {A B : Type 0} {c : Codec A} → IsCodec c → (make : A → B) (parts : B → A) → ((y : B) → make (parts y) ≡ y) → ((x : A) → parts (make x) ≡ x) → IsCodec (made_of c make parts)
+made_of_is {c = c} is make parts back forth = record {
   again = λ y rest fits. ap (made make) (is.again (parts y) rest fits) ∙ ap (λ z. found z rest) (back y);
-  takes = made_of_takes make parts c forth is;
+  takes = made_of_takes c make parts forth is;
 }
 
 -- what a choice of a value keeps
-pub record IsChoice {A B : Type 0} (choose : A → Option B) (parts : B → A) (Is : B → Type 0) : Type 0 where
+pub record IsChoice {A B : Type 0} (c : Codec A) (choose : A → Option B) (parts : B → A) (Is : B → Type 0) : Type 0 where
   pub back : (y : B) → Is y → choose (parts y) ≡ Some y
-  pub forth : (x : A) (y : B) → choose x ≡ Some y → (x ≡ parts y) × Is y
+  pub forth : (x : A) (y : B) → c.Fits x → choose x ≡ Some y → (x ≡ parts y) × Is y
+  pub fits : (y : B) → Is y → c.Fits (parts y)
 
-chosen_takes : {A B : Type 0} (choose : A → Option B) (parts : B → A) (Is : B → Type 0) (c : Codec A) → IsChoice choose parts Is → IsCodec c → (bytes : List ℕ) (y : B) (rest : List ℕ) → AreBytes bytes → chosen choose (c.read bytes) ≡ found y rest → Took (chosen_by choose parts Is c) bytes y rest
-chosen_takes choose parts Is c choice is bytes y rest are e =
+chosen_takes : {A B : Type 0} (c : Codec A) (choose : A → Option B) (parts : B → A) (Is : B → Type 0) → IsCodec c → IsChoice c choose parts Is → (bytes : List ℕ) (y : B) (rest : List ℕ) → AreBytes bytes → chosen choose (c.read bytes) ≡ found y rest → Took (chosen_by c choose parts Is) bytes y rest
+chosen_takes c choose parts Is is choice bytes y rest are e =
     let m = chosen_found choose (c.read bytes) y rest e in
-    let from = choice.forth m.0 y m.2 in
-    let took = subst (λ x. Took c bytes x rest) from.0 (is.takes bytes m.0 rest are m.1) in
-    record { parts = took.parts; fits = (took.fits, from.1) }
+    let took = is.takes bytes m.0 rest are m.1 in
+    let from = choice.forth m.0 y took.fits m.2 in
+    record { parts = took.parts ∙ ap (λ x. c.spelled x ++ rest) from.0; fits = from.1 }
 
-pub chosen_by_is : {A B : Type 0} {choose : A → Option B} {parts : B → A} {Is : B → Type 0} {c : Codec A} → IsChoice choose parts Is → IsCodec c → IsCodec (chosen_by choose parts Is c)
-chosen_by_is {choose = choose} {parts = parts} {Is = Is} {c = c} choice is = record {
-  again = λ y rest fits. ap (chosen choose) (is.again (parts y) rest fits.0) ∙ ap (λ o. placed o rest) (choice.back y fits.1);
-  takes = chosen_takes choose parts Is c choice is;
+pub chosen_by_is : {A B : Type 0} {c : Codec A} {choose : A → Option B} {parts : B → A} {Is : B → Type 0} → IsCodec c → IsChoice c choose parts Is → IsCodec (chosen_by c choose parts Is)
+chosen_by_is {c = c} {choose = choose} {parts = parts} {Is = Is} is choice = record {
+  again = λ y rest fits. ap (chosen choose) (is.again (parts y) rest (choice.fits y fits)) ∙ ap (λ o. placed o rest) (choice.back y fits);
+  takes = chosen_takes c choose parts Is is choice;
+}
+
+-- ---- values that pass a test
+
+passed_is : {A : Type 0} (b : Bool) (x y : A) → cond b (Some x) None ≡ Some y → (b ≡ true) × (x ≡ y)
+passed_is true x y e = (refl, some_is x y e)
+passed_is false x y e = absurd cc
+
+passed_forth : {A : Type 0} (test : A → Bool) (Is : A → Type 0) → ((x : A) → test x ≡ true → Is x) → (x y : A) → passed test x ≡ Some y → (x ≡ y) × Is y
+passed_forth test Is tells x y e =
+    let is = passed_is (test x) x y e in
+    (is.1, subst Is is.1 (tells x is.0))
+
+-- the test tells which values are meant
+pub within_is : {A : Type 0} {c : Codec A} {test : A → Bool} {Is : A → Type 0} → IsCodec c → ((x : A) → Is x → test x ≡ true) → ((x : A) → test x ≡ true → Is x) → ((x : A) → Is x → c.Fits x) → IsCodec (within c test Is)
+within_is {test = test} {Is = Is} is passes tells fits = chosen_by_is is (record {
+  back = λ x h. cond-true (test x) (Some x) None (passes x h);
+  forth = λ x y small e. passed_forth test Is tells x y e;
+  fits = fits;
+})
+
+-- ---- values with numbers
+
+find_holds : {A : Type 0} (test : A → Bool) (all : List A) (x : A) → find test all ≡ Some x → test x ≡ true
+find_holds test [] x e = absurd cc
+find_holds test (y ∷ ys) x e =
+    elim (cases_Bool (test y)) [
+      | inl yes' ↦ subst (λ z. test z ≡ true) (some_is y x (sym (cond-true (test y) (Some y) (find test ys) yes') ∙ e)) yes'
+      | inr no' ↦ find_holds test ys x (sym (cond-false (test y) (Some y) (find test ys) no') ∙ e)
+    ]
+
+numbered_takes : {A : Type 0} (number : A → ℕ) (all : List A) (bytes : List ℕ) (x : A) (rest : List ℕ) → chosen (λ n. find (λ y. number y == n) all) (byte_read bytes) ≡ found x rest → bytes ≡ number x ∷ rest
+numbered_takes number all [] x rest e = absurd cc
+numbered_takes number all (n ∷ bytes) x rest e =
+    let m = placed_found (find (λ y. number y == n) all) bytes x rest e in
+    let same = eqb-true (number x) n (find_holds (λ y. number y == n) all x m.0) in
+    ap (λ k. k ∷ bytes) (sym same) ∙ ap (λ r. number x ∷ r) m.1
+
+-- each value is found by its number
+pub numbered_is : {A : Type 0} (number : A → ℕ) (all : List A) → ((x : A) → find (λ y. number y == number x) all ≡ Some x) → IsCodec (numbered number all)
+numbered_is number all back = record {
+  again = λ x rest fits. ap (λ o. placed o rest) (back x);
+  takes = λ bytes x rest are e. record { parts = numbered_takes number all bytes x rest e; fits = tt };
 }
 
 -- ---- values that may be away
