@@ -1,5 +1,5 @@
 -- How values are spelled one behind another, and read again.
-use Rattle.std.specs.Prelude.{◌≡◌, ℕ, zero, suc, ◌<◌, ◌^◌, nat_lt, ◌==◌, Bool, if◌then◌else◌, List, [], ◌∷◌, ◌++◌, length, take, drop, slice_index, Option, Some, None, Result, Ok, Err, IfSome}
+use Rattle.std.specs.Prelude.{◌≡◌, ℕ, zero, suc, ◌<◌, ◌^◌, nat_lt, ◌==◌, Bool, if◌then◌else◌, List, [], ◌∷◌, ◌++◌, length, take, drop, slice_index, Option, Some, None, Result, Ok, Err}
 use Rattle.std.specs.List.{find, flat_map, AllByRecursion}
 use Rattle.std.specs.Int.{Width, w16, w32, w64, byte_len, to_le_bytes, from_le_bytes}
 use Rattle.wire_format.specs.declared.field_end.FieldEnd.{FieldEnd}
@@ -110,7 +110,7 @@ number32 = record { Fits = λ n. n < 2 ^ 32; spelled = number_spelled w32; read 
 abbrev pub number64 : Codec ℕ
 number64 = record { Fits = λ n. n < 2 ^ 64; spelled = number_spelled w64; read = number_read w64 }
 
--- ---- values that may be away, and lists
+-- ---- values that some others give
 
 -- the value where it passes the test
 abbrev pub passed : {A : Type 0} → (A → Bool) → A → Option A
@@ -128,28 +128,56 @@ numbered number all = record {
   read = λ bytes. chosen (λ n. find (λ value. number value == n) all) (byte_read bytes);
 }
 
--- 0, or 1 and the value
-abbrev pub optional_spelled : {A : Type 0} → (A → List ℕ) → Option A → List ℕ
-optional_spelled spelled None = 0 ∷ []
-optional_spelled spelled (Some x) = 1 ∷ spelled x
-
-abbrev pub optional_read : {A : Type 0} → (List ℕ → Reads A) → List ℕ → Reads (Option A)
-optional_read read [] = None
-optional_read read (zero ∷ rest) = Some (None, rest)
-optional_read read (suc zero ∷ rest) = made Some (read rest)
-optional_read read (suc (suc n) ∷ rest) = None
-
-abbrev pub optional : {A : Type 0} → Codec A → Codec (Option A)
-optional c = record {
-  Fits = λ value. IfSome value c.Fits;
-  spelled = optional_spelled c.spelled;
-  read = optional_read c.read;
-}
-
 -- what a number that was read says of the rest
 abbrev pub counted : {A : Type 0} → Reads ℕ → (ℕ → List ℕ → Reads A) → Reads A
 counted None next = None
 counted (Some (n, rest)) next = next n rest
+
+-- ---- values of several forms, each with a number before it
+
+-- no bytes
+abbrev pub nothing : Codec (Unit {0})
+nothing = record { Fits = λ x. Unit {0}; spelled = λ x. []; read = λ bytes. Some (tt, bytes) }
+
+-- when a value has a spelling, and that spelling
+pub record Shape : Type 1 where
+  pub Fits : Type 0
+  pub spelled : List ℕ
+
+-- the form's number in one byte, and what the form holds
+abbrev pub form : {A : Type 0} → ℕ → Codec A → A → Shape
+form tag c x = record { Fits = c.Fits x; spelled = tag ∷ c.spelled x }
+
+-- what is read behind a form's number
+pub record Row (B : Type 0) : Type 0 where
+  pub tag : ℕ
+  pub read : List ℕ → Reads B
+
+abbrev pub row : {A B : Type 0} → ℕ → Codec A → (A → B) → Row B
+row tag c make = record { tag = tag; read = λ rest. made make (c.read rest) }
+
+-- what is read behind a number by the first row of that number
+abbrev pub row_read : {B : Type 0} → List (Row B) → ℕ → List ℕ → Reads B
+row_read [] tag rest = None
+row_read (r ∷ rows) tag rest = if tag == r.tag then r.read rest else row_read rows tag rest
+
+-- values of several forms
+abbrev pub tagged : {B : Type 0} → (B → Shape) → List (Row B) → Codec B
+tagged shape rows = record {
+  Fits = λ x. (shape x).Fits;
+  spelled = λ x. (shape x).spelled;
+  read = λ bytes. counted (byte_read bytes) (row_read rows);
+}
+
+-- 0, or 1 and the value
+abbrev pub optional_shape : {A : Type 0} → Codec A → Option A → Shape
+optional_shape c None = form 0 nothing tt
+optional_shape c (Some x) = form 1 c x
+
+abbrev pub optional : {A : Type 0} → Codec A → Codec (Option A)
+optional c = tagged (optional_shape c) (row 0 nothing (λ x. None) ∷ row 1 c Some ∷ [])
+
+-- ---- lists and texts
 
 -- so many values, one behind another
 abbrev pub items_read : {A : Type 0} → (List ℕ → Reads A) → ℕ → List ℕ → Reads (List A)
@@ -176,11 +204,14 @@ text = record {
   read = λ bytes. counted (number_read w32 bytes) bytes_read;
 }
 
--- what a function returned is what reading gives, unless memory ran out
+-- ---- what a function does that reads from the front
+
+-- the end that the reading has
 abbrev pub Fails : {A : Type 0} → FieldEnd → Reads A → Type 0
 Fails NotSpelled reads = reads ≡ None
 Fails NoMemory reads = Unit {0}
 
-abbrev pub Gives : {X A : Type 0} → (X → A × List ℕ) → Result X FieldEnd → Reads A → Type 0
-Gives view (Ok x) reads = reads ≡ Some (view x)
-Gives view (Err end) reads = Fails end reads
+-- the value that was read, and the bytes that are left; or no value, unless memory ran out
+abbrev pub Takes : {A : Type 0} → Reads A → Result A FieldEnd → List ℕ → Type 0
+Takes reads (Ok x) rest = reads ≡ Some (x, rest)
+Takes reads (Err end) rest = Fails end reads

@@ -1,9 +1,9 @@
 -- What codecs made of codecs keep.
-use Rattle.std.proofs.Common.{◌≡◌, ℕ, zero, suc, Bool, true, false, cond, ◌==◌, inl, inr, List, [], ◌∷◌, ◌++◌, Option, Some, None, refl, sym, ap, subst, ◌∙◌, append_assoc}
-use Rattle.std.specs.List.{find}
+use Rattle.std.proofs.Common.{◌≡◌, ℕ, suc, Bool, true, false, cond, ◌==◌, inl, inr, List, [], ◌∷◌, ◌++◌, Option, Some, None, refl, sym, ap, subst, ◌∙◌, append_assoc}
+use Rattle.std.specs.List.{find, AllByRecursion}
 use Rattle.std.proofs.lemmas.Bool.{cases_Bool, cond-true, cond-false, eqb-true}
 use Rattle.sprite_ids.proofs.ListLaws.{some_is}
-use Rattle.wire_format.specs.Codec.{Reads, Codec, AreBytes, Took, IsCodec, found, beside, then_read, made, placed, chosen, ◌before◌, made_of, chosen_by, passed, within, byte_read, numbered, optional_spelled, optional_read, optional}
+use Rattle.wire_format.specs.Codec.{Reads, Codec, AreBytes, Took, IsCodec, found, beside, then_read, made, placed, chosen, counted, ◌before◌, made_of, chosen_by, passed, within, byte_read, numbered, nothing, Shape, Row, row, row_read, tagged, optional_shape, optional}
 
 -- ---- bytes
 
@@ -141,23 +141,69 @@ numbered_is number all back = record {
   takes = λ bytes x rest are e. record { parts = numbered_takes number all bytes x rest e; fits = tt };
 }
 
+-- ---- values of several forms
+
+pub counted_found : {A : Type 0} (reads : Reads ℕ) (next : ℕ → List ℕ → Reads A) (y : A) (rest : List ℕ) → counted reads next ≡ found y rest → (n : ℕ) × (between : List ℕ) × (reads ≡ found n between) × (next n between ≡ found y rest)
+counted_found None next y rest e = absurd cc
+counted_found (Some (n, r)) next y rest e = (n, r, refl, e)
+
+byte_found : (bytes : List ℕ) (n : ℕ) (rest : List ℕ) → byte_read bytes ≡ found n rest → bytes ≡ n ∷ rest
+byte_found [] n rest e = absurd cc
+byte_found (b ∷ bytes) n rest e = let same = some_pair b n bytes rest e in ap (λ m. m ∷ bytes) same.0 ∙ ap (λ r. n ∷ r) same.1
+
+pub nothing_is : IsCodec nothing
+nothing_is = record {
+  again = λ x rest fits. refl;
+  takes = λ bytes x rest are e. record { parts = (some_pair tt x bytes rest e).1; fits = tt };
+}
+
+-- the number and the bytes are the value's spelling and the rest
+pub record TookForm {B : Type 0} (shape : B → Shape) (tag : ℕ) (bytes : List ℕ) (value : B) (rest : List ℕ) : Type 0 where
+  pub parts : tag ∷ bytes ≡ (shape value).spelled ++ rest
+  pub fits : (shape value).Fits
+
+-- what a row reads has the form of its number
+pub IsRow : {B : Type 0} → (B → Shape) → Row B → Type 0
+IsRow {B} shape r = (bytes : List ℕ) (value : B) (rest : List ℕ) → AreBytes bytes → r.read bytes ≡ found value rest → TookForm shape r.tag bytes value rest
+
+pub row_is : {A B : Type 0} {c : Codec A} (shape : B → Shape) (tag : ℕ) → IsCodec c → (make : A → B) → ((x : A) → (shape (make x)).spelled ≡ tag ∷ c.spelled x) → ((x : A) → c.Fits x → (shape (make x)).Fits) → IsRow shape (row tag c make)
+unfolding IsRow
+row_is {c = c} shape tag is make spelled fits bytes value rest are e =
+    let m = made_found make (c.read bytes) value rest e in
+    let took = is.takes bytes m.0 rest are m.1 in
+    subst (λ y. TookForm shape tag bytes y rest) m.2 (record {
+      parts = ap (λ left. tag ∷ left) took.parts ∙ ap (λ front. front ++ rest) (sym (spelled m.0));
+      fits = fits m.0 took.fits;
+    })
+
+rows_take : {B : Type 0} (shape : B → Shape) (rows : List (Row B)) → AllByRecursion (IsRow shape) rows → (tag : ℕ) (bytes : List ℕ) (value : B) (rest : List ℕ) → AreBytes bytes → row_read rows tag bytes ≡ found value rest → TookForm shape tag bytes value rest
+unfolding IsRow
+rows_take shape [] are_rows tag bytes value rest are e = absurd cc
+rows_take shape (r ∷ rows) are_rows tag bytes value rest are e =
+    elim (cases_Bool (tag == r.tag)) [
+      | inl same ↦ subst (λ n. TookForm shape n bytes value rest) (sym (eqb-true tag r.tag same)) (are_rows.0 bytes value rest are (sym (cond-true (tag == r.tag) (r.read bytes) (row_read rows tag bytes) same) ∙ e))
+      | inr other ↦ rows_take shape rows are_rows.1 tag bytes value rest are (sym (cond-false (tag == r.tag) (r.read bytes) (row_read rows tag bytes) other) ∙ e)
+    ]
+
+tagged_takes : {B : Type 0} (shape : B → Shape) (rows : List (Row B)) → AllByRecursion (IsRow shape) rows → (bytes : List ℕ) (value : B) (rest : List ℕ) → AreBytes bytes → counted (byte_read bytes) (row_read rows) ≡ found value rest → Took (tagged shape rows) bytes value rest
+tagged_takes shape rows are_rows bytes value rest are e =
+    let m = counted_found (byte_read bytes) (row_read rows) value rest e in
+    let whole = byte_found bytes m.0 m.1 m.2 in
+    let took = rows_take shape rows are_rows m.0 m.1 value rest (bytes_behind (m.0 ∷ []) m.1 (subst AreBytes whole are)) m.3 in
+    record { parts = whole ∙ took.parts; fits = took.fits }
+
+pub tagged_is : {B : Type 0} (shape : B → Shape) (rows : List (Row B)) → ((value : B) (rest : List ℕ) → (shape value).Fits → (tagged shape rows).read ((shape value).spelled ++ rest) ≡ found value rest) → AllByRecursion (IsRow shape) rows → IsCodec (tagged shape rows)
+tagged_is shape rows again are_rows = record { again = again; takes = tagged_takes shape rows are_rows }
+
 -- ---- values that may be away
 
-optional_again : {A : Type 0} (c : Codec A) → IsCodec c → (o : Option A) (rest : List ℕ) → (optional c).Fits o → optional_read c.read (optional_spelled c.spelled o ++ rest) ≡ found o rest
+optional_again : {A : Type 0} (c : Codec A) → IsCodec c → (o : Option A) (rest : List ℕ) → (optional_shape c o).Fits → (optional c).read ((optional_shape c o).spelled ++ rest) ≡ found o rest
 optional_again c is None rest fits = refl
 optional_again c is (Some x) rest fits = ap (made Some) (is.again x rest fits)
 
-optional_takes : {A : Type 0} (c : Codec A) → IsCodec c → (bytes : List ℕ) (o : Option A) (rest : List ℕ) → AreBytes bytes → optional_read c.read bytes ≡ found o rest → Took (optional c) bytes o rest
-optional_takes c is [] o rest are e = absurd cc
-optional_takes {A} c is (zero ∷ bytes) o rest are e =
-    let none : Option A = None in
-    let same = some_pair none o bytes rest e in
-    subst (λ z. Took (optional c) (0 ∷ bytes) z rest) same.0 (record { parts = ap (λ r. 0 ∷ r) same.1; fits = tt })
-optional_takes c is (suc zero ∷ bytes) o rest are e =
-    let m = made_found Some (c.read bytes) o rest e in
-    let took = is.takes bytes m.0 rest (λ i. are (suc i)) m.1 in
-    subst (λ z. Took (optional c) (1 ∷ bytes) z rest) m.2 (record { parts = ap (λ r. 1 ∷ r) took.parts; fits = took.fits })
-optional_takes c is (suc (suc n) ∷ bytes) o rest are e = absurd cc
-
 pub optional_is : {A : Type 0} {c : Codec A} → IsCodec c → IsCodec (optional c)
-optional_is {c = c} is = record { again = optional_again c is; takes = optional_takes c is }
+optional_is {A} {c} is =
+    let none : Unit {0} → Option A = λ x. None in
+    let some : A → Option A = λ x. Some x in
+    tagged_is (optional_shape c) (row 0 nothing none ∷ row 1 c some ∷ []) (optional_again c is)
+    (row_is (optional_shape c) 0 nothing_is none (λ x. refl) (λ x h. h), (row_is (optional_shape c) 1 is some (λ x. refl) (λ x h. h), tt))

@@ -1,17 +1,13 @@
 -- Lists and texts are read as they were spelled.
-use Rattle.std.proofs.Common.{◌≡◌, ℕ, zero, suc, ◌^◌, ◌<◌, ◌≤◌, false, ltb, List, [], ◌∷◌, ◌++◌, length, take, drop, Some, None, refl, sym, ap, subst, ◌∙◌, append_assoc, arith}
+use Rattle.std.proofs.Common.{◌≡◌, ℕ, zero, suc, ◌^◌, ◌<◌, ◌≤◌, false, ltb, List, [], ◌∷◌, ◌++◌, length, take, drop, refl, sym, ap, subst, ◌∙◌, append_assoc, arith}
 use Rattle.std.specs.List.{flat_map, AllByRecursion}
 use Rattle.std.specs.Int.{w32}
 use Rattle.std.proofs.lemmas.Bool.{ltb-false, le-ltb}
 use Rattle.std.proofs.lemmas.List.{take_at, drop_at, take-append-drop, length-append, length-take}
 use Rattle.std.proofs.lemmas.List.Concat.{flat_map-cons}
-use Rattle.wire_format.specs.Codec.{Reads, Codec, AreBytes, Took, IsCodec, found, beside, then_read, made, counted, items_read, bytes_read, number_spelled, number_read, number32, listed, text}
-use Rattle.wire_format.specs.CodecLaws.{bytes_left, some_pair, made_found, then_found}
+use Rattle.wire_format.specs.Codec.{Codec, AreBytes, Took, IsCodec, found, beside, then_read, made, counted, items_read, bytes_read, number_spelled, number_read, number32, listed, text}
+use Rattle.wire_format.specs.CodecLaws.{counted_found, bytes_left, some_pair, made_found, then_found}
 use Rattle.wire_format.specs.NumberLaws.{number32_is, guard_passed}
-
-counted_found : {A : Type 0} (reads : Reads ℕ) (next : ℕ → List ℕ → Reads A) (y : A) (rest : List ℕ) → counted reads next ≡ found y rest → (n : ℕ) × (between : List ℕ) × (reads ≡ found n between) × (next n between ≡ found y rest)
-counted_found None next y rest e = absurd cc
-counted_found (Some (n, r)) next y rest e = (n, r, refl, e)
 
 -- ---- items
 

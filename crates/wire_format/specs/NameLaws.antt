@@ -1,16 +1,15 @@
 -- Names, numbers in ranges and choices of a few are read as they were spelled.
-use Rattle.std.proofs.Common.{◌≡◌, ℕ, ◌≤◌, ◌<◌, ◌^◌, Bool, true, false, cond, nat_eq, nat_le, nat_lt, List, [], ◌∷◌, ◌&&◌, inl, inr, Option, Some, None, refl, sym, ap, subst, ◌∙◌, arith}
-use Rattle.std.proofs.lemmas.Bool.{cases_Bool, cond-true, cond-false, and_parts, and_from, le-leb, leb-true, lt-ltb, ltb-true}
+use Rattle.std.proofs.Common.{◌≡◌, ℕ, Bool, true, false, nat_eq, nat_le, [], ◌∷◌, ◌&&◌, Some, refl, arith}
+use Rattle.std.proofs.lemmas.Bool.{and_parts, and_from, le-leb, leb-true, lt-ltb, ltb-true}
 use Rattle.std.specs.List.{find}
-use Rattle.sprite_ids.proofs.ListLaws.{some_is}
 use Rattle.sprite_ids.specs.Pid.{IsPid, home_of, birth_of}
 use Rattle.sprite_ids.specs.Errno.{errno_number}
 use Rattle.sprite_ids.specs.declared.errno.Errno.{Errno}
 use Rattle.sprite_ids.specs.declared.errno.Errno.TheVariants.{NoEntry, Exists, NotDir, IsDir, NotEmpty, BadFd, BadMode, TooBig, TooMany, Invalid, XDev, Busy, NoChild, NoProcess, Interrupted, NoServer, Unreachable, BadHost, BadName, BadAddress}
-use Rattle.wire_format.specs.Codec.{Codec, IsCodec, byte, number16, number32}
+use Rattle.wire_format.specs.Codec.{IsCodec}
 use Rattle.wire_format.specs.CodecLaws.{before_is, made_of_is, within_is, numbered_is}
-use Rattle.wire_format.specs.NumberLaws.{byte_is, number16_is, number32_is}
-use Rattle.wire_format.specs.Names.{IsKernel, is_kernel, kernel, is_pid, pid, is_descriptor, descriptor, file, device, stream, truth_number, truth, errnos, errno}
+use Rattle.wire_format.specs.NumberLaws.{byte_is, number32_is}
+use Rattle.wire_format.specs.Names.{kernel, is_pid, pid, descriptor, file, device, stream, truth_number, truth, errnos, errno}
 
 -- ---- numbers in ranges
 

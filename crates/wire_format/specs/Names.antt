@@ -1,5 +1,5 @@
 -- How numbers in ranges, names and choices of a few are spelled.
-use Rattle.std.specs.Prelude.{◌≡◌, ℕ, ◌≤◌, ◌<◌, ◌/◌, ◌%◌, nat_le, nat_lt, Bool, true, false, ◌&&◌, if◌then◌else◌, List, [], ◌∷◌, Option, Some, None}
+use Rattle.std.specs.Prelude.{ℕ, ◌≤◌, ◌<◌, nat_le, nat_lt, Bool, true, false, ◌&&◌, List, [], ◌∷◌}
 use Rattle.sprite_ids.specs.Pid.{IsPid, home_of, birth_of}
 use Rattle.sprite_ids.specs.Errno.{errno_number}
 use Rattle.sprite_ids.specs.declared.errno.Errno.{Errno}
@@ -7,9 +7,7 @@ use Rattle.sprite_ids.specs.declared.errno.Errno.TheVariants.{NoEntry, Exists, N
 use Rattle.sprite_ids.specs.declared.FileId.{FileId}
 use Rattle.sprite_ids.specs.declared.DeviceId.{DeviceId}
 use Rattle.sprite_ids.specs.declared.StreamNo.{StreamNo}
-use Rattle.sprite_ids.specs.declared.BlockNo.{BlockNo}
-use Rattle.sprite_ids.specs.declared.TxNo.{TxNo}
-use Rattle.wire_format.specs.Codec.{Codec, byte, number16, number32, ◌before◌, made_of, within, numbered}
+use Rattle.wire_format.specs.Codec.{Codec, byte, number32, ◌before◌, made_of, within, numbered}
 
 -- ---- numbers in ranges
 

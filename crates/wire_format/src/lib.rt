@@ -7,7 +7,9 @@ mod field_end;
 mod names;
 mod numbers;
 mod parts;
+mod reader;
 
 pub use descriptor::Descriptor;
 pub use field::Field;
 pub use field_end::FieldEnd;
+pub use reader::Reader;

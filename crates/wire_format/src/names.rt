@@ -1,23 +1,14 @@
 ghost use Rattle.std.specs.Prelude.{◌≡◌};
-ghost use Rattle.wire_format.specs.Codec.{Gives, passed, placed};
+ghost use Rattle.wire_format.specs.Codec.{passed};
 ghost use Rattle.wire_format.specs.Names.{descriptor, device, errno, file, is_pid, kernel, pid, stream, truth};
 ghost use Rattle.wire_format.specs.NameLaws.{descriptor_is, device_is, errno_is, file_is, kernel_is, pid_is, stream_is, truth_is};
 
 use crate::descriptor::Descriptor;
 use crate::field::Field;
 use crate::field_end::FieldEnd;
+use crate::reader::Reader;
 use sprite_ids::{DeviceId, Errno, FileId, Kernel, NoMemory, Pid, StreamNo};
 use std::alloc::Global;
-
-// The value, where there is one, and the bytes behind it.
-pub(crate) fn placed<T>(value: Option<T>, rest: &[u8]) -> Result<(T, &[u8]), FieldEnd>
-    ensures { Gives (λ x. (x.0, x.1.now)) result (placed value rest.now) }
-{
-    match value {
-        None => Err(FieldEnd::NotSpelled),
-        Some(value) => Ok((value, rest)),
-    }
-}
 
 impl Field for bool {
     ghost codec = { truth };
@@ -30,11 +21,10 @@ impl Field for bool {
         Ok(())
     }
 
-    fn take(alloc: Global, bytes: &[u8]) -> Result<(bool, &[u8]), FieldEnd> {
-        let (number, rest) = u8::take(alloc, bytes)?;
-        match number {
-            0 => Ok((false, rest)),
-            1 => Ok((true, rest)),
+    fn take(alloc: Global, from: &mut Reader) -> Result<bool, FieldEnd> {
+        match u8::take(alloc, from)? {
+            0 => Ok(false),
+            1 => Ok(true),
             _ => Err(FieldEnd::NotSpelled),
         }
     }
@@ -49,9 +39,9 @@ impl Field for Kernel {
         self.number().put(out)
     }
 
-    fn take(alloc: Global, bytes: &[u8]) -> Result<(Kernel, &[u8]), FieldEnd> {
-        let (number, rest) = u8::take(alloc, bytes)?;
-        placed(Kernel::new(number), rest)
+    fn take(alloc: Global, from: &mut Reader) -> Result<Kernel, FieldEnd> {
+        let number = u8::take(alloc, from)?;
+        Kernel::new(number).ok_or(FieldEnd::NotSpelled)
     }
 }
 
@@ -64,9 +54,9 @@ impl Field for Pid {
         self.number().put(out)
     }
 
-    fn take(alloc: Global, bytes: &[u8]) -> Result<(Pid, &[u8]), FieldEnd> {
-        let (number, rest) = u32::take(alloc, bytes)?;
-        placed(pid_of(number), rest)
+    fn take(alloc: Global, from: &mut Reader) -> Result<Pid, FieldEnd> {
+        let number = u32::take(alloc, from)?;
+        pid_of(number).ok_or(FieldEnd::NotSpelled)
     }
 }
 
@@ -87,9 +77,9 @@ impl Field for Descriptor {
         self.number().put(out)
     }
 
-    fn take(alloc: Global, bytes: &[u8]) -> Result<(Descriptor, &[u8]), FieldEnd> {
-        let (number, rest) = u8::take(alloc, bytes)?;
-        placed(Descriptor::new(number), rest)
+    fn take(alloc: Global, from: &mut Reader) -> Result<Descriptor, FieldEnd> {
+        let number = u8::take(alloc, from)?;
+        Descriptor::new(number).ok_or(FieldEnd::NotSpelled)
     }
 }
 
@@ -103,10 +93,11 @@ impl Field for FileId {
         self.number.put(out)
     }
 
-    fn take(alloc: Global, bytes: &[u8]) -> Result<(FileId, &[u8]), FieldEnd> {
-        let (server, rest) = Kernel::take(alloc, bytes)?;
-        let (number, rest) = u32::take(alloc, rest)?;
-        Ok((FileId { server, number }, rest))
+    fn take(alloc: Global, from: &mut Reader) -> Result<FileId, FieldEnd> {
+        Ok(FileId {
+            server: Kernel::take(alloc, from)?,
+            number: u32::take(alloc, from)?,
+        })
     }
 }
 
@@ -120,10 +111,11 @@ impl Field for DeviceId {
         self.number.put(out)
     }
 
-    fn take(alloc: Global, bytes: &[u8]) -> Result<(DeviceId, &[u8]), FieldEnd> {
-        let (kernel, rest) = Kernel::take(alloc, bytes)?;
-        let (number, rest) = u32::take(alloc, rest)?;
-        Ok((DeviceId { kernel, number }, rest))
+    fn take(alloc: Global, from: &mut Reader) -> Result<DeviceId, FieldEnd> {
+        Ok(DeviceId {
+            kernel: Kernel::take(alloc, from)?,
+            number: u32::take(alloc, from)?,
+        })
     }
 }
 
@@ -137,10 +129,11 @@ impl Field for StreamNo {
         self.number.put(out)
     }
 
-    fn take(alloc: Global, bytes: &[u8]) -> Result<(StreamNo, &[u8]), FieldEnd> {
-        let (kernel, rest) = Kernel::take(alloc, bytes)?;
-        let (number, rest) = u32::take(alloc, rest)?;
-        Ok((StreamNo { kernel, number }, rest))
+    fn take(alloc: Global, from: &mut Reader) -> Result<StreamNo, FieldEnd> {
+        Ok(StreamNo {
+            kernel: Kernel::take(alloc, from)?,
+            number: u32::take(alloc, from)?,
+        })
     }
 }
 
@@ -153,8 +146,8 @@ impl Field for Errno {
         self.number().put(out)
     }
 
-    fn take(alloc: Global, bytes: &[u8]) -> Result<(Errno, &[u8]), FieldEnd> {
-        let (number, rest) = u8::take(alloc, bytes)?;
-        placed(Errno::new(number), rest)
+    fn take(alloc: Global, from: &mut Reader) -> Result<Errno, FieldEnd> {
+        let number = u8::take(alloc, from)?;
+        Errno::new(number).ok_or(FieldEnd::NotSpelled)
     }
 }

@@ -3,6 +3,7 @@ ghost use Rattle.wire_format.specs.NumberLaws.{byte_is, number16_is, number32_is
 
 use crate::field::Field;
 use crate::field_end::FieldEnd;
+use crate::reader::Reader;
 use sprite_ids::NoMemory;
 use std::alloc::Global;
 
@@ -16,10 +17,10 @@ impl Field for u8 {
         Ok(())
     }
 
-    fn take(_alloc: Global, bytes: &[u8]) -> Result<(u8, &[u8]), FieldEnd> {
-        match bytes {
-            [] => Err(FieldEnd::NotSpelled),
-            [byte, rest @ ..] => Ok((*byte, rest)),
+    fn take(_alloc: Global, from: &mut Reader) -> Result<u8, FieldEnd> {
+        match from.front(1) {
+            None => Err(FieldEnd::NotSpelled),
+            Some(front) => Ok(front[0]),
         }
     }
 }
@@ -36,13 +37,11 @@ impl Field for u16 {
     }
 
     #[tactic(auto, unfolding(crate::specs::Codec::number_read))]
-    fn take(_alloc: Global, bytes: &[u8]) -> Result<(u16, &[u8]), FieldEnd> {
-        if bytes.len() < 2 {
-            return Err(FieldEnd::NotSpelled);
+    fn take(_alloc: Global, from: &mut Reader) -> Result<u16, FieldEnd> {
+        match from.front(2) {
+            None => Err(FieldEnd::NotSpelled),
+            Some(front) => Ok(u16::from_le_bytes([front[0], front[1]])),
         }
-        let (front, rest) = bytes.split_at(2);
-        let number = u16::from_le_bytes([front[0], front[1]]);
-        Ok((number, rest))
     }
 }
 
@@ -58,13 +57,11 @@ impl Field for u32 {
     }
 
     #[tactic(auto, unfolding(crate::specs::Codec::number_read))]
-    fn take(_alloc: Global, bytes: &[u8]) -> Result<(u32, &[u8]), FieldEnd> {
-        if bytes.len() < 4 {
-            return Err(FieldEnd::NotSpelled);
+    fn take(_alloc: Global, from: &mut Reader) -> Result<u32, FieldEnd> {
+        match from.front(4) {
+            None => Err(FieldEnd::NotSpelled),
+            Some(front) => Ok(u32::from_le_bytes([front[0], front[1], front[2], front[3]])),
         }
-        let (front, rest) = bytes.split_at(4);
-        let number = u32::from_le_bytes([front[0], front[1], front[2], front[3]]);
-        Ok((number, rest))
     }
 }
 
@@ -80,14 +77,12 @@ impl Field for u64 {
     }
 
     #[tactic(auto, unfolding(crate::specs::Codec::number_read))]
-    fn take(_alloc: Global, bytes: &[u8]) -> Result<(u64, &[u8]), FieldEnd> {
-        if bytes.len() < 8 {
-            return Err(FieldEnd::NotSpelled);
+    fn take(_alloc: Global, from: &mut Reader) -> Result<u64, FieldEnd> {
+        match from.front(8) {
+            None => Err(FieldEnd::NotSpelled),
+            Some(front) => Ok(u64::from_le_bytes([
+                front[0], front[1], front[2], front[3], front[4], front[5], front[6], front[7],
+            ])),
         }
-        let (front, rest) = bytes.split_at(8);
-        let number = u64::from_le_bytes([
-            front[0], front[1], front[2], front[3], front[4], front[5], front[6], front[7],
-        ]);
-        Ok((number, rest))
     }
 }

@@ -1,9 +1,10 @@
-ghost use Rattle.wire_format.specs.Codec.{◌before◌, Gives, items_read, listed, optional, text};
+ghost use Rattle.wire_format.specs.Codec.{◌before◌, Takes, items_read, listed, optional, text};
 ghost use Rattle.wire_format.specs.CodecLaws.{before_is, optional_is};
 ghost use Rattle.wire_format.specs.ListLaws.{listed_is, text_is};
 
-use crate::field::Field;
+use crate::field::{Field, put_form};
 use crate::field_end::FieldEnd;
+use crate::reader::Reader;
 use sprite_ids::{Bytes, Items, NoMemory};
 use std::alloc::Global;
 
@@ -15,20 +16,14 @@ impl<T: Field> Field for Option<T> {
     fn put(&self, out: &mut Vec<u8>) -> Result<(), NoMemory> {
         match self {
             None => Ok(out.push(0)?),
-            Some(value) => {
-                out.push(1)?;
-                value.put(out)
-            }
+            Some(value) => put_form(out, 1, value),
         }
     }
 
-    fn take(alloc: Global, bytes: &[u8]) -> Result<(Option<T>, &[u8]), FieldEnd> {
-        match bytes {
-            [0, rest @ ..] => Ok((None, rest)),
-            [1, rest @ ..] => {
-                let (value, rest) = T::take(alloc, rest)?;
-                Ok((Some(value), rest))
-            }
+    fn take(alloc: Global, from: &mut Reader) -> Result<Option<T>, FieldEnd> {
+        match u8::take(alloc, from)? {
+            0 => Ok(None),
+            1 => Ok(Some(T::take(alloc, from)?)),
             _ => Err(FieldEnd::NotSpelled),
         }
     }
@@ -45,14 +40,12 @@ impl Field for Bytes {
         Ok(())
     }
 
-    fn take(alloc: Global, bytes: &[u8]) -> Result<(Bytes, &[u8]), FieldEnd> {
-        let (len, rest) = u32::take(alloc, bytes)?;
-        let len = len as usize;
-        if rest.len() < len {
-            return Err(FieldEnd::NotSpelled);
+    fn take(alloc: Global, from: &mut Reader) -> Result<Bytes, FieldEnd> {
+        let len = u32::take(alloc, from)?;
+        match from.front(len as usize) {
+            None => Err(FieldEnd::NotSpelled),
+            Some(bytes) => Ok(Bytes::of_slice(alloc, bytes)?),
         }
-        let (text, rest) = rest.split_at(len);
-        Ok((Bytes::of_slice(alloc, text)?, rest))
     }
 }
 
@@ -69,28 +62,26 @@ impl<T: Field + Drop> Field for Items<T> {
         Ok(())
     }
 
-    fn take(alloc: Global, bytes: &[u8]) -> Result<(Items<T>, &[u8]), FieldEnd> {
-        let (count, rest) = u32::take(alloc, bytes)?;
-        items(alloc, count, rest)
+    fn take(alloc: Global, from: &mut Reader) -> Result<Items<T>, FieldEnd> {
+        let count = u32::take(alloc, from)?;
+        take_items(alloc, count, from)
     }
 }
 
 // So many items, one behind another.
-fn items<T: Field + Drop>(
+fn take_items<T: Field + Drop>(
     alloc: Global,
     count: u32,
-    bytes: &[u8],
-) -> Result<(Items<T>, &[u8]), FieldEnd>
-    ensures { Gives (λ x. (x.0, x.1.now)) result (items_read T.codec.read count bytes.now) }
+    from: &mut Reader,
+) -> Result<Items<T>, FieldEnd>
+    ensures { Takes (items_read T.codec.read count from.old) result from.new }
 {
     let mut items = Items::new(alloc);
-    let mut rest = bytes;
     for _ in 0..count {
-        let (item, after) = T::take(alloc, rest)?;
+        let item = T::take(alloc, from)?;
         items.push(item)?;
-        rest = after;
     }
-    Ok((items, rest))
+    Ok(items)
 }
 
 impl<A: Field + Drop, B: Field> Field for (A, B) {
@@ -103,9 +94,9 @@ impl<A: Field + Drop, B: Field> Field for (A, B) {
         self.1.put(out)
     }
 
-    fn take(alloc: Global, bytes: &[u8]) -> Result<((A, B), &[u8]), FieldEnd> {
-        let (first, rest) = A::take(alloc, bytes)?;
-        let (second, rest) = B::take(alloc, rest)?;
-        Ok(((first, second), rest))
+    fn take(alloc: Global, from: &mut Reader) -> Result<(A, B), FieldEnd> {
+        let first = A::take(alloc, from)?;
+        let second = B::take(alloc, from)?;
+        Ok((first, second))
     }
 }
