@@ -192,6 +192,14 @@ listed c = record {
   read = λ bytes. counted (number_read w32 bytes) (items_read c.read);
 }
 
+-- so many values, without their number
+abbrev pub repeated : {A : Type 0} → ℕ → Codec A → Codec (List A)
+repeated n c = record {
+  Fits = λ items. (length items ≡ n) × AllByRecursion c.Fits items;
+  spelled = λ items. flat_map c.spelled items;
+  read = λ bytes. items_read c.read n bytes;
+}
+
 -- so many bytes
 abbrev pub bytes_read : ℕ → List ℕ → Reads (List ℕ)
 bytes_read n bytes = if nat_lt (length bytes) n then None else Some (take n bytes, drop n bytes)
@@ -215,3 +223,12 @@ Fails NoMemory reads = Unit {0}
 abbrev pub Takes : {A : Type 0} → Reads A → Result A FieldEnd → List ℕ → Type 0
 Takes reads (Ok x) rest = reads ≡ Some (x, rest)
 Takes reads (Err end) rest = Fails end reads
+
+-- the value that is chosen, or none, unless memory ran out
+abbrev pub Lacks : {A : Type 0} → FieldEnd → Option A → Type 0
+Lacks NotSpelled choice = choice ≡ None
+Lacks NoMemory choice = Unit {0}
+
+abbrev pub Gives : {A : Type 0} → Option A → Result A FieldEnd → Type 0
+Gives choice (Ok x) = choice ≡ Some x
+Gives choice (Err end) = Lacks end choice

@@ -100,20 +100,20 @@ chosen_by_is {c = c} {choose = choose} {parts = parts} {Is = Is} is choice = rec
 
 -- ---- values that pass a test
 
-passed_is : {A : Type 0} (b : Bool) (x y : A) → cond b (Some x) None ≡ Some y → (b ≡ true) × (x ≡ y)
+pub passed_is : {A : Type 0} (b : Bool) (x y : A) → cond b (Some x) None ≡ Some y → (b ≡ true) × (x ≡ y)
 passed_is true x y e = (refl, some_is x y e)
 passed_is false x y e = absurd cc
 
-passed_forth : {A : Type 0} (test : A → Bool) (Is : A → Type 0) → ((x : A) → test x ≡ true → Is x) → (x y : A) → passed test x ≡ Some y → (x ≡ y) × Is y
-passed_forth test Is tells x y e =
+passed_forth : {A : Type 0} (c : Codec A) (test : A → Bool) (Is : A → Type 0) → ((x : A) → c.Fits x → test x ≡ true → Is x) → (x y : A) → c.Fits x → passed test x ≡ Some y → (x ≡ y) × Is y
+passed_forth c test Is tells x y small e =
     let is = passed_is (test x) x y e in
-    (is.1, subst Is is.1 (tells x is.0))
+    (is.1, subst Is is.1 (tells x small is.0))
 
 -- the test tells which values are meant
-pub within_is : {A : Type 0} {c : Codec A} {test : A → Bool} {Is : A → Type 0} → IsCodec c → ((x : A) → Is x → test x ≡ true) → ((x : A) → test x ≡ true → Is x) → ((x : A) → Is x → c.Fits x) → IsCodec (within c test Is)
-within_is {test = test} {Is = Is} is passes tells fits = chosen_by_is is (record {
+pub within_is : {A : Type 0} {c : Codec A} {test : A → Bool} {Is : A → Type 0} → IsCodec c → ((x : A) → Is x → test x ≡ true) → ((x : A) → c.Fits x → test x ≡ true → Is x) → ((x : A) → Is x → c.Fits x) → IsCodec (within c test Is)
+within_is {c = c} {test = test} {Is = Is} is passes tells fits = chosen_by_is is (record {
   back = λ x h. cond-true (test x) (Some x) None (passes x h);
-  forth = λ x y small e. passed_forth test Is tells x y e;
+  forth = passed_forth c test Is tells;
   fits = fits;
 })
 

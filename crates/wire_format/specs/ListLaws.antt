@@ -5,7 +5,7 @@ use Rattle.std.specs.Int.{w32}
 use Rattle.std.proofs.lemmas.Bool.{ltb-false, le-ltb}
 use Rattle.std.proofs.lemmas.List.{take_at, drop_at, take-append-drop, length-append, length-take}
 use Rattle.std.proofs.lemmas.List.Concat.{flat_map-cons}
-use Rattle.wire_format.specs.Codec.{Codec, AreBytes, Took, IsCodec, found, beside, then_read, made, counted, items_read, bytes_read, number_spelled, number_read, number32, listed, text}
+use Rattle.wire_format.specs.Codec.{Codec, AreBytes, Took, IsCodec, found, beside, then_read, made, counted, items_read, bytes_read, number_spelled, number_read, number32, listed, repeated, text}
 use Rattle.wire_format.specs.CodecLaws.{counted_found, bytes_left, some_pair, made_found, then_found}
 use Rattle.wire_format.specs.NumberLaws.{number32_is, guard_passed}
 
@@ -61,6 +61,17 @@ listed_takes c is bytes items rest are e =
 
 pub listed_is : {A : Type 0} {c : Codec A} → IsCodec c → IsCodec (listed c)
 listed_is {c = c} is = record { again = listed_again c is; takes = listed_takes c is }
+
+repeated_again : {A : Type 0} (n : ℕ) (c : Codec A) → IsCodec c → (items : List A) (rest : List ℕ) → (length items ≡ n) × AllByRecursion c.Fits items → items_read c.read n (flat_map c.spelled items ++ rest) ≡ found items rest
+repeated_again n c is items rest fits = ap (λ k. items_read c.read k (flat_map c.spelled items ++ rest)) (sym fits.0) ∙ items_again c is items rest fits.1
+
+repeated_takes : {A : Type 0} (n : ℕ) (c : Codec A) → IsCodec c → (bytes : List ℕ) (items : List A) (rest : List ℕ) → AreBytes bytes → items_read c.read n bytes ≡ found items rest → Took (repeated n c) bytes items rest
+repeated_takes n c is bytes items rest are e =
+    let took = items_take c is n bytes items rest are e in
+    record { parts = took.parts; fits = (took.count, took.fit) }
+
+pub repeated_is : {A : Type 0} (n : ℕ) {c : Codec A} → IsCodec c → IsCodec (repeated n c)
+repeated_is n {c = c} is = record { again = repeated_again n c is; takes = repeated_takes n c is }
 
 -- ---- texts
 

@@ -16,7 +16,7 @@ use Rattle.wire_format.specs.Names.{kernel, is_pid, pid, descriptor, file, devic
 pub kernel_is : IsCodec kernel
 kernel_is = within_is byte_is
     (λ k is. and_from (nat_le 1 k) (nat_le k 16) (le-leb 1 k is.0) (le-leb k 16 is.1))
-    (λ k e. let both = and_parts (nat_le 1 k) (nat_le k 16) e in (leb-true 1 k both.0, leb-true k 16 both.1))
+    (λ k fits e. let both = and_parts (nat_le 1 k) (nat_le k 16) e in (leb-true 1 k both.0, leb-true k 16 both.1))
     (λ k is. omega (arith, is.1))
 
 pid_passes : (n : ℕ) → IsPid n → is_pid n ≡ true
@@ -35,10 +35,10 @@ pid_tells n e =
     record { home_from = leb-true 1 (home_of n) a.0; home_to = leb-true (home_of n) 16 a.1; birth_from = leb-true 1 (birth_of n) b.1; birth_to = leb-true (birth_of n) 200 c.1 }
 
 pub pid_is : IsCodec pid
-pid_is = within_is number32_is pid_passes pid_tells (λ n is. omega (arith, is.home_to, is.birth_to))
+pid_is = within_is number32_is pid_passes (λ n fits e. pid_tells n e) (λ n is. omega (arith, is.home_to, is.birth_to))
 
 pub descriptor_is : IsCodec descriptor
-descriptor_is = within_is byte_is (λ n is. lt-ltb n 16 is) (λ n e. ltb-true n 16 e) (λ n is. omega (arith, is))
+descriptor_is = within_is byte_is (λ n is. lt-ltb n 16 is) (λ n fits e. ltb-true n 16 e) (λ n is. omega (arith, is))
 
 -- ---- names
 

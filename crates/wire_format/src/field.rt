@@ -19,7 +19,7 @@ pub trait Field: Sized {
 
     /// The value that is spelled at the front of the bytes that are left, which is read then. NotSpelled comes exactly
     /// where no value is spelled there; some bytes may be read then.
-    fn take(alloc: Global, from: &mut Reader) -> Result<Self, FieldEnd>
+    fn read_from(alloc: Global, from: &mut Reader) -> Result<Self, FieldEnd>
         ensures { Takes (codec.read from.old) result from.new };
 
     ghost law: { IsCodec codec };

@@ -2,12 +2,14 @@ ghost use Rattle.std.specs.Prelude.{◌≡◌};
 ghost use Rattle.wire_format.specs.Codec.{passed};
 ghost use Rattle.wire_format.specs.Names.{descriptor, device, errno, file, is_pid, kernel, pid, stream, truth};
 ghost use Rattle.wire_format.specs.NameLaws.{descriptor_is, device_is, errno_is, file_is, kernel_is, pid_is, stream_is, truth_is};
+ghost use Rattle.wire_format.specs.Objects.{block, transaction};
+ghost use Rattle.wire_format.specs.ObjectLaws.{block_is, transaction_is};
 
 use crate::descriptor::Descriptor;
 use crate::field::Field;
 use crate::field_end::FieldEnd;
 use crate::reader::Reader;
-use sprite_ids::{DeviceId, Errno, FileId, Kernel, NoMemory, Pid, StreamNo};
+use sprite_ids::{BlockNo, DeviceId, Errno, FileId, Kernel, NoMemory, Pid, StreamNo, TxNo};
 use std::alloc::Global;
 
 impl Field for bool {
@@ -21,8 +23,8 @@ impl Field for bool {
         Ok(())
     }
 
-    fn take(alloc: Global, from: &mut Reader) -> Result<bool, FieldEnd> {
-        match u8::take(alloc, from)? {
+    fn read_from(alloc: Global, from: &mut Reader) -> Result<bool, FieldEnd> {
+        match u8::read_from(alloc, from)? {
             0 => Ok(false),
             1 => Ok(true),
             _ => Err(FieldEnd::NotSpelled),
@@ -39,8 +41,8 @@ impl Field for Kernel {
         self.number().put(out)
     }
 
-    fn take(alloc: Global, from: &mut Reader) -> Result<Kernel, FieldEnd> {
-        let number = u8::take(alloc, from)?;
+    fn read_from(alloc: Global, from: &mut Reader) -> Result<Kernel, FieldEnd> {
+        let number = u8::read_from(alloc, from)?;
         Kernel::new(number).ok_or(FieldEnd::NotSpelled)
     }
 }
@@ -54,8 +56,8 @@ impl Field for Pid {
         self.number().put(out)
     }
 
-    fn take(alloc: Global, from: &mut Reader) -> Result<Pid, FieldEnd> {
-        let number = u32::take(alloc, from)?;
+    fn read_from(alloc: Global, from: &mut Reader) -> Result<Pid, FieldEnd> {
+        let number = u32::read_from(alloc, from)?;
         pid_of(number).ok_or(FieldEnd::NotSpelled)
     }
 }
@@ -77,8 +79,8 @@ impl Field for Descriptor {
         self.number().put(out)
     }
 
-    fn take(alloc: Global, from: &mut Reader) -> Result<Descriptor, FieldEnd> {
-        let number = u8::take(alloc, from)?;
+    fn read_from(alloc: Global, from: &mut Reader) -> Result<Descriptor, FieldEnd> {
+        let number = u8::read_from(alloc, from)?;
         Descriptor::new(number).ok_or(FieldEnd::NotSpelled)
     }
 }
@@ -93,10 +95,10 @@ impl Field for FileId {
         self.number.put(out)
     }
 
-    fn take(alloc: Global, from: &mut Reader) -> Result<FileId, FieldEnd> {
+    fn read_from(alloc: Global, from: &mut Reader) -> Result<FileId, FieldEnd> {
         Ok(FileId {
-            server: Kernel::take(alloc, from)?,
-            number: u32::take(alloc, from)?,
+            server: Kernel::read_from(alloc, from)?,
+            number: u32::read_from(alloc, from)?,
         })
     }
 }
@@ -111,10 +113,10 @@ impl Field for DeviceId {
         self.number.put(out)
     }
 
-    fn take(alloc: Global, from: &mut Reader) -> Result<DeviceId, FieldEnd> {
+    fn read_from(alloc: Global, from: &mut Reader) -> Result<DeviceId, FieldEnd> {
         Ok(DeviceId {
-            kernel: Kernel::take(alloc, from)?,
-            number: u32::take(alloc, from)?,
+            kernel: Kernel::read_from(alloc, from)?,
+            number: u32::read_from(alloc, from)?,
         })
     }
 }
@@ -129,10 +131,10 @@ impl Field for StreamNo {
         self.number.put(out)
     }
 
-    fn take(alloc: Global, from: &mut Reader) -> Result<StreamNo, FieldEnd> {
+    fn read_from(alloc: Global, from: &mut Reader) -> Result<StreamNo, FieldEnd> {
         Ok(StreamNo {
-            kernel: Kernel::take(alloc, from)?,
-            number: u32::take(alloc, from)?,
+            kernel: Kernel::read_from(alloc, from)?,
+            number: u32::read_from(alloc, from)?,
         })
     }
 }
@@ -146,8 +148,36 @@ impl Field for Errno {
         self.number().put(out)
     }
 
-    fn take(alloc: Global, from: &mut Reader) -> Result<Errno, FieldEnd> {
-        let number = u8::take(alloc, from)?;
+    fn read_from(alloc: Global, from: &mut Reader) -> Result<Errno, FieldEnd> {
+        let number = u8::read_from(alloc, from)?;
         Errno::new(number).ok_or(FieldEnd::NotSpelled)
+    }
+}
+
+impl Field for BlockNo {
+    ghost codec = { block };
+
+    ghost law = { block_is };
+
+    fn put(&self, out: &mut Vec<u8>) -> Result<(), NoMemory> {
+        self.0.put(out)
+    }
+
+    fn read_from(alloc: Global, from: &mut Reader) -> Result<BlockNo, FieldEnd> {
+        Ok(BlockNo(u16::read_from(alloc, from)?))
+    }
+}
+
+impl Field for TxNo {
+    ghost codec = { transaction };
+
+    ghost law = { transaction_is };
+
+    fn put(&self, out: &mut Vec<u8>) -> Result<(), NoMemory> {
+        self.0.put(out)
+    }
+
+    fn read_from(alloc: Global, from: &mut Reader) -> Result<TxNo, FieldEnd> {
+        Ok(TxNo(u32::read_from(alloc, from)?))
     }
 }

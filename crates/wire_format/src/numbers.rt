@@ -17,7 +17,7 @@ impl Field for u8 {
         Ok(())
     }
 
-    fn take(_alloc: Global, from: &mut Reader) -> Result<u8, FieldEnd> {
+    fn read_from(_alloc: Global, from: &mut Reader) -> Result<u8, FieldEnd> {
         match from.front(1) {
             None => Err(FieldEnd::NotSpelled),
             Some(front) => Ok(front[0]),
@@ -37,7 +37,7 @@ impl Field for u16 {
     }
 
     #[tactic(auto, unfolding(crate::specs::Codec::number_read))]
-    fn take(_alloc: Global, from: &mut Reader) -> Result<u16, FieldEnd> {
+    fn read_from(_alloc: Global, from: &mut Reader) -> Result<u16, FieldEnd> {
         match from.front(2) {
             None => Err(FieldEnd::NotSpelled),
             Some(front) => Ok(u16::from_le_bytes([front[0], front[1]])),
@@ -57,7 +57,7 @@ impl Field for u32 {
     }
 
     #[tactic(auto, unfolding(crate::specs::Codec::number_read))]
-    fn take(_alloc: Global, from: &mut Reader) -> Result<u32, FieldEnd> {
+    fn read_from(_alloc: Global, from: &mut Reader) -> Result<u32, FieldEnd> {
         match from.front(4) {
             None => Err(FieldEnd::NotSpelled),
             Some(front) => Ok(u32::from_le_bytes([front[0], front[1], front[2], front[3]])),
@@ -77,7 +77,7 @@ impl Field for u64 {
     }
 
     #[tactic(auto, unfolding(crate::specs::Codec::number_read))]
-    fn take(_alloc: Global, from: &mut Reader) -> Result<u64, FieldEnd> {
+    fn read_from(_alloc: Global, from: &mut Reader) -> Result<u64, FieldEnd> {
         match from.front(8) {
             None => Err(FieldEnd::NotSpelled),
             Some(front) => Ok(u64::from_le_bytes([

@@ -1,4 +1,6 @@
+ghost use Rattle.std.specs.Prelude.{◌≡◌, ◌++◌, OnOk};
 ghost use Rattle.wire_format.specs.Codec.{◌before◌, Takes, items_read, listed, optional, text};
+ghost use Rattle.std.specs.List.{AllByRecursion, flat_map};
 ghost use Rattle.wire_format.specs.CodecLaws.{before_is, optional_is};
 ghost use Rattle.wire_format.specs.ListLaws.{listed_is, text_is};
 
@@ -20,10 +22,10 @@ impl<T: Field> Field for Option<T> {
         }
     }
 
-    fn take(alloc: Global, from: &mut Reader) -> Result<Option<T>, FieldEnd> {
-        match u8::take(alloc, from)? {
+    fn read_from(alloc: Global, from: &mut Reader) -> Result<Option<T>, FieldEnd> {
+        match u8::read_from(alloc, from)? {
             0 => Ok(None),
-            1 => Ok(Some(T::take(alloc, from)?)),
+            1 => Ok(Some(T::read_from(alloc, from)?)),
             _ => Err(FieldEnd::NotSpelled),
         }
     }
@@ -40,8 +42,8 @@ impl Field for Bytes {
         Ok(())
     }
 
-    fn take(alloc: Global, from: &mut Reader) -> Result<Bytes, FieldEnd> {
-        let len = u32::take(alloc, from)?;
+    fn read_from(alloc: Global, from: &mut Reader) -> Result<Bytes, FieldEnd> {
+        let len = u32::read_from(alloc, from)?;
         match from.front(len as usize) {
             None => Err(FieldEnd::NotSpelled),
             Some(bytes) => Ok(Bytes::of_slice(alloc, bytes)?),
@@ -56,20 +58,28 @@ impl<T: Field + Drop> Field for Items<T> {
 
     fn put(&self, out: &mut Vec<u8>) -> Result<(), NoMemory> {
         (self.len() as u32).put(out)?;
-        for item in self.as_slice() {
-            item.put(out)?;
-        }
-        Ok(())
+        put_items(out, self.as_slice())
     }
 
-    fn take(alloc: Global, from: &mut Reader) -> Result<Items<T>, FieldEnd> {
-        let count = u32::take(alloc, from)?;
-        take_items(alloc, count, from)
+    fn read_from(alloc: Global, from: &mut Reader) -> Result<Items<T>, FieldEnd> {
+        let count = u32::read_from(alloc, from)?;
+        read_items(alloc, count, from)
     }
 }
 
-// So many items, one behind another.
-fn take_items<T: Field + Drop>(
+// Puts the items, one behind another.
+pub(crate) fn put_items<T: Field>(out: &mut Vec<u8>, items: &[T]) -> Result<(), NoMemory>
+    requires { AllByRecursion T.codec.Fits items.now }
+    ensures { OnOk result (out.new.items ≡ out.old.items ++ flat_map T.codec.spelled items.now) }
+{
+    for item in items {
+        item.put(out)?;
+    }
+    Ok(())
+}
+
+// Reads so many items, one behind another.
+fn read_items<T: Field + Drop>(
     alloc: Global,
     count: u32,
     from: &mut Reader,
@@ -78,7 +88,7 @@ fn take_items<T: Field + Drop>(
 {
     let mut items = Items::new(alloc);
     for _ in 0..count {
-        let item = T::take(alloc, from)?;
+        let item = T::read_from(alloc, from)?;
         items.push(item)?;
     }
     Ok(items)
@@ -94,9 +104,9 @@ impl<A: Field + Drop, B: Field> Field for (A, B) {
         self.1.put(out)
     }
 
-    fn take(alloc: Global, from: &mut Reader) -> Result<(A, B), FieldEnd> {
-        let first = A::take(alloc, from)?;
-        let second = B::take(alloc, from)?;
+    fn read_from(alloc: Global, from: &mut Reader) -> Result<(A, B), FieldEnd> {
+        let first = A::read_from(alloc, from)?;
+        let second = B::read_from(alloc, from)?;
         Ok((first, second))
     }
 }

@@ -1,7 +1,7 @@
 use Rattle.std.proofs.Common.{◌≡◌, ◌-◌}
 use Rattle.wire_format.specs.Codec.{items_read}
 use Rattle.wire_format.proofs.ReadingLaws.{with_front}
-use Rattle.wire_format.proofs.parts.take_items.Given as goal
+use Rattle.wire_format.proofs.parts.read_items.Given as goal
 
 -- the items so far, and those that are still read, are all
 abbrev pub invariant-loop : goal.invariant-loop
