@@ -1,14 +1,15 @@
 -- A packet is read as it was spelled, and nothing else reads as it.
-use Rattle.std.proofs.Common.{◌≡◌, ℕ, List, [], ◌∷◌, ◌++◌, Some, None, refl, sym, ap, ◌∙◌}
+use Rattle.std.proofs.Common.{◌≡◌, ℕ, List, [], ◌∷◌, ◌++◌, length, ◌==◌, Some, None, refl, sym, ap, ◌∙◌}
 use Rattle.std.specs.List.{AllByRecursion}
-use Rattle.std.proofs.lemmas.List.{append-nil}
+use Rattle.std.proofs.lemmas.List.{append-nil, nil_from_length}
+use Rattle.std.proofs.lemmas.Bool.{eqb-true}
 use Rattle.sprite_ids.proofs.ListLaws.{some_is}
 use Rattle.sprite_ids.specs.declared.TxNo.{TxNo}
 use Rattle.wire_format.specs.declared.packet.Body.{Body}
 use Rattle.wire_format.specs.declared.packet.Body.TheVariants.{Request, Reply}
 use Rattle.wire_format.specs.declared.packet.Packet.{Packet}
 use Rattle.wire_format.specs.Codec.{Reads, IsCodec, AreBytes, found, made, ◌before◌}
-use Rattle.wire_format.specs.CodecLaws.{before_is, IsRow, row_is, tagged_is}
+use Rattle.wire_format.specs.CodecLaws.{before_is, IsRow, row_is, tagged_is, passed_is}
 use Rattle.wire_format.specs.NameLaws.{kernel_is}
 use Rattle.wire_format.specs.ObjectLaws.{transaction_is}
 use Rattle.wire_format.specs.Requests.{request}
@@ -35,8 +36,9 @@ packet_is = tagged_is packet_shape packet_rows (λ p rest fits. body_again p.fro
 
 whole_found : {A : Type 0} (reads : Reads A) (x : A) → whole reads ≡ Some x → reads ≡ found x []
 whole_found None x e = absurd cc
-whole_found (Some (y, [])) x e = ap (λ z. found z []) (some_is y x e)
-whole_found (Some (y, byte ∷ rest)) x e = absurd cc
+whole_found (Some (y, rest)) x e =
+    let is = passed_is (length rest == 0) y x e in
+    ap (λ z. found z rest) is.1 ∙ ap (found x) (nil_from_length rest (eqb-true (length rest) 0 is.0))
 
 -- what was spelled is read again
 pub spelled_is_read : (p : Packet) → IsPacket p → reading (spelling p) ≡ Some p

@@ -1,5 +1,5 @@
 -- How packets are spelled: a byte for the kind, the two kernels, the number of the remote call, and the body.
-use Rattle.std.specs.Prelude.{◌≡◌, ℕ, Bool, true, false, List, [], ◌∷◌, Option, Some, None}
+use Rattle.std.specs.Prelude.{ℕ, Bool, true, false, ◌==◌, if◌then◌else◌, length, List, [], ◌∷◌, Option, Some, None}
 use Rattle.sprite_ids.specs.declared.TxNo.{TxNo}
 use Rattle.wire_format.specs.declared.packet.Body.{Body}
 use Rattle.wire_format.specs.declared.packet.Body.TheVariants.{Request, Reply}
@@ -42,8 +42,7 @@ spelling p = packet.spelled p
 -- the value, where no bytes are left
 abbrev pub whole : {A : Type 0} → Reads A → Option A
 whole None = None
-whole (Some (x, [])) = Some x
-whole (Some (x, byte ∷ rest)) = None
+whole (Some (x, rest)) = if length rest == 0 then Some x else None
 
 -- the packet that bytes spell, all of the bytes
 abbrev pub reading : List ℕ → Option Packet

@@ -2,10 +2,10 @@ ghost use Rattle.std.specs.Prelude.{◌≡◌, ◌++◌, ◌<◌, OnOk, length};
 ghost use Rattle.std.specs.List.{flat_map};
 ghost use Rattle.process_machine.specs.Machine.{ArePages};
 ghost use Rattle.process_machine.specs.Memory.{page_of};
-ghost use Rattle.wire_format.specs.Codec.{number64, optional, repeated, text};
+ghost use Rattle.wire_format.specs.Codec.{number64, optional, passed, repeated, text};
 ghost use Rattle.wire_format.specs.ListLaws.{repeated_is};
 ghost use Rattle.wire_format.specs.NumberLaws.{number64_is};
-ghost use Rattle.wire_format.specs.Objects.{image};
+ghost use Rattle.wire_format.specs.Objects.{are_pages, image};
 ghost use Rattle.wire_format.specs.ObjectLaws.{image_is};
 
 use crate::field::Field;
@@ -57,8 +57,20 @@ impl Field for Image {
         let counter = u16::read_from(alloc, from)?;
         let registers = <[u64; 8]>::read_from(alloc, from)?;
         let pages = Items::<Option<Bytes>>::read_from(alloc, from)?;
-        Image::of_parts(program, counter, registers, pages.into_vec()).ok_or(FieldEnd::NotSpelled)
+        image_of(program, counter, registers, pages.into_vec()).ok_or(FieldEnd::NotSpelled)
     }
+}
+
+// The image of these parts.
+fn image_of(
+    program: u8,
+    counter: u16,
+    registers: [u64; 8],
+    pages: Vec<Option<Bytes>>,
+) -> Option<Image>
+    ensures { result ≡ passed (λ m. are_pages m.pages) (record { number = program; counter = counter; registers = registers; pages = pages.items }) }
+{
+    Image::of_parts(program, counter, registers, pages)
 }
 
 // Puts the image's pages, each away or with its length and its bytes.

@@ -1,4 +1,4 @@
-ghost use Rattle.std.specs.Prelude.{◌≡◌, ◌<◌, ◌↔◌, IsTrue, length, take, drop, IfSome, IfNone};
+ghost use Rattle.std.specs.Prelude.{◌≡◌, ◌==◌, ◌<◌, ◌↔◌, IsTrue, length, take, drop, IfSome, IfNone};
 
 use std::marker::Model;
 
@@ -40,7 +40,7 @@ impl<'a> Reader<'a> {
 
     /// Whether no byte is left.
     pub fn is_empty(&self) -> bool
-        ensures { IsTrue result ↔ (length self.now ≡ 0) }
+        ensures { result ≡ (length self.now == 0) }
     {
         self.rest.is_empty()
     }
