@@ -1,4 +1,4 @@
-ghost use Rattle.std.specs.Prelude.{◌≡◌, ◌∷◌, ◌++◌, OnOk};
+ghost use Rattle.std.specs.Prelude.{◌≡◌, ◌∷◌, ◌++◌, IfOk, IfSome, OnOk};
 ghost use Rattle.wire_format.specs.Packets.{IsPacket, header, is_reply, packet, reading, spelling};
 ghost use Rattle.wire_format.specs.PacketLaws.{packet_is, read_is_spelled, spelled_is_read};
 
@@ -119,7 +119,10 @@ impl Message for Packet {
         Ok(bytes)
     }
 
-    fn read(alloc: Global, bytes: &[u8]) -> Result<Option<Packet>, NoMemory> {
+    fn read(alloc: Global, bytes: &[u8]) -> Result<Option<Packet>, NoMemory>
+        ensures value { IfOk result (λ message. message ≡ reading bytes.now) }
+        ensures known { IfOk result (λ message. IfSome message IsPacket) }
+    {
         let mut from = Reader::new(bytes);
         match Packet::read_from(alloc, &mut from) {
             Ok(packet) if from.is_empty() => Ok(Some(packet)),

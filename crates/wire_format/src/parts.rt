@@ -37,7 +37,8 @@ impl Field for Bytes {
     ghost law = { text_is };
 
     fn put(&self, out: &mut Vec<u8>) -> Result<(), NoMemory> {
-        (self.len() as u32).put(out)?;
+        let len = self.len() as u32;
+        len.put(out)?;
         out.extend_from_slice(self.as_slice())?;
         Ok(())
     }
