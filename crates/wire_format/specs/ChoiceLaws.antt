@@ -1,5 +1,5 @@
 -- Choices of a few are read as they were spelled.
-use Rattle.std.proofs.Common.{◌≡◌, Bool, true, false, nat_eq, List, [], ◌∷◌, Some, refl}
+use Rattle.std.proofs.Common.{◌≡◌, Bool, true, false, nat_eq, [], ◌∷◌, Some, refl}
 use Rattle.std.specs.List.{find}
 use Rattle.wire_format.specs.declared.name_op.NameOp.{NameOp}
 use Rattle.wire_format.specs.declared.name_op.NameOp.TheVariants as ops

@@ -1,5 +1,5 @@
 -- Paths, images, grants, streams and calls are read as they were spelled.
-use Rattle.std.proofs.Common.{◌≡◌, ℕ, ◌<◌, ◌^◌, Bool, true, cond, nat_eq, nat_le, ◌&&◌, List, [], ◌∷◌, ◌++◌, length, Option, Some, None, refl, sym, ap, ◌∙◌, arith}
+use Rattle.std.proofs.Common.{◌≡◌, ℕ, true, nat_eq, nat_le, ◌&&◌, List, [], ◌∷◌, ◌++◌, length, Option, Some, None, refl, sym, ap, ◌∙◌, arith}
 use Rattle.std.specs.List.{AllByRecursion, list_all}
 use Rattle.std.specs.Cmp.Lexicographic.{pointwise, bytes_decides, same_text}
 use Rattle.std.proofs.lemmas.Bool.{cond-true, and_parts, and_from, le-leb, leb-true, eqb-true, eq-eqb}
@@ -7,24 +7,19 @@ use Rattle.std.proofs.lemmas.List.Elements.{All-from_recursion, recursion_from_A
 use Rattle.sprite_ids.proofs.ListLaws.{each_weaken}
 use Rattle.sprite_paths.specs.Path.{text_of, clean_path, IsPath}
 use Rattle.sprite_paths.proofs.PathLaws.{clean_again, cleaned_path}
-use Rattle.process_machine.specs.Machine.{Machine, IsPage, ArePages}
-use Rattle.sprite_ids.specs.declared.BlockNo.{BlockNo}
-use Rattle.sprite_ids.specs.declared.TxNo.{TxNo}
-use Rattle.sprite_ids.specs.declared.Grant.{Grant}
-use Rattle.sprite_ids.specs.declared.Flushed.{Flushed}
+use Rattle.process_machine.specs.Machine.{IsPage, ArePages}
 use Rattle.wire_format.specs.declared.target.Target.{Target}
-use Rattle.wire_format.specs.declared.carried_stream.CarriedStream.{CarriedStream}
 use Rattle.wire_format.specs.declared.home_call.HomeCall.{HomeCall}
 use Rattle.wire_format.specs.declared.target.Target.TheVariants.{File, Device}
 use Rattle.wire_format.specs.declared.home_call.HomeCall.TheVariants.{Print, Exit, Getppid, Host, Tick, Fork, Wait, Kill}
-use Rattle.wire_format.specs.Codec.{Codec, IsCodec, found, made, text, optional, row}
+use Rattle.wire_format.specs.Codec.{IsCodec, found, made, text, optional, row}
 use Rattle.wire_format.specs.CodecLaws.{before_is, made_of_is, chosen_by_is, passed_is, within_is, nothing_is, IsRow, row_is, tagged_is, optional_is}
 use Rattle.wire_format.specs.NumberLaws.{byte_is, number16_is, number32_is, number64_is}
 use Rattle.wire_format.specs.ListLaws.{listed_is, repeated_is, text_is}
 use Rattle.wire_format.specs.Names.{file, device}
 use Rattle.wire_format.specs.NameLaws.{pid_is, file_is, device_is, stream_is, truth_is}
 use Rattle.wire_format.specs.ChoiceLaws.{carried_mode_is, caching_is}
-use Rattle.wire_format.specs.Objects.{block, transaction, as_cleaned, path_of, path, is_page, are_pages, machine_parts, IsImage, image, grant, flushed, target_shape, target, carried_stream, home_call_shape, home_call_rows, home_call}
+use Rattle.wire_format.specs.Objects.{block, transaction, as_cleaned, path_of, path, is_page, are_pages, machine_parts, image, grant, flushed, target_shape, target, carried_stream, home_call_shape, home_call_rows, home_call}
 
 -- ---- names
 

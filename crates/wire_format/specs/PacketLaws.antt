@@ -1,20 +1,17 @@
 -- A packet is read as it was spelled, and nothing else reads as it.
-use Rattle.std.proofs.Common.{◌≡◌, ℕ, List, [], ◌∷◌, ◌++◌, length, ◌==◌, Some, None, refl, sym, ap, ◌∙◌}
+use Rattle.std.proofs.Common.{◌≡◌, ℕ, List, [], ◌++◌, length, ◌==◌, Some, None, refl, sym, ap, ◌∙◌}
 use Rattle.std.specs.List.{AllByRecursion}
 use Rattle.std.proofs.lemmas.List.{append-nil, nil_from_length}
 use Rattle.std.proofs.lemmas.Bool.{eqb-true}
-use Rattle.sprite_ids.proofs.ListLaws.{some_is}
 use Rattle.sprite_ids.specs.declared.TxNo.{TxNo}
 use Rattle.wire_format.specs.declared.packet.Body.{Body}
 use Rattle.wire_format.specs.declared.packet.Body.TheVariants.{Request, Reply}
 use Rattle.wire_format.specs.declared.packet.Packet.{Packet}
-use Rattle.wire_format.specs.Codec.{Reads, IsCodec, AreBytes, found, made, ◌before◌}
+use Rattle.wire_format.specs.Codec.{Reads, IsCodec, AreBytes, found, made}
 use Rattle.wire_format.specs.CodecLaws.{before_is, IsRow, row_is, tagged_is, passed_is}
 use Rattle.wire_format.specs.NameLaws.{kernel_is}
 use Rattle.wire_format.specs.ObjectLaws.{transaction_is}
-use Rattle.wire_format.specs.Requests.{request}
 use Rattle.wire_format.specs.RequestLaws.{request_is}
-use Rattle.wire_format.specs.Replies.{reply}
 use Rattle.wire_format.specs.ReplyLaws.{reply_is}
 use Rattle.wire_format.specs.Packets.{header, body_shape, packet_shape, packet_rows, packet, IsPacket, spelling, whole, reading}
 

@@ -2,10 +2,9 @@
 use Rattle.std.specs.Prelude.{List, [], ◌∷◌}
 use Rattle.wire_format.specs.declared.opened_reply.OpenedReply.{OpenedReply}
 use Rattle.wire_format.specs.declared.value_reply.ValueReply.{ValueReply}
-use Rattle.sprite_ids.specs.declared.Flushed.{Flushed}
 use Rattle.wire_format.specs.declared.reply_body.ReplyBody.{ReplyBody}
 use Rattle.wire_format.specs.declared.reply_body.ReplyBody.TheVariants as replies
-use Rattle.wire_format.specs.Codec.{Codec, byte, number32, number64, text, optional, listed, nothing, Shape, form, Row, row, tagged, ◌before◌, made_of}
+use Rattle.wire_format.specs.Codec.{Codec, number32, number64, text, optional, nothing, Shape, form, Row, row, tagged, ◌before◌, made_of}
 use Rattle.wire_format.specs.Names.{errno}
 use Rattle.wire_format.specs.Objects.{path, grant, flushed, target}
 

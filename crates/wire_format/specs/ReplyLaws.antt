@@ -1,14 +1,12 @@
 -- Replies are read as they were spelled.
-use Rattle.std.proofs.Common.{◌≡◌, ℕ, List, [], ◌∷◌, ◌++◌, Some, refl, ap}
+use Rattle.std.proofs.Common.{◌≡◌, ℕ, List, ◌++◌, refl, ap}
 use Rattle.std.specs.List.{AllByRecursion}
-use Rattle.wire_format.specs.declared.opened_reply.OpenedReply.{OpenedReply}
-use Rattle.wire_format.specs.declared.value_reply.ValueReply.{ValueReply}
 use Rattle.wire_format.specs.declared.reply_body.ReplyBody.{ReplyBody}
 use Rattle.wire_format.specs.declared.reply_body.ReplyBody.TheVariants as replies
 use Rattle.wire_format.specs.Codec.{IsCodec, found, made}
 use Rattle.wire_format.specs.CodecLaws.{before_is, made_of_is, nothing_is, IsRow, row_is, tagged_is, optional_is}
-use Rattle.wire_format.specs.NumberLaws.{byte_is, number32_is, number64_is}
-use Rattle.wire_format.specs.ListLaws.{listed_is, text_is}
+use Rattle.wire_format.specs.NumberLaws.{number32_is, number64_is}
+use Rattle.wire_format.specs.ListLaws.{text_is}
 use Rattle.wire_format.specs.NameLaws.{errno_is}
 use Rattle.wire_format.specs.ObjectLaws.{path_is, grant_is, flushed_is, target_is}
 use Rattle.wire_format.specs.Replies.{opened_reply, value_reply, reply_shape, reply_rows, reply}

@@ -1,25 +1,11 @@
 -- Requests are read as they were spelled.
-use Rattle.std.proofs.Common.{◌≡◌, ℕ, List, [], ◌∷◌, ◌++◌, Some, refl, ap}
+use Rattle.std.proofs.Common.{◌≡◌, ℕ, List, ◌++◌, refl, ap}
 use Rattle.std.specs.List.{AllByRecursion}
-use Rattle.wire_format.specs.declared.opening_request.OpeningRequest.{OpeningRequest}
-use Rattle.wire_format.specs.declared.name_request.NameRequest.{NameRequest}
-use Rattle.wire_format.specs.declared.make_request.MakeRequest.{MakeRequest}
-use Rattle.wire_format.specs.declared.close_request.CloseRequest.{CloseRequest}
-use Rattle.wire_format.specs.declared.op_request.OpRequest.{OpRequest}
-use Rattle.wire_format.specs.declared.fetch_request.FetchRequest.{FetchRequest}
-use Rattle.wire_format.specs.declared.write_back_request.WriteBackRequest.{WriteBackRequest}
-use Rattle.wire_format.specs.declared.callback_request.CallbackRequest.{CallbackRequest}
-use Rattle.wire_format.specs.declared.move_request.MoveRequest.{MoveRequest}
-use Rattle.wire_format.specs.declared.transfer_request.TransferRequest.{TransferRequest}
-use Rattle.wire_format.specs.declared.home_request.HomeRequest.{HomeRequest}
-use Rattle.wire_format.specs.declared.ask_request.AskRequest.{AskRequest}
-use Rattle.wire_format.specs.declared.page_out_request.PageOutRequest.{PageOutRequest}
-use Rattle.wire_format.specs.declared.launch_request.LaunchRequest.{LaunchRequest}
 use Rattle.wire_format.specs.declared.request.Request.{Request}
 use Rattle.wire_format.specs.declared.request.Request.TheVariants as requests
 use Rattle.wire_format.specs.Codec.{IsCodec, found, made}
 use Rattle.wire_format.specs.CodecLaws.{before_is, made_of_is, nothing_is, IsRow, row_is, tagged_is, optional_is}
-use Rattle.wire_format.specs.NumberLaws.{byte_is, number32_is, number64_is}
+use Rattle.wire_format.specs.NumberLaws.{byte_is, number32_is}
 use Rattle.wire_format.specs.ListLaws.{listed_is, text_is}
 use Rattle.wire_format.specs.NameLaws.{kernel_is, pid_is, descriptor_is, file_is, device_is, stream_is, truth_is}
 use Rattle.wire_format.specs.ChoiceLaws.{name_op_is, file_op_is, call_kind_is, ask_kind_is}

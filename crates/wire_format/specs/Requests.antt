@@ -16,7 +16,7 @@ use Rattle.wire_format.specs.declared.page_out_request.PageOutRequest.{PageOutRe
 use Rattle.wire_format.specs.declared.launch_request.LaunchRequest.{LaunchRequest}
 use Rattle.wire_format.specs.declared.request.Request.{Request}
 use Rattle.wire_format.specs.declared.request.Request.TheVariants as requests
-use Rattle.wire_format.specs.Codec.{Codec, byte, number32, number64, text, optional, listed, nothing, Shape, form, Row, row, tagged, ◌before◌, made_of}
+use Rattle.wire_format.specs.Codec.{Codec, byte, number32, text, optional, listed, nothing, Shape, form, Row, row, tagged, ◌before◌, made_of}
 use Rattle.wire_format.specs.Names.{kernel, pid, descriptor, file, device, stream, truth}
 use Rattle.wire_format.specs.Choices.{name_op, file_op, call_kind, ask_kind}
 use Rattle.wire_format.specs.Objects.{block, path, image, target, carried_stream, home_call}

@@ -52,7 +52,7 @@ pub enum ReplyBody {
     Moved {
         /// The grant.
         grant: Option<Grant>,
-        /// How many grants of the stream the source keeps to take off.
+        /// How many grants of the stream go with it.
         grants: u32,
     },
     /// 11: a page of a process.
