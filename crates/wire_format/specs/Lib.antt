@@ -1,0 +1,16 @@
+pub mod Codec
+pub mod CodecLaws
+pub mod NumberLaws
+pub mod ListLaws
+pub mod Names
+pub mod NameLaws
+pub mod Choices
+pub mod ChoiceLaws
+pub mod Objects
+pub mod ObjectLaws
+pub mod Requests
+pub mod RequestLaws
+pub mod Replies
+pub mod ReplyLaws
+pub mod Packets
+pub mod PacketLaws

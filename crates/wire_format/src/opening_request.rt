@@ -1,0 +1,72 @@
+ghost use Rattle.wire_format.specs.Requests.{opening_request};
+ghost use Rattle.wire_format.specs.RequestLaws.{opening_request_is};
+
+use crate::descriptor::Descriptor;
+use crate::field::Field;
+use crate::field_end::FieldEnd;
+use crate::reader::Reader;
+use sprite_ids::{Bytes, Copying, NoMemory, Pid, StreamNo};
+use sprite_paths::Path;
+use std::alloc::Global;
+
+/// Asks a file server to open a path for a process's `open` (Welch and Ousterhout 1986; the caching of the file that
+/// is opened, Nelson, Welch and Ousterhout 1988).
+#[derive(Debug, PartialEq, Eq, Drop)]
+pub struct OpeningRequest {
+    /// The process whose call it is.
+    pub pid: Pid,
+    /// The number of that call.
+    pub number: u32,
+    /// The stream that the open makes.
+    pub stream: StreamNo,
+    /// The path that is opened.
+    pub path: Path,
+    /// The flags of the open, as the call has them.
+    pub flags: u8,
+    /// The descriptor that the call will answer.
+    pub fd: Descriptor,
+    /// The path text, as the call has it.
+    pub text: Bytes,
+}
+
+impl Field for OpeningRequest {
+    ghost codec = { opening_request };
+
+    ghost law = { opening_request_is };
+
+    fn put(&self, out: &mut Vec<u8>) -> Result<(), NoMemory> {
+        self.pid.put(out)?;
+        self.number.put(out)?;
+        self.stream.put(out)?;
+        self.path.put(out)?;
+        self.flags.put(out)?;
+        self.fd.put(out)?;
+        self.text.put(out)
+    }
+
+    fn read_from(alloc: Global, from: &mut Reader) -> Result<OpeningRequest, FieldEnd> {
+        Ok(OpeningRequest {
+            pid: Pid::read_from(alloc, from)?,
+            number: u32::read_from(alloc, from)?,
+            stream: StreamNo::read_from(alloc, from)?,
+            path: Path::read_from(alloc, from)?,
+            flags: u8::read_from(alloc, from)?,
+            fd: Descriptor::read_from(alloc, from)?,
+            text: Bytes::read_from(alloc, from)?,
+        })
+    }
+}
+
+impl Copying for OpeningRequest {
+    fn copy(&self, alloc: Global) -> Result<OpeningRequest, NoMemory> {
+        Ok(OpeningRequest {
+            pid: self.pid,
+            number: self.number,
+            stream: self.stream,
+            path: self.path.copy(alloc)?,
+            flags: self.flags,
+            fd: self.fd,
+            text: self.text.copy(alloc)?,
+        })
+    }
+}

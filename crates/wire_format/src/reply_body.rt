@@ -1,0 +1,156 @@
+ghost use Rattle.wire_format.specs.Replies.{reply};
+ghost use Rattle.wire_format.specs.ReplyLaws.{reply_is};
+
+use crate::field::{Field, put_form};
+use crate::field_end::FieldEnd;
+use crate::opened_reply::OpenedReply;
+use crate::reader::Reader;
+use crate::value_reply::ValueReply;
+use sprite_ids::{Bytes, Copying, Errno, Flushed, Grant, NoMemory};
+use sprite_paths::Path;
+use std::alloc::Global;
+
+/// What a kernel answers to another, with the fields of its form.
+#[derive(Debug, PartialEq, Eq, Drop)]
+pub enum ReplyBody {
+    /// 1: it is done.
+    Done,
+    /// 2: the domain of the path is here (Welch and Ousterhout 1986).
+    Here {
+        /// The path.
+        path: Path,
+    },
+    /// 3: the call is refused.
+    Refused {
+        /// Why.
+        errno: Errno,
+    },
+    /// 4: the path leads on into another domain (Welch and Ousterhout 1986).
+    Redirect {
+        /// The path.
+        path: Path,
+    },
+    /// 5: what an open made.
+    Opened(OpenedReply),
+    /// 6: what the call answers.
+    Value(ValueReply),
+    /// 7: the stamp was not the current one; this grant has it.
+    Again {
+        /// The grant.
+        grant: Grant,
+    },
+    /// 8: a block of a file, with the stamp at which it was read.
+    Block {
+        /// The stamp.
+        stamp: u32,
+        /// The bytes.
+        bytes: Bytes,
+    },
+    /// 9: the answer to a callback.
+    Flushed(Flushed),
+    /// 10: the stream has moved.
+    Moved {
+        /// The grant.
+        grant: Option<Grant>,
+        /// How many grants of the stream go with it.
+        grants: u32,
+    },
+    /// 11: a page of a process.
+    Page {
+        /// The bytes.
+        bytes: Bytes,
+    },
+    /// 12: the process is not here (Douglis and Ousterhout 1991).
+    Gone,
+}
+
+impl Field for ReplyBody {
+    ghost codec = { reply };
+
+    ghost law = { reply_is };
+
+    fn put(&self, out: &mut Vec<u8>) -> Result<(), NoMemory> {
+        match self {
+            ReplyBody::Done => Ok(out.push(1)?),
+            ReplyBody::Here { path } => put_form(out, 2, path),
+            ReplyBody::Refused { errno } => put_form(out, 3, errno),
+            ReplyBody::Redirect { path } => put_form(out, 4, path),
+            ReplyBody::Opened(fields) => put_form(out, 5, fields),
+            ReplyBody::Value(fields) => put_form(out, 6, fields),
+            ReplyBody::Again { grant } => put_form(out, 7, grant),
+            ReplyBody::Block { stamp, bytes } => {
+                put_form(out, 8, stamp)?;
+                bytes.put(out)
+            }
+            ReplyBody::Flushed(fields) => put_form(out, 9, fields),
+            ReplyBody::Moved { grant, grants } => put_form(out, 10, &(*grant, *grants)),
+            ReplyBody::Page { bytes } => put_form(out, 11, bytes),
+            ReplyBody::Gone => Ok(out.push(12)?),
+        }
+    }
+
+    fn read_from(alloc: Global, from: &mut Reader) -> Result<ReplyBody, FieldEnd> {
+        match u8::read_from(alloc, from)? {
+            1 => Ok(ReplyBody::Done),
+            2 => Ok(ReplyBody::Here {
+                path: Path::read_from(alloc, from)?,
+            }),
+            3 => Ok(ReplyBody::Refused {
+                errno: Errno::read_from(alloc, from)?,
+            }),
+            4 => Ok(ReplyBody::Redirect {
+                path: Path::read_from(alloc, from)?,
+            }),
+            5 => Ok(ReplyBody::Opened(OpenedReply::read_from(alloc, from)?)),
+            6 => Ok(ReplyBody::Value(ValueReply::read_from(alloc, from)?)),
+            7 => Ok(ReplyBody::Again {
+                grant: Grant::read_from(alloc, from)?,
+            }),
+            8 => Ok(ReplyBody::Block {
+                stamp: u32::read_from(alloc, from)?,
+                bytes: Bytes::read_from(alloc, from)?,
+            }),
+            9 => Ok(ReplyBody::Flushed(Flushed::read_from(alloc, from)?)),
+            10 => Ok(ReplyBody::Moved {
+                grant: Option::<Grant>::read_from(alloc, from)?,
+                grants: u32::read_from(alloc, from)?,
+            }),
+            11 => Ok(ReplyBody::Page {
+                bytes: Bytes::read_from(alloc, from)?,
+            }),
+            12 => Ok(ReplyBody::Gone),
+            _ => Err(FieldEnd::NotSpelled),
+        }
+    }
+}
+
+impl Copying for ReplyBody {
+    fn copy(&self, alloc: Global) -> Result<ReplyBody, NoMemory> {
+        Ok(match self {
+            ReplyBody::Done => ReplyBody::Done,
+            ReplyBody::Here { path } => ReplyBody::Here {
+                path: path.copy(alloc)?,
+            },
+            ReplyBody::Refused { errno } => ReplyBody::Refused { errno: *errno },
+            ReplyBody::Redirect { path } => ReplyBody::Redirect {
+                path: path.copy(alloc)?,
+            },
+            ReplyBody::Opened(fields) => ReplyBody::Opened(*fields),
+            ReplyBody::Value(fields) => ReplyBody::Value(fields.copy(alloc)?),
+            ReplyBody::Again { grant } => ReplyBody::Again { grant: *grant },
+            ReplyBody::Block { stamp, bytes } => ReplyBody::Block {
+                stamp: *stamp,
+                bytes: bytes.copy(alloc)?,
+            },
+            ReplyBody::Flushed(fields) => ReplyBody::Flushed(fields.copy(alloc)?),
+            ReplyBody::Moved { grant, grants } => ReplyBody::Moved {
+                grant: *grant,
+                grants: *grants,
+            },
+            ReplyBody::Page { bytes } => ReplyBody::Page {
+                bytes: bytes.copy(alloc)?,
+            },
+            ReplyBody::Gone => ReplyBody::Gone,
+        })
+    }
+}

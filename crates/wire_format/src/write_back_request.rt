@@ -1,0 +1,59 @@
+ghost use Rattle.wire_format.specs.Requests.{write_back_request};
+ghost use Rattle.wire_format.specs.RequestLaws.{write_back_request_is};
+
+use crate::field::Field;
+use crate::field_end::FieldEnd;
+use crate::reader::Reader;
+use sprite_ids::{BlockNo, Bytes, Copying, FileId, NoMemory};
+use std::alloc::Global;
+
+/// Brings a file server a block that the client wrote in its cache (Nelson, Welch and Ousterhout 1988).
+#[derive(Debug, PartialEq, Eq, Drop)]
+pub struct WriteBackRequest {
+    /// The file.
+    pub file: FileId,
+    /// The stamp that the client has.
+    pub stamp: u32,
+    /// The block.
+    pub block: BlockNo,
+    /// The file's size at the client, in bytes.
+    pub size: u32,
+    /// The block's bytes.
+    pub bytes: Bytes,
+}
+
+impl Field for WriteBackRequest {
+    ghost codec = { write_back_request };
+
+    ghost law = { write_back_request_is };
+
+    fn put(&self, out: &mut Vec<u8>) -> Result<(), NoMemory> {
+        self.file.put(out)?;
+        self.stamp.put(out)?;
+        self.block.put(out)?;
+        self.size.put(out)?;
+        self.bytes.put(out)
+    }
+
+    fn read_from(alloc: Global, from: &mut Reader) -> Result<WriteBackRequest, FieldEnd> {
+        Ok(WriteBackRequest {
+            file: FileId::read_from(alloc, from)?,
+            stamp: u32::read_from(alloc, from)?,
+            block: BlockNo::read_from(alloc, from)?,
+            size: u32::read_from(alloc, from)?,
+            bytes: Bytes::read_from(alloc, from)?,
+        })
+    }
+}
+
+impl Copying for WriteBackRequest {
+    fn copy(&self, alloc: Global) -> Result<WriteBackRequest, NoMemory> {
+        Ok(WriteBackRequest {
+            file: self.file,
+            stamp: self.stamp,
+            block: self.block,
+            size: self.size,
+            bytes: self.bytes.copy(alloc)?,
+        })
+    }
+}
