@@ -1,51 +1,59 @@
--- The list of dirty blocks, from the oldest to the newest.
-use Rattle.std.specs.Prelude.{ℕ, ◌+◌, ◌≤◌, ◌<◌, take, drop, ◌==◌, nat_le, Bool, ◌&&◌, if◌then◌else◌, List, [], ◌∷◌, Option, option_map}
-use Rattle.std.specs.List.{AllByRecursion, find, list_any}
+-- The list of dirty blocks with the steps at which they were made dirty, the last one first.
+use Rattle.std.specs.Prelude.{ℕ, ◌+◌, ◌≤◌, ◌==◌, nat_le, Bool, ◌&&◌, if◌then◌else◌, List, [], ◌∷◌, Option, Some, None, option_map}
+use Rattle.std.specs.List.{AllByRecursion, IsDistinct, list_any}
+use Rattle.std.specs.Option.{option_or}
+use Rattle.std.specs.Map.{keys_of}
 use Rattle.sprite_ids.specs.declared.FileId.{FileId}
 use Rattle.sprite_ids.specs.declared.BlockNo.{BlockNo}
-use Rattle.sprite_ids.specs.Lists.{without, EachOnce}
-use Rattle.write_delay.specs.declared.delays.Delayed.{Delayed}
+use Rattle.sprite_ids.specs.Lists.{without}
+use Rattle.write_delay.specs.declared.delayed_block.DelayedBlock.{DelayedBlock}
+
+-- dirty blocks with their steps
+abbrev pub Listed : Type 0
+Listed = List (DelayedBlock × ℕ)
+
+-- whether two blocks are one
+abbrev pub is_block : DelayedBlock → DelayedBlock → Bool
+is_block block other = (block.file.server == other.file.server) && (block.file.number == other.file.number) && (block.block.0 == other.block.0)
 
 -- whether the entry is of that block of that file
-abbrev pub is_of : FileId → BlockNo → Delayed → Bool
-is_of file block entry = (entry.file.server == file.server) && (entry.file.number == file.number) && (entry.block.0 == block.0)
+abbrev pub is_of : FileId → BlockNo → DelayedBlock × ℕ → Bool
+is_of file block entry = is_block (record { file = file; block = block }) entry.0
+
+-- no block is listed twice
+abbrev pub AreOnce : Listed → Type 0
+AreOnce entries = IsDistinct is_block (keys_of entries)
 
 -- whether the block is listed
-abbrev pub listed : List Delayed → FileId → BlockNo → Bool
+abbrev pub listed : Listed → FileId → BlockNo → Bool
 listed entries file block = list_any (is_of file block) entries
 
--- the list with one more entry, which stands behind those that aren't newer
-abbrev pub placed : Delayed → List Delayed → List Delayed
-placed entry [] = entry ∷ []
-placed entry (first ∷ rest) = if nat_le first.step entry.step then first ∷ placed entry rest else entry ∷ first ∷ rest
-
 -- the list after the block was made dirty at that step: its old entry gives way to the new one
-abbrev pub dirtied : List Delayed → FileId → BlockNo → ℕ → List Delayed
-dirtied entries file block step = placed (record { file = file; block = block; step = step }) (without (is_of file block) entries)
+abbrev pub dirtied : Listed → FileId → BlockNo → ℕ → Listed
+dirtied entries file block step = (record { file = file; block = block }, step) ∷ without (is_of file block) entries
 
 -- whether the block was made dirty at least 30 steps before that step
-abbrev pub is_due : ℕ → Delayed → Bool
-is_due step entry = nat_le (entry.step + 30) step
+abbrev pub is_due : ℕ → DelayedBlock × ℕ → Bool
+is_due step entry = nat_le (entry.1 + 30) step
 
--- the first block that is due
-abbrev pub due : List Delayed → ℕ → Option (FileId × BlockNo)
-due entries step = option_map (λ entry. (entry.file, entry.block)) (find (is_due step) entries)
+-- of the entries that are due, the one that was made first
+abbrev pub oldest_due : Listed → ℕ → Option (DelayedBlock × ℕ)
+oldest_due [] step = None
+oldest_due (entry ∷ rest) step = option_or (oldest_due rest step) (if is_due step entry then Some entry else None)
 
--- no entry is older than one before it
-abbrev pub InOrder : List Delayed → Type 0
-InOrder [] = Unit {0}
-InOrder (first ∷ rest) = AllByRecursion (λ entry. first.step ≤ entry.step) rest × InOrder rest
+-- a block by its file and its number
+abbrev pub named : DelayedBlock → FileId × BlockNo
+named block = (block.file, block.block)
 
--- whether the two are of one block
-abbrev pub same_block : Delayed → Delayed → Bool
-same_block entry other = is_of entry.file entry.block other
+-- the block of that entry
+abbrev pub due : Listed → ℕ → Option (FileId × BlockNo)
+due entries step = option_map (λ entry. named entry.0) (oldest_due entries step)
 
--- what a list of delayed blocks always is
-pub record AreDelays (entries : List Delayed) : Type 0 where
-  pub in_order : InOrder entries
-  pub each_once : EachOnce same_block entries
+-- no entry is newer by its step than one that was made after it
+abbrev pub Falls : Listed → Type 0
+Falls [] = Unit {0}
+Falls (entry ∷ rest) = AllByRecursion (λ older. older.1 ≤ entry.1) rest × Falls rest
 
--- an entry of that step belongs there: the entries before aren't newer, and those from there on are
-pub record IsPlace (step : ℕ) (entries : List Delayed) (at : ℕ) : Type 0 where
-  pub before : AllByRecursion (λ entry. entry.step ≤ step) (take at entries)
-  pub after : AllByRecursion (λ entry. step < entry.step) (drop at entries)
+-- they are so with one more before them, of that step
+abbrev pub FallsFrom : ℕ → Listed → Type 0
+FallsFrom step entries = AllByRecursion (λ older. older.1 ≤ step) entries × Falls entries

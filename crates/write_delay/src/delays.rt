@@ -1,9 +1,9 @@
-ghost use Rattle.std.specs.Prelude.{◌≡◌, ◌≤◌, ◌<◌, [], false, OnOk, OnErr, IsTrue, length};
-ghost use Rattle.std.specs.List.{position};
-ghost use Rattle.std.specs.Vec.{vec_capacity, vec_len};
-ghost use Rattle.sprite_ids.specs.Lists.{without, EachOnce};
-ghost use Rattle.write_delay.specs.Delays.{is_of, listed, dirtied, due, same_block, InOrder, IsPlace};
+ghost use Rattle.std.specs.Prelude.{◌≡◌, ◌≤◌, ◌+◌, [], false, nat_le, IfOk, OnOk, OnErr, IsTrue, length};
+ghost use Rattle.sprite_ids.specs.Lists.{without};
+ghost use Rattle.write_delay.specs.Delays.{is_of, listed, dirtied, due, AreOnce, FallsFrom};
 
+use crate::delayed_block::DelayedBlock;
+use lru::LruCache;
 use sprite_ids::{BlockNo, FileId, NoMemory};
 use std::alloc::Global;
 use std::marker::Model;
@@ -11,57 +11,60 @@ use std::marker::Model;
 /// After how many recorded steps a dirty block is due (this project).
 const DELAY: u64 = 30;
 
-/// A dirty block, with the recorded step at which it was made dirty last.
-#[derive(Clone, Copy, Debug, PartialEq, Eq)]
-pub struct Delayed {
-    pub file: FileId,
-    pub block: BlockNo,
-    /// Counted by the client that holds the block.
-    pub step: u64,
-}
-
-/// The dirty blocks that wait to be written back, each once, from the oldest to the newest: in the order of their
-/// steps, and those of one step in the order in which they were made dirty.
+/// The dirty blocks that wait to be written back, each once. Contracts see them with the recorded step at which each was
+/// made dirty last, from the one that was made dirty last to the one that was first.
+///
+/// Each call takes constant time on average, but for `due` where a step was less than one before it, which looks at all.
 #[derive(Debug, Drop)]
 pub struct Delays {
-    entries: Vec<Delayed>,
+    blocks: LruCache<DelayedBlock, u64>,
+    // Whether no block was made dirty at a step less than that of a block before it.
+    in_order: bool,
 }
 
 impl Model for Delays {
-    ghost use Rattle.std.specs.Prelude.{Some, List};
-    ghost use Rattle.write_delay.specs.declared.delays.Delayed.{Delayed};
-    ghost use Rattle.write_delay.specs.Delays.{AreDelays};
+    ghost use Rattle.std.specs.Prelude.{◌≡◌, ◌≤◌, ◌^◌, ℕ, true, List};
+    ghost use Rattle.write_delay.specs.declared.delayed_block.DelayedBlock.{DelayedBlock};
+    ghost use Rattle.write_delay.specs.Delays.{Falls};
 
-    ghost Value = { List Delayed };
+    ghost Value = { List (DelayedBlock × ℕ) };
 
-    ghost view = { λ delays. delays.entries.items };
+    ghost view = { λ delays. delays.blocks.entries };
 
-    ghost invariant = { λ delays. AreDelays delays.entries.items };
+    ghost invariant = { λ delays. (2 ^ 63 ≤ delays.blocks.cap) × (delays.in_order ≡ true → Falls delays.blocks.entries) };
 }
 
 impl Delays {
-    /// No blocks. It takes no memory, and keeps the allocator.
-    pub fn new(alloc: Global) -> Delays
-        ensures { result ≡ [] }
+    /// No blocks. It keeps the allocator. The one error is want of memory.
+    pub fn new(alloc: Global) -> Result<Delays, NoMemory>
+        ensures { IfOk result (λ delays. delays ≡ []) }
     {
-        Delays {
-            entries: Vec::new(alloc),
-        }
+        Ok(Delays {
+            blocks: LruCache::unbounded(alloc)?,
+            in_order: true,
+        })
     }
 
-    /// Lists the block as made dirty at that step. A block that is listed already leaves its old place and step.
+    /// How many blocks are listed. That none is listed twice comes with it.
+    pub fn len(&self) -> usize
+        ensures len { result ≡ length self.now }
+        ensures once { AreOnce self.now }
+    {
+        self.blocks.len()
+    }
+
+    /// Lists the block as the one that was made dirty last, at that step. A block that is listed already leaves its old place
+    /// and step.
     ///
-    /// Where steps never fall from call to call, the block's place is the last one. Want of memory, the one error, comes
-    /// only for a block that isn't listed, and the list is then as before.
+    /// Want of memory, the one error, comes only for a block that isn't listed, and the list is then as before.
     pub fn dirtied(&mut self, file: FileId, block: BlockNo, step: u64) -> Result<(), NoMemory>
         ensures ok { OnOk result (self.new ≡ dirtied self.old file block step) }
         ensures err { OnErr result (self.new ≡ self.old) }
         ensures absent { OnErr result (listed self.old file block ≡ false) }
     {
-        let entry = Delayed { file, block, step };
-        take_off(&mut self.entries, entry.file, entry.block);
-        let at = place_for(self.entries.as_slice(), step);
-        self.entries.insert(at, entry)?;
+        let in_order = self.blocks.len() == 0 || self.is_followed_by(step);
+        self.blocks.put(DelayedBlock { file, block }, step)?;
+        self.in_order = in_order;
         Ok(())
     }
 
@@ -69,61 +72,60 @@ impl Delays {
     pub fn cleaned(&mut self, file: FileId, block: BlockNo)
         ensures { self.new ≡ without (is_of file block) self.old }
     {
-        take_off(&mut self.entries, file, block);
+        if self.blocks.len() == 0 {
+            return;
+        }
+        let _step = self.blocks.pop(&DelayedBlock { file, block });
     }
 
     /// Whether the block is listed.
     pub fn listed(&self, file: FileId, block: BlockNo) -> bool
         ensures { result ≡ listed self.now file block }
     {
-        self.entries
-            .iter()
-            .any(|entry| entry.file == file && entry.block == block)
+        self.blocks.contains(&DelayedBlock { file, block })
     }
 
-    /// The oldest block that was made dirty at least 30 steps before this one; None exactly where there is none.
+    /// Of the blocks that were made dirty at least 30 steps before this one, that which was first; None exactly where there is
+    /// none.
     pub fn due(&self, step: u64) -> Option<(FileId, BlockNo)>
-        ensures block { result ≡ due self.now step }
-        ensures in_order { InOrder self.now }
+        ensures { result ≡ due self.now step }
     {
-        let oldest = self.entries.first()?;
-        if step.saturating_sub(oldest.step) >= DELAY {
-            Some((oldest.file, oldest.block))
-        } else {
-            None
+        if !self.in_order {
+            return oldest_due(&self.blocks, step);
+        }
+        let (block, made) = self.blocks.peek_lru()?;
+        if !is_due(*made, step) {
+            return None;
+        }
+        Some(block.named())
+    }
+
+    // Whether the list stays in the order of steps with one more block, made dirty at that step.
+    fn is_followed_by(&self, step: u64) -> bool
+        ensures { IsTrue result → FallsFrom step self.now }
+    {
+        match self.blocks.peek_mru() {
+            Some((_block, newest)) => self.in_order && *newest <= step,
+            None => true,
         }
     }
 }
 
-// Where the block is listed.
-fn place_of(entries: &[Delayed], file: FileId, block: BlockNo) -> Option<usize>
-    ensures { result ≡ position (is_of file block) entries.now }
+// Whether a block that was made dirty at the first step is due at the second.
+fn is_due(made: u64, step: u64) -> bool
+    ensures { result ≡ nat_le (made + 30) step }
 {
-    entries
-        .iter()
-        .position(|entry| entry.file == file && entry.block == block)
+    step.saturating_sub(made) >= DELAY
 }
 
-// Takes the block off the list. Where it was listed, the list then has room for one more.
-fn take_off(entries: &mut Vec<Delayed>, file: FileId, block: BlockNo)
-    requires { EachOnce same_block entries.old.items }
-    ensures list { entries.new.items ≡ without (is_of file block) entries.old.items }
-    ensures room { IsTrue (listed entries.old.items file block) → vec_len entries.new < vec_capacity entries.new }
+// Of the blocks that are due, that which was made dirty first.
+fn oldest_due(blocks: &LruCache<DelayedBlock, u64>, step: u64) -> Option<(FileId, BlockNo)>
+    ensures { result ≡ due blocks.now.entries step }
 {
-    if let Some(at) = place_of(entries.as_slice(), file, block) {
-        entries.remove(at);
+    for (block, made) in blocks.iter().rev() {
+        if is_due(*made, step) {
+            return Some(block.named());
+        }
     }
-}
-
-// Where an entry of that step belongs.
-fn place_for(entries: &[Delayed], step: u64) -> usize
-    requires { InOrder entries.now }
-    ensures within { result ≤ length entries.now }
-    ensures place { IsPlace step entries.now result }
-{
-    let mut at = entries.len();
-    while at > 0 && entries[at - 1].step > step {
-        at -= 1;
-    }
-    at
+    None
 }

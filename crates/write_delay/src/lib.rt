@@ -2,9 +2,11 @@
 //! Ousterhout 1988; that time is counted in recorded steps is this project's).
 #![tactic(auto)]
 
+mod delayed_block;
 mod delays;
 
-pub use delays::{Delayed, Delays};
+pub use delayed_block::DelayedBlock;
+pub use delays::Delays;
 
 #[cfg(test)]
 mod tests;
