@@ -19,8 +19,12 @@ enum Act {
     Expire(u32),
     // Asks how many copies may come to kernel 2.
     Offered,
+    // Asks whether the copy of the second number may come to the kernel of the first one.
+    Comes(u8, u64),
     // Kernel 1 asks kernels 2 and 3, of which 3 is to answer.
     Broadcast,
+    // Asks whether the owner of the call of that number has it, and so may answer.
+    MayAnswer(u32),
     // Kernel 2 can't answer the call of that number.
     Silent(u32),
     // Asks how many timers of kernel 1 may fire.
@@ -41,6 +45,8 @@ enum Seen {
     Old,
     GivenUp(u64, u64),
     Copies(usize),
+    Comes(bool),
+    MayAnswer(bool),
     Timers(usize),
     Quiet(bool),
     State(Option<CallState>),
@@ -75,23 +81,110 @@ const GIVEN_UP: [(Act, Seen); 9] = [
     (Act::Expire(1), Seen::GivenUp(0, 8)),
 ];
 
-// The first packet of kernel 1 to kernel 3 is lost.
-const BROADCAST: [(Act, Seen); 15] = [
+// The first packet of kernel 1 to kernel 3 is lost. That kernel 2 has the call lets nobody answer.
+const BROADCAST: [(Act, Seen); 18] = [
     (Act::Quiet, Seen::Quiet(true)),
     (Act::Broadcast, Seen::Sent(Fate::Once)),
     (Act::Due, Seen::Timers(0)),
     (Act::Deliver(1), Seen::Request),
     (Act::State(1), Seen::State(Some(CallState::Taken))),
+    (Act::MayAnswer(1), Seen::MayAnswer(false)),
     (Act::Silent(1), Seen::Copies(0)),
     (Act::Due, Seen::Timers(1)),
     (Act::Quiet, Seen::Quiet(false)),
     (Act::Expire(1), Seen::Sent(Fate::Once)),
     (Act::Deliver(5), Seen::Old),
     (Act::Deliver(7), Seen::Request),
+    (Act::MayAnswer(1), Seen::MayAnswer(true)),
     (Act::Answer(1), Seen::Sent(Fate::Once)),
+    (Act::MayAnswer(1), Seen::MayAnswer(false)),
     (Act::Deliver(9), Seen::Reply),
     (Act::State(1), Seen::State(Some(CallState::Done))),
     (Act::Quiet, Seen::Quiet(true)),
+];
+
+// Of the packets from kernel 1 to kernel 2 the first and the third are late, the fourth and the fifth doubled, and the sixth and
+// the seventh late; of those from kernel 2 to kernel 1 the first, the second and the fifth are late. Each packet takes two numbers
+// of copies.
+const LATE: [(Act, Seen); 71] = [
+    // A late request stays behind a request of another call to the same kernel.
+    (Act::Begin(Tries::Always), Seen::Sent(Fate::Late)),
+    (Act::Offered, Seen::Copies(1)),
+    (Act::Comes(2, 1), Seen::Comes(true)),
+    (Act::Broadcast, Seen::Sent(Fate::Once)),
+    (Act::Offered, Seen::Copies(1)),
+    (Act::Comes(2, 1), Seen::Comes(false)),
+    (Act::Comes(2, 3), Seen::Comes(true)),
+    (Act::Due, Seen::Timers(0)),
+    // Then it may come, and is the request.
+    (Act::Deliver(3), Seen::Request),
+    (Act::Offered, Seen::Copies(1)),
+    (Act::Comes(2, 1), Seen::Comes(true)),
+    (Act::State(1), Seen::State(Some(CallState::Sent))),
+    (Act::Deliver(1), Seen::Request),
+    (Act::State(1), Seen::State(Some(CallState::Taken))),
+    // A late reply stays behind the reply of another server.
+    (Act::Answer(1), Seen::Sent(Fate::Late)),
+    (Act::Comes(1, 7), Seen::Comes(true)),
+    (Act::Deliver(5), Seen::Request),
+    (Act::Answer(2), Seen::Sent(Fate::Once)),
+    (Act::Comes(1, 7), Seen::Comes(false)),
+    (Act::Comes(1, 9), Seen::Comes(true)),
+    (Act::Deliver(9), Seen::Reply),
+    (Act::Comes(1, 7), Seen::Comes(true)),
+    (Act::State(1), Seen::State(Some(CallState::Answered))),
+    (Act::Due, Seen::Timers(0)),
+    (Act::Deliver(7), Seen::Reply),
+    (Act::State(1), Seen::State(Some(CallState::Done))),
+    (Act::Quiet, Seen::Quiet(true)),
+    // A copy for another kernel doesn't hold a late request back. This one comes after its call is done, and is old.
+    (Act::Broadcast, Seen::Sent(Fate::Late)),
+    (Act::Comes(2, 11), Seen::Comes(true)),
+    (Act::Deliver(13), Seen::Request),
+    (Act::Answer(3), Seen::Sent(Fate::Once)),
+    (Act::Deliver(15), Seen::Reply),
+    (Act::State(3), Seen::State(Some(CallState::Done))),
+    (Act::Due, Seen::Timers(0)),
+    (Act::Quiet, Seen::Quiet(false)),
+    (Act::Comes(2, 11), Seen::Comes(true)),
+    (Act::Deliver(11), Seen::Old),
+    (Act::Quiet, Seen::Quiet(true)),
+    // A late reply is overtaken by the one that answers the repeated request, and is old.
+    (Act::Begin(Tries::Always), Seen::Sent(Fate::Twice)),
+    (Act::Offered, Seen::Copies(2)),
+    (Act::Deliver(17), Seen::Request),
+    (Act::Answer(4), Seen::Sent(Fate::Late)),
+    (Act::Comes(1, 19), Seen::Comes(true)),
+    (Act::Deliver(18), Seen::Again(Fate::Once)),
+    (Act::Comes(1, 19), Seen::Comes(false)),
+    (Act::Deliver(21), Seen::Reply),
+    (Act::Comes(1, 19), Seen::Comes(true)),
+    (Act::Quiet, Seen::Quiet(false)),
+    (Act::Deliver(19), Seen::Old),
+    (Act::Quiet, Seen::Quiet(true)),
+    // The one that answers the repeated request is late itself, and is old.
+    (Act::Begin(Tries::Always), Seen::Sent(Fate::Twice)),
+    (Act::Deliver(24), Seen::Request),
+    (Act::Answer(5), Seen::Sent(Fate::Once)),
+    (Act::Deliver(23), Seen::Again(Fate::Late)),
+    (Act::Comes(1, 27), Seen::Comes(false)),
+    (Act::Deliver(25), Seen::Reply),
+    (Act::Comes(1, 27), Seen::Comes(true)),
+    (Act::State(5), Seen::State(Some(CallState::Done))),
+    (Act::Deliver(27), Seen::Old),
+    (Act::Quiet, Seen::Quiet(true)),
+    // Where all copies for a kernel are late, each of them may come first.
+    (Act::Begin(Tries::Eight), Seen::Sent(Fate::Late)),
+    (Act::Broadcast, Seen::Sent(Fate::Late)),
+    (Act::Offered, Seen::Copies(2)),
+    (Act::Comes(2, 29), Seen::Comes(true)),
+    (Act::Comes(2, 31), Seen::Comes(true)),
+    (Act::Deliver(31), Seen::Request),
+    (Act::Comes(2, 29), Seen::Comes(true)),
+    (Act::Deliver(29), Seen::Request),
+    (Act::Offered, Seen::Copies(0)),
+    (Act::Answer(6), Seen::Sent(Fate::Once)),
+    (Act::Deliver(35), Seen::Reply),
 ];
 
 // Begins a call of kernel 1 to kernel 2.
@@ -122,6 +215,18 @@ fn broadcast(alloc: Global, wire: &mut Wire<Bytes, PlanLink>) -> Result<Seen, Fa
         [fate, _] => Ok(Seen::Sent(*fate)),
         _ => Err("two packets")?,
     }
+}
+
+// Asks whether the copy may come to the kernel next.
+fn comes(
+    alloc: Global,
+    wire: &Wire<Bytes, PlanLink>,
+    kernel: u8,
+    copy: CopyNo,
+) -> Result<Seen, Fail> {
+    let kernel = Kernel::new(kernel).ok_or("the kernel")?;
+    let offered = wire.copies_for(alloc, kernel)?;
+    Ok(Seen::Comes(offered.iter().any(|number| *number == copy)))
 }
 
 // Kernel 2 goes silent.
@@ -189,7 +294,9 @@ fn perform(alloc: Global, wire: &mut Wire<Bytes, PlanLink>, act: Act) -> Result<
             let kernel = Kernel::new(2).ok_or("kernel 2")?;
             Ok(Seen::Copies(wire.copies_for(alloc, kernel)?.len()))
         }
+        Act::Comes(kernel, copy) => comes(alloc, wire, kernel, CopyNo(copy)),
         Act::Broadcast => broadcast(alloc, wire),
+        Act::MayAnswer(tx) => Ok(Seen::MayAnswer(wire.may_answer(TxNo(tx)))),
         Act::Silent(tx) => silent(wire, TxNo(tx)),
         Act::Due => {
             let kernel = Kernel::new(1).ok_or("kernel 1")?;
@@ -258,5 +365,23 @@ fn a_broadcast_is_answered_by_its_owner(rt: HostRuntime) -> Result<(), Fail> {
     let alloc = rt.alloc();
     let link = link(alloc, &[(1, 3, 1, 1, Fate::Lost)])?;
     assert_eq!(rt; first_wrong(alloc, link, &BROADCAST)?, None);
+    Ok(())
+}
+
+#[test]
+fn a_late_copy_goes_behind_the_others(rt: HostRuntime) -> Result<(), Fail> {
+    let alloc = rt.alloc();
+    let link = link(
+        alloc,
+        &[
+            (1, 2, 1, 1, Fate::Late),
+            (1, 2, 3, 1, Fate::Late),
+            (1, 2, 4, 2, Fate::Twice),
+            (1, 2, 6, 2, Fate::Late),
+            (2, 1, 1, 2, Fate::Late),
+            (2, 1, 5, 1, Fate::Late),
+        ],
+    )?;
+    assert_eq!(rt; first_wrong(alloc, link, &LATE)?, None);
     Ok(())
 }
