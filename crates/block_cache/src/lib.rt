@@ -26,4 +26,6 @@ pub use laws::{
 };
 
 #[cfg(test)]
+mod random_tests;
+#[cfg(test)]
 mod tests;
