@@ -1,0 +1,223 @@
+-- What holds of a cluster on its way holds after a process's turn.
+use Rattle.std.proofs.Common.{◌≡◌, ℕ, zero, suc, ◌+◌, ◌-◌, ◌≤◌, ◌<◌, List, [], ◌∷◌, ◌++◌, Option, Some, None, refl, ap, sym, subst, ◌∙◌, arith, slice_get, slice_set, slice_index}
+use Rattle.std.specs.List.{AllByRecursion}
+use Rattle.std.proofs.lemmas.List.{append-nil}
+use Rattle.sprite_ids.specs.Pid.{home_of}
+use Rattle.sprite_ids.specs.declared.running.Ending.{Ending}
+use Rattle.sprite_ids.proofs.ListLaws.{some_is, each_weaken, each_set, get_within, get_set_same, set_same}
+use Rattle.process_machine.specs.declared.call.Call.{Call}
+use Rattle.process_machine.specs.declared.call.Call.TheVariants as call
+use Rattle.process_machine.specs.declared.call.Reply.{Reply}
+use Rattle.process_machine.specs.declared.program.Program.{Program}
+use Rattle.process_machine.specs.Machine.{Machine}
+use Rattle.process_machine.specs.Facts.{AllPresent}
+use Rattle.process_machine.specs.Steps.{step_of}
+use Rattle.process_machine.specs.Runs.{ahead, at_next_call, call_there}
+use Rattle.process_machine.proofs.MachineLaws.{Stands as StandsAt, ahead_sum, at_call as stands_at_call, at_bad_step as stands_at_bad_step, next_found, bursts_within}
+use Rattle.process_machine.proofs.StepLaws.{ahead_keeps, given_keeps, present_ahead, present_given}
+use Rattle.unix_calls.specs.declared.description.Description.{Description}
+use Rattle.unix_calls.specs.declared.entry.Entry.{Entry}
+use Rattle.unix_calls.specs.declared.event.Event.TheVariants.{Burst}
+use Rattle.unix_calls.specs.declared.event.Rec.{Rec}
+use Rattle.unix_calls.specs.State.{Process, Unix}
+use Rattle.unix_calls.specs.Answers.{program_at}
+use Rattle.unix_calls.specs.Boot.{boot_of}
+use Rattle.unix_calls.specs.After.{after, state_from, state_of}
+use Rattle.unix_calls.proofs.HistoryLaws.{state_from-append}
+use Rattle.call_journal.specs.Journal.{journal_of}
+use Rattle.call_journal.specs.Once.{progress_from, call_events}
+use Rattle.call_journal.specs.Units.{units_of}
+use Rattle.call_journal.proofs.GrowthLaws.{journals_grow}
+use Rattle.sprite_cluster.specs.declared.kept.Kept.{Kept}
+use Rattle.sprite_cluster.specs.declared.running.Running.{Running}
+use Rattle.sprite_cluster.specs.Answers.{IsBuilt, ending_of, count_at, answer_of, ticks_after}
+use Rattle.sprite_cluster.specs.Turns.{IsPlainProgram, at_home, whole_entry, entered_records, returned_records, call_records, image_after, kept_after, Stops, at_call, at_bad_step, Goes, on, calls, with_image, Turned}
+use Rattle.sprite_cluster.specs.Carried.{processes_of, unix_of, IsCarried, AreCarried, Stands}
+use Rattle.sprite_cluster.specs.Histories.{TurnedOn}
+use Rattle.sprite_cluster.proofs.BuiltLaws.{built_there}
+use Rattle.sprite_cluster.proofs.EntryLaws.{after_is}
+use Rattle.sprite_cluster.proofs.HistoryLaws.{progress_more, progress_stays, no_events, own_progress, once_called, once_ran, differ, units_more}
+use Rattle.sprite_cluster.proofs.KeptLaws.{kept_at, Stay, carried_set, rises_set, set_again}
+
+-- the cluster with another process at a place, other counts and a longer trace
+abbrev pub changed : Running → ℕ → Kept → List ℕ → List Rec → Running
+changed r i k ticks trace = record { kept = slice_set r.kept i k; ticks = ticks; trace = trace }
+
+-- counts stay under the units of a longer trace
+counts_stay : (trace more : List Rec) (ticks : List ℕ) → AllByRecursion (λ count. count ≤ units_of trace) ticks → AllByRecursion (λ count. count ≤ units_of (trace ++ more)) ticks
+counts_stay trace more ticks h =
+    let longer = units_more trace more in
+    each_weaken (λ count. count ≤ units_of trace) (λ count. count ≤ units_of (trace ++ more)) ticks (λ (count : ℕ) (under : count ≤ units_of trace). omega (arith, under, longer)) h
+
+-- another process stays, whose calls the further records aren't about
+stays : (c : Description) (trace more : List Rec) (pid : ℕ) → ((other : ℕ) → (other ≡ pid → ⊥) → call_events other more ≡ []) → Stay c trace (trace ++ more) pid
+stays c trace more pid none = λ k image apart carried.
+    let longer = units_more trace more in
+    record {
+      program = carried.program;
+      found = carried.found;
+      plain = carried.plain;
+      same = carried.same;
+      ran = carried.ran;
+      few = omega (arith, longer, carried.few);
+      leads = carried.leads;
+      present = carried.present;
+      counted = omega (arith, longer, carried.counted);
+      turn = λ lives. progress_stays k.pid trace more (none k.pid apart) ∙ carried.turn lives;
+    }
+
+-- ---- a burst
+
+ran_carried : (c : Description) (trace : List Rec) (k : Kept) (base image : Machine) (p : Program) (count : ℕ) → IsCarried c trace k base → program_at c.programs base.number ≡ Some p → count ≤ 10000 → ahead p k.image count ≡ Some image → IsCarried c (trace ++ at_home k.pid (Burst k.pid count) ∷ []) (with_image k image) base
+ran_carried c trace k base image p count carried found few moved =
+    let burst : List Rec = at_home k.pid (Burst k.pid count) ∷ [] in
+    let longer : units_of (trace ++ burst) ≡ units_of trace + 1 = units_more trace burst in
+    let same : carried.program ≡ p = some_is carried.program p (sym carried.found ∙ found) in
+    let leads : ahead p base carried.ran ≡ Some k.image = subst (λ (q : Program). ahead q base carried.ran ≡ Some k.image) same carried.leads in
+    record {
+      program = p;
+      found = found;
+      plain = subst IsPlainProgram same carried.plain;
+      same = (ahead_keeps p k.image image count moved).number ∙ carried.same;
+      ran = carried.ran + count;
+      few = omega (arith, longer, carried.few, few);
+      leads = ahead_sum p base k.image image carried.ran count leads moved;
+      present = present_ahead p k.image image count carried.present moved;
+      counted = omega (arith, longer, carried.counted);
+      turn = λ lives. progress_stays k.pid trace burst refl ∙ carried.turn lives;
+    }
+
+-- the cluster after a burst of the process at a place
+pub stands_ran : (c : Description) (r : Running) (i : ℕ) (k : Kept) (p : Program) (count : ℕ) (image : Machine) → Stands c r → slice_get r.kept i ≡ Some k → program_at c.programs k.image.number ≡ Some p → count ≤ 10000 → ahead p k.image count ≡ Some image → Stands c (changed r i (with_image k image) r.ticks (r.trace ++ at_home k.pid (Burst k.pid count) ∷ []))
+stands_ran c r i k p count image stands got found few moved =
+    let burst : List Rec = at_home k.pid (Burst k.pid count) ∷ [] in
+    let there = kept_at c r.trace r.kept stands.images i k stands.carried stands.rises got in
+    let found_base : program_at c.programs there.image.number ≡ Some p = ap (program_at c.programs) (sym there.carried.same) ∙ found in
+    let new = ran_carried c r.trace k there.image image p count there.carried found_base few moved in
+    let kept : slice_set stands.images i there.image ≡ stands.images = set_same stands.images i there.image there.got in
+    record {
+      images = stands.images;
+      carried = subst (λ (images : List Machine). AreCarried c (r.trace ++ burst) (slice_set r.kept i (with_image k image)) images) kept (carried_set c r.trace (r.trace ++ burst) r.kept stands.images i k (with_image k image) there.image stands.carried stands.rises got (stays c r.trace burst k.pid (λ other apart. refl)) new);
+      rises = rises_set r.kept i k (with_image k image) stands.rises got refl;
+      entries = stands.entries;
+      state = ap (state_of c) (journals_grow r.trace burst ∙ append-nil (journal_of r.trace)) ∙ stands.state ∙ ap (λ (ps : List Process). Some (unix_of c ps r.ticks stands.entries)) (sym (there.same image));
+      once = once_ran k.pid count r.trace stands.once;
+      ticked = counts_stay r.trace burst r.ticks stands.ticked;
+    }
+
+-- ---- a call
+
+stopped : (p : Program) (m : Machine) → Stops p m → StandsAt p m
+stopped p m (at_call at) = stands_at_call p m at
+stopped p m (at_bad_step at) = stands_at_bad_step p m at
+
+-- the image after a call keeps its number and its pages
+image_number : (p : Program) (m : Machine) (end : Option Ending) (reply : Reply) → (image_after p m end reply).number ≡ m.number
+image_number p m None reply = (given_keeps p m reply).number
+image_number p m (Some end) reply = refl
+
+image_present : (p : Program) (m : Machine) (end : Option Ending) (reply : Reply) → AllPresent m.pages → AllPresent (image_after p m end reply).pages
+image_present p m None reply h = present_given p m reply h
+image_present p m (Some end) reply h = h
+
+-- one entry in the records of a call
+one_entry : (end : Option Ending) (pid number : ℕ) (called : Call) (reply : Reply) → journal_of (entered_records pid number called reply ++ returned_records end pid number reply) ≡ whole_entry pid number called reply ∷ []
+one_entry None pid number called reply = refl
+one_entry (Some end) pid number called reply = refl
+
+some_units : (end : Option Ending) (pid number : ℕ) (called : Call) (reply : Reply) → 1 ≤ units_of (entered_records pid number called reply ++ returned_records end pid number reply)
+some_units None pid number called reply = omega arith
+some_units (Some end) pid number called reply = omega arith
+
+-- a count is under a bound that all are under
+count_under : (ticks : List ℕ) (i bound : ℕ) → AllByRecursion (λ count. count ≤ bound) ticks → slice_index ticks i ≤ bound
+count_under [] i bound h = omega arith
+count_under (count ∷ ticks) zero bound h = h.0
+count_under (count ∷ ticks) (suc i) bound h = count_under ticks i bound h.1
+
+ticked_on : (trace more : List Rec) (ticks : List ℕ) (pid : ℕ) (called : Call) → 1 ≤ units_of more → AllByRecursion (λ count. count ≤ units_of trace) ticks → AllByRecursion (λ count. count ≤ units_of (trace ++ more)) (ticks_after ticks pid called)
+ticked_on trace more ticks pid call.Tick some h =
+    let longer = units_more trace more in
+    let under = count_under ticks (home_of pid - 1) (units_of trace) h in
+    each_set (λ count. count ≤ units_of (trace ++ more)) ticks (home_of pid - 1) (count_at ticks (home_of pid) + 1) (omega (arith, under, longer, some)) (counts_stay trace more ticks h)
+ticked_on trace more ticks pid _ some h = counts_stay trace more ticks h
+
+-- the state of a trace with one more entry
+grown : (c : Description) (trace more : List Rec) (u : Unix) (e : Entry) → state_of c (journal_of trace) ≡ Some u → journal_of more ≡ e ∷ [] → state_of c (journal_of (trace ++ more)) ≡ after c u e
+grown c trace more u e before one =
+    ap (state_of c) (journals_grow trace more ∙ ap (λ es. journal_of trace ++ es) one)
+    ∙ state_from-append c (Some (boot_of c)) (journal_of trace) (e ∷ [])
+    ∙ ap (λ o. state_from c o (e ∷ [])) before
+
+called_carried : (c : Description) (trace : List Rec) (k : Kept) (base : Machine) (p : Program) (called : Call) (reply : Reply) → IsCarried c trace k base → program_at c.programs k.image.number ≡ Some p → IsPlainProgram p → k.ending ≡ None → IsCarried c (trace ++ call_records k.pid (k.calls + 1) called reply) (kept_after p k called reply) (image_after p k.image (ending_of called) reply)
+called_carried c trace k base p called reply carried found plain lives =
+    let more = call_records k.pid (k.calls + 1) called reply in
+    let longer = units_more trace more in
+    let some = some_units (ending_of called) k.pid (k.calls + 1) called reply in
+    record {
+      program = p;
+      found = ap (program_at c.programs) (image_number p k.image (ending_of called) reply) ∙ found;
+      plain = plain;
+      same = refl;
+      ran = 0;
+      few = omega arith;
+      leads = refl;
+      present = image_present p k.image (ending_of called) reply carried.present;
+      counted = omega (arith, longer, some, carried.counted);
+      turn = λ goes. progress_more k.pid trace more ∙ ap (λ s. progress_from s (call_events k.pid more)) (carried.turn lives) ∙ own_progress k.pid k.calls called reply goes;
+    }
+
+-- the cluster after a call of the process at a place
+pub stands_called : (c : Description) (r : Running) (i : ℕ) (k : Kept) (p : Program) (called : Call) → Stands c r → slice_get r.kept i ≡ Some k → k.ending ≡ None → program_at c.programs k.image.number ≡ Some p → units_of r.trace ≤ 4000000 → Stops p k.image → called ≡ call_there p k.image (step_of p k.image) → Stands c (changed r i (kept_after p k called (answer_of c.kernels r.ticks k.pid called)) (ticks_after r.ticks k.pid called) (r.trace ++ call_records k.pid (k.calls + 1) called (answer_of c.kernels r.ticks k.pid called)))
+stands_called c r i k p called stands got lives found few stops is =
+    let reply = answer_of c.kernels r.ticks k.pid called in
+    let more = call_records k.pid (k.calls + 1) called reply in
+    let k' = kept_after p k called reply in
+    let image' = image_after p k.image (ending_of called) reply in
+    let there = kept_at c r.trace r.kept stands.images i k stands.carried stands.rises got in
+    let carried = there.carried in
+    let found_base : program_at c.programs there.image.number ≡ Some p = ap (program_at c.programs) (sym carried.same) ∙ found in
+    let same : carried.program ≡ p = some_is carried.program p (sym carried.found ∙ found_base) in
+    let plain : IsPlainProgram p = subst IsPlainProgram same carried.plain in
+    let leads : ahead p there.image carried.ran ≡ Some k.image = subst (λ (q : Program). ahead q there.image carried.ran ≡ Some k.image) same carried.leads in
+    let next : at_next_call p there.image ≡ Some k.image = next_found p there.image k.image carried.ran (bursts_within carried.ran (omega (arith, carried.few, few))) leads (stopped p k.image stops) in
+    let built : IsBuilt called = subst IsBuilt (sym is) (built_there p k.image plain stops) in
+    let entered = after_is c (processes_of r.kept stands.images) r.ticks stands.entries p k there.image k.image called there.there lives found_base next found is built in
+    record {
+      images = slice_set stands.images i image';
+      carried = carried_set c r.trace (r.trace ++ more) r.kept stands.images i k k' image' stands.carried stands.rises got (stays c r.trace more k.pid (λ other apart. no_events k.pid other (k.calls + 1) called reply (differ other k.pid apart))) (called_carried c r.trace k there.image p called reply carried found plain lives);
+      rises = rises_set r.kept i k k' stands.rises got refl;
+      entries = stands.entries + 1;
+      state = grown c r.trace more (unix_of c (processes_of r.kept stands.images) r.ticks stands.entries) (whole_entry k.pid (k.calls + 1) called reply) stands.state (one_entry (ending_of called) k.pid (k.calls + 1) called reply) ∙ entered ∙ ap (λ (ps : List Process). Some (unix_of c ps (ticks_after r.ticks k.pid called) (stands.entries + 1))) (there.put k' image' refl);
+      once = once_called k.pid k.calls r.trace called reply (carried.turn lives) stands.once;
+      ticked = ticked_on r.trace more r.ticks k.pid called (some_units (ending_of called) k.pid (k.calls + 1) called reply) stands.ticked;
+    }
+
+-- ---- a turn
+
+-- a change in two steps is one
+changed_again : (r : Running) (i : ℕ) (k1 k' : Kept) (ticks1 ticks' : List ℕ) (trace1 trace' : List Rec) → changed (changed r i k1 ticks1 trace1) i k' ticks' trace' ≡ changed r i k' ticks' trace'
+changed_again r i k1 k' ticks1 ticks' trace1 trace' = ap (λ ks. record { kept = ks; ticks = ticks'; trace = trace' }) (set_again r.kept i k1 k')
+
+changed_to : (r : Running) (i : ℕ) (k k' : Kept) (ticks ticks' : List ℕ) (trace trace' : List Rec) → k' ≡ k → ticks' ≡ ticks → trace' ≡ trace → changed r i k ticks trace ≡ changed r i k' ticks' trace'
+changed_to r i k k' ticks ticks' trace trace' a b d = sym (λ j. changed r i (a j) (b j) (d j))
+
+-- after the burst, the call is made or nothing more happens
+goes_on : (c : Description) (r : Running) (i : ℕ) (k1 : Kept) (p : Program) (trace1 : List Rec) (k' : Kept) (ticks' : List ℕ) (trace' : List Rec) → Stands c (changed r i k1 r.ticks trace1) → slice_get (slice_set r.kept i k1) i ≡ Some k1 → k1.ending ≡ None → program_at c.programs k1.image.number ≡ Some p → units_of trace1 ≡ units_of r.trace + 1 → units_of r.trace < 4000000 → Goes c.kernels p k1 r.ticks trace1 k' ticks' trace' → TurnedOn c r (changed r i k' ticks' trace')
+goes_on c r i k1 p trace1 k' ticks' trace' ran got lives found longer few (on a b d) =
+    let same = changed_to r i k1 k' r.ticks ticks' trace1 trace' a b d in
+    record { stands = subst (Stands c) same ran; rose = subst (λ t. units_of r.trace < units_of t) (sym d) (omega (arith, longer)) }
+goes_on c r i k1 p trace1 k' ticks' trace' ran got lives found longer few (calls made) =
+    let reply = answer_of c.kernels r.ticks k1.pid made.call in
+    let more = call_records k1.pid (k1.calls + 1) made.call reply in
+    let after_call = stands_called c (changed r i k1 r.ticks trace1) i k1 p made.call ran got lives found (omega (arith, longer, few)) made.stops made.called in
+    let same = changed_again r i k1 (kept_after p k1 made.call reply) r.ticks (ticks_after r.ticks k1.pid made.call) trace1 (trace1 ++ more) ∙ changed_to r i (kept_after p k1 made.call reply) k' (ticks_after r.ticks k1.pid made.call) ticks' (trace1 ++ more) trace' made.kept made.counts made.records in
+    let units = units_more trace1 more in
+    record { stands = subst (Stands c) same after_call; rose = subst (λ t. units_of r.trace < units_of t) (sym made.records) (omega (arith, longer, units)) }
+
+pub turned_on : (c : Description) (r : Running) (i : ℕ) (k : Kept) (p : Program) (k' : Kept) (ticks' : List ℕ) (trace' : List Rec) → Stands c r → slice_get r.kept i ≡ Some k → k.ending ≡ None → program_at c.programs k.image.number ≡ Some p → units_of r.trace < 4000000 → Turned c.kernels p k r.ticks r.trace k' ticks' trace' → TurnedOn c r (changed r i k' ticks' trace')
+turned_on c r i k p k' ticks' trace' stands got lives found few turned =
+    let burst : List Rec = at_home k.pid (Burst k.pid turned.count) ∷ [] in
+    let k1 = with_image k turned.image in
+    let number : turned.image.number ≡ k.image.number = (ahead_keeps p k.image turned.image turned.count turned.moved).number in
+    goes_on c r i k1 p (r.trace ++ burst) k' ticks' trace' (stands_ran c r i k p turned.count turned.image stands got found turned.few turned.moved) (get_set_same r.kept i k1 (get_within r.kept i k got)) lives (ap (program_at c.programs) number ∙ found) (units_more r.trace burst) few turned.goes

@@ -1,0 +1,6 @@
+pub mod Answers
+pub mod Booted
+pub mod Carried
+pub mod Histories
+pub mod Today
+pub mod Turns
