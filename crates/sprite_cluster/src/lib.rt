@@ -15,3 +15,6 @@ pub use kept::Kept;
 pub use running::Running;
 pub use today::is_run_today;
 pub use turns::{Outcome, run};
+
+#[cfg(test)]
+mod tests;

@@ -1,7 +1,2 @@
-pub mod HistoryLaws
-pub mod SmallCallLaws
-pub mod SmallLaws
-pub mod SmallRunLaws
-pub mod TableLaws
+pub mod LineLaws
 pub mod TopLaws
-pub mod WordLaws

@@ -10,7 +10,7 @@ use Rattle.sprite_top.specs.declared.top.Status.TheVariants as status
 use Rattle.call_journal.specs.declared.closed.Closed.{Closed}
 use Rattle.unix_calls.specs.declared.description.Description.{Description}
 use Rattle.cluster_file.specs.declared.Refusal.{Refusal}
-use Rattle.cluster_file.specs.Clusters.{Describes as DescribesCluster, Refuses}
+use Rattle.cluster_file.specs.Clusters.{Describes, Refuses}
 use Rattle.sprite_top.specs.Refused.{refusal_line}
 use Rattle.sprite_top.specs.Top.{spelled, run_words, Causes, FileCauses, ClusterCauses}
 
@@ -31,6 +31,8 @@ of_file status.Ended words left left_after faults faults_after came closed due a
     record { words_are = are; came = came; read = read; at_end = end; short = short; run_of = why }
 of_file status.Refused words left left_after faults faults_after came closed due are read end short why =
     record { words_are = are; came = came; read = read; cause = inl (end, short, why.1); no_run = why.0 }
+of_file status.Budget words left left_after faults faults_after came closed due are read end short why =
+    record { words_are = are; came = came; read = read; at_end = end; short = short; run_of = why }
 of_file status.Usage words left left_after faults faults_after came closed due are read end short why = absurd why
 of_file status.ReadFault words left left_after faults faults_after came closed due are read end short why = absurd why
 of_file status.NoMemory words left left_after faults faults_after came closed due are read end short why = absurd why
@@ -40,17 +42,18 @@ pub from_file : (words : List (List ℕ)) (left left_after : Option (List ℕ)) 
 from_file words left left_after faults faults_after came (Ok a) are read end short why = of_file a.status words left left_after faults faults_after came a.closed a.due are read end short why
 from_file words left left_after faults faults_after came (Err e) are read end short why = why
 
--- what is due for bytes that describe a cluster is due for a whole file
-of_cluster : (state : Status) (bytes : List ℕ) (c : Description) (closed : Option Closed) (due : List ℕ) → DescribesCluster bytes c → ClusterCauses state bytes closed due → FileCauses state bytes closed due
+-- what is due for a described cluster is due for a whole file
+of_cluster : (state : Status) (bytes : List ℕ) (c : Description) (closed : Option Closed) (due : List ℕ) → Describes bytes c → ClusterCauses state c closed due → FileCauses state bytes closed due
 of_cluster status.Ended bytes c closed due describes why = record { cluster = c; describes = describes; run_of = why }
+of_cluster status.Budget bytes c closed due describes why = record { cluster = c; describes = describes; run_of = why }
 of_cluster status.Refused bytes c closed due describes why =
-    (why.1.no_run, inr (record { cluster = c; describes = describes; not_small = why.0; line_is = why.1.output }))
+    (why.1.no_run, inr (record { cluster = c; describes = describes; not_today = why.0; line_is = why.1.output }))
 of_cluster status.Usage bytes c closed due describes why = absurd why
 of_cluster status.ReadFault bytes c closed due describes why = absurd why
 of_cluster status.NoMemory bytes c closed due describes why = absurd why
 of_cluster status.WriteFault bytes c closed due describes why = absurd why
 
-pub from_cluster : (bytes : List ℕ) (c : Description) (r : Result Answer NoMemory) → DescribesCluster bytes c → IfOk r (λ a. ClusterCauses a.status bytes a.closed a.due) → IfOk r (λ a. FileCauses a.status bytes a.closed a.due)
+pub from_cluster : (bytes : List ℕ) (c : Description) (r : Result Answer NoMemory) → Describes bytes c → IfOk r (λ a. ClusterCauses a.status c a.closed a.due) → IfOk r (λ a. FileCauses a.status bytes a.closed a.due)
 from_cluster bytes c (Ok a) describes why = of_cluster a.status bytes c a.closed a.due describes why
 from_cluster bytes c (Err e) describes why = why
 

@@ -1,10 +1,2 @@
-pub mod Ends
-pub mod Quoted
 pub mod Refused
-pub mod SmallCluster
-pub mod SmallLine
-pub mod SmallProgram
-pub mod SmallRun
-pub mod Tables
 pub mod Top
-pub mod Words

@@ -1,21 +1,22 @@
 -- What the top call promises for each status.
-use Rattle.std.specs.Prelude.{codes, IsTrue, ◌≡◌, ℕ, ◌<◌, ◌≤◌, ◌⊎◌, List, [], ◌∷◌, Option, Some, None, length, map, take, String, string_bytes}
+use Rattle.std.specs.Prelude.{codes, IsTrue, false, ◌≡◌, ℕ, ◌<◌, ◌≤◌, ◌⊎◌, List, [], ◌∷◌, Option, Some, None, length, map, take, String, string_bytes}
 use Rattle.std.specs.Io.KnownBytes.{Consumes, Appends, IsAtEnd}
 use Rattle.std.specs.declared.alloc.Global.{Global}
-use Rattle.sprite_ids.specs.declared.running.Finish.TheVariants.{AllEnded as EveryOneEnded}
+use Rattle.sprite_ids.specs.declared.running.Finish.{Finish}
+use Rattle.sprite_ids.specs.declared.running.Finish.TheVariants as finish
 use Rattle.sprite_bytes.specs.Counts.{Rose}
 use Rattle.call_journal.specs.declared.closed.Closed.{Closed}
 use Rattle.sprite_top.specs.declared.top.Status.{Status}
 use Rattle.sprite_top.specs.declared.top.Status.TheVariants as status
 use Rattle.unix_calls.specs.declared.description.Description.{Description}
 use Rattle.cluster_file.specs.declared.Refusal.{Refusal}
-use Rattle.cluster_file.specs.Clusters.{Describes as DescribesCluster, Refuses}
+use Rattle.cluster_file.specs.Clusters.{Describes, Refuses}
 use Rattle.sprite_top.specs.Refused.{refusal_line}
-use Rattle.sprite_top.specs.SmallCluster.{Describes, DescribesNone}
 use Rattle.call_journal.specs.Journal.{journal_of}
-use Rattle.unix_calls.specs.After.{state_of, legal}
+use Rattle.unix_calls.specs.After.{legal}
 use Rattle.call_journal.specs.Once.{Once}
-use Rattle.sprite_top.specs.Ends.{all_ended}
+use Rattle.sprite_cluster.specs.Today.{is_run_today}
+use Rattle.sprite_cluster.specs.Histories.{IsFinished}
 use Rattle.unix_calls.specs.Output.{output_of}
 
 -- the words as texts
@@ -39,17 +40,17 @@ too_long_line = codes "refused: 1\n"
 abbrev pub fault_line : List ℕ
 fault_line = codes "read fault\n"
 
--- a run of the cluster that the bytes describe: its journal is a history of one Unix kernel, each finished call stands in
--- it once, every process has ended, and what is due is the output of the journal
-pub record IsRunOf (bytes : List ℕ) (closed : Option Closed) (due : List ℕ) : Type 0 where
+-- a run of the cluster that came to that end: its journal is a history of one Unix kernel, each finished call stands in it
+-- once, it ended so, and what is due is the output of the journal
+pub record IsRunOf (c : Description) (end : Finish) (closed : Option Closed) (due : List ℕ) : Type 0 where
   pub run : Closed
   pub kept : closed ≡ Some run
-  pub described : Describes bytes run.description
-  pub legal : IsTrue (legal run.description (journal_of run.trace))
+  pub same : run.description ≡ c
+  pub ends : run.finish ≡ end
+  pub legal : IsTrue (legal c (journal_of run.trace))
   pub once : Once run.trace
-  pub finished : run.finish ≡ EveryOneEnded
-  pub all_ended : IsTrue (all_ended (state_of run.description (journal_of run.trace)))
-  pub output : due ≡ output_of run.description (journal_of run.trace) run.finish
+  pub finished : IsFinished c run.trace end
+  pub output : due ≡ output_of c (journal_of run.trace) end
 
 -- nothing was run, and that line is due
 pub record IsLine (closed : Option Closed) (due line : List ℕ) : Type 0 where
@@ -57,19 +58,19 @@ pub record IsLine (closed : Option Closed) (due line : List ℕ) : Type 0 where
   pub output : due ≡ line
 
 -- the bytes are a cluster file, and were run so
-pub record IsFileRun (bytes : List ℕ) (closed : Option Closed) (due : List ℕ) : Type 0 where
+pub record IsFileRun (bytes : List ℕ) (end : Finish) (closed : Option Closed) (due : List ℕ) : Type 0 where
   pub cluster : Description
-  pub describes : DescribesCluster bytes cluster
-  pub run_of : IsRunOf bytes closed due
+  pub describes : Describes bytes cluster
+  pub run_of : IsRunOf cluster end closed due
 
--- the words are `run`, the source was read to its end, and its bytes were run
-pub record IsEnded (words : List (List ℕ)) (left left_after : Option (List ℕ)) (closed : Option Closed) (due : List ℕ) : Type 0 where
+-- the words are `run`, the source was read to its end, and its bytes were run so
+pub record IsEnded (end : Finish) (words : List (List ℕ)) (left left_after : Option (List ℕ)) (closed : Option Closed) (due : List ℕ) : Type 0 where
   pub words_are : words ≡ run_words
   pub came : List ℕ
   pub read : Consumes left left_after came
   pub at_end : IsAtEnd left_after
   pub short : length came ≤ 1048576
-  pub run_of : IsFileRun came closed due
+  pub run_of : IsFileRun came end closed due
 
 -- the bytes have a refusal, and its line is due
 pub record IsRefusal (bytes due : List ℕ) : Type 0 where
@@ -80,8 +81,8 @@ pub record IsRefusal (bytes due : List ℕ) : Type 0 where
 -- the bytes describe a cluster that isn't run so far
 pub record IsLater (bytes due : List ℕ) : Type 0 where
   pub cluster : Description
-  pub describes : DescribesCluster bytes cluster
-  pub not_small : DescribesNone bytes
+  pub describes : Describes bytes cluster
+  pub not_today : is_run_today cluster ≡ false
   pub line_is : due ≡ later_line
 
 -- bytes that are read to their end, which have a refusal or describe a cluster that isn't run so far; or too many bytes
@@ -112,7 +113,8 @@ pub record IsReadFault (words : List (List ℕ)) (faults faults_after : ℕ) (cl
 
 -- why a status comes, before anything is written
 abbrev pub Causes : Status → List (List ℕ) → Option (List ℕ) → Option (List ℕ) → ℕ → ℕ → Option Closed → List ℕ → Type 0
-Causes status.Ended words left left_after faults faults_after closed due = IsEnded words left left_after closed due
+Causes status.Ended words left left_after faults faults_after closed due = IsEnded finish.AllEnded words left left_after closed due
+Causes status.Budget words left left_after faults faults_after closed due = IsEnded finish.Budget words left left_after closed due
 Causes status.Refused words left left_after faults faults_after closed due = IsRefused words left left_after closed due
 Causes status.Usage words left left_after faults faults_after closed due = IsUsage words left left_after faults faults_after closed due
 Causes status.ReadFault words left left_after faults faults_after closed due = IsReadFault words faults faults_after closed due
@@ -121,15 +123,17 @@ Causes status.WriteFault words left left_after faults faults_after closed due = 
 
 -- what is due for the bytes of a whole file
 abbrev pub FileCauses : Status → List ℕ → Option Closed → List ℕ → Type 0
-FileCauses status.Ended bytes closed due = IsFileRun bytes closed due
+FileCauses status.Ended bytes closed due = IsFileRun bytes finish.AllEnded closed due
+FileCauses status.Budget bytes closed due = IsFileRun bytes finish.Budget closed due
 FileCauses status.Refused bytes closed due = (closed ≡ None) × (IsRefusal bytes due ⊎ IsLater bytes due)
 FileCauses _ bytes closed due = ⊥
 
--- what is due for bytes that describe a cluster
-abbrev pub ClusterCauses : Status → List ℕ → Option Closed → List ℕ → Type 0
-ClusterCauses status.Ended bytes closed due = IsRunOf bytes closed due
-ClusterCauses status.Refused bytes closed due = DescribesNone bytes × IsLine closed due later_line
-ClusterCauses _ bytes closed due = ⊥
+-- what is due for a described cluster
+abbrev pub ClusterCauses : Status → Description → Option Closed → List ℕ → Type 0
+ClusterCauses status.Ended c closed due = IsRunOf c finish.AllEnded closed due
+ClusterCauses status.Budget c closed due = IsRunOf c finish.Budget closed due
+ClusterCauses status.Refused c closed due = (is_run_today c ≡ false) × IsLine closed due later_line
+ClusterCauses _ c closed due = ⊥
 
 -- what was due was written behind what the sink held
 pub record Wrote (held held_after : Option (List ℕ)) (Due : List ℕ → Type 0) : Type 0 where
@@ -147,11 +151,17 @@ pub record Broke (held held_after : Option (List ℕ)) (faults faults_after : �
   pub wrote : Appends held held_after (take count due)
   pub rose : Rose faults faults_after
 
+-- the status of a run that came to its end so
+abbrev pub status_of : Finish → Status
+status_of finish.Budget = status.Budget
+status_of _ = status.Ended
+
 -- the exit status of the program
 abbrev pub status_number : Status → ℕ
 status_number status.Ended = 0
 status_number status.Refused = 1
 status_number status.Usage = 2
 status_number status.ReadFault = 3
+status_number status.Budget = 4
 status_number status.NoMemory = 6
 status_number status.WriteFault = 7

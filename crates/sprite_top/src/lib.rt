@@ -1,9 +1,8 @@
 //! The top call of the program: words, a cluster file and a place to write in; a status out.
 #![tactic(auto)]
 
+mod lines;
 mod report;
-mod run;
-mod small;
 mod top;
 
 pub use top::{Ended, Status, sprite};

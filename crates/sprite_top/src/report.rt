@@ -2,12 +2,16 @@ ghost use Rattle.std.specs.Prelude.{codes, ◌≡◌, ◌<◌, ◌++◌, IfOk, O
 ghost use Rattle.std.specs.List.{flat_map};
 ghost use Rattle.std.specs.Fmt.{decimal};
 ghost use Rattle.sprite_top.specs.Refused.{has_place, place_part, refusal_line};
-ghost use Rattle.unix_calls.specs.Output.{lines_of, hexadecimal, escape, console_line, process_line};
+ghost use Rattle.unix_calls.specs.Output.{lines_of, hexadecimal, escape, console_line, process_line, ending_text, last_line, program_name};
+ghost use Rattle.unix_calls.specs.ProcessCalls.{kernel_name};
+ghost use Rattle.sprite_cluster.specs.Histories.{text_of};
 
-use crate::small::words::first_line;
+use crate::lines::first_line;
 use cluster_file::Refusal;
-use sprite_ids::NoMemory;
+use sprite_cluster::{Kept, Outcome};
+use sprite_ids::{Ending, Finish, Kernel, NoMemory};
 use std::alloc::Global;
+use unix_calls::{Description, KernelLine, ProgramLine};
 
 /// The digit of that value, 0 to 15, in lower case.
 fn hexadecimal(digit: u8) -> u8
@@ -48,7 +52,7 @@ fn push_console_line(out: &mut Vec<u8>, line: &[u8]) -> Result<(), NoMemory>
 }
 
 /// Puts a console, line by line.
-pub fn push_console(out: &mut Vec<u8>, console: &[u8]) -> Result<(), NoMemory>
+fn push_console(out: &mut Vec<u8>, console: &[u8]) -> Result<(), NoMemory>
     ensures { OnOk result (out.new.items ≡ out.old.items ++ flat_map console_line (lines_of console.now)) }
 {
     let mut rest = console;
@@ -69,24 +73,91 @@ fn push_decimal(alloc: Global, out: &mut Vec<u8>, number: u32) -> Result<(), NoM
     Ok(())
 }
 
-/// Puts how a process ended that called `exit`.
-fn push_exit(alloc: Global, out: &mut Vec<u8>, code: u8) -> Result<(), NoMemory>
-    ensures { OnOk result (out.new.items ≡ out.old.items ++ (codes "exit " ++ decimal code)) }
+/// What is printed about a run: its processes by ascending number, each with its console, and why it stopped where one lives.
+pub fn output(
+    alloc: Global,
+    description: &Description,
+    outcome: &Outcome,
+) -> Result<Vec<u8>, NoMemory>
+    ensures { IfOk result (λ out. out.items ≡ flat_map (text_of description.now) outcome.now.kept ++ last_line outcome.now.finish) }
 {
-    out.extend_from_slice(b"exit ")?;
-    push_decimal(alloc, out, u32::from(code))
+    let mut out = Vec::new(alloc);
+    for process in outcome.kept.as_slice() {
+        push_process(alloc, &mut out, description, process)?;
+    }
+    push_last_line(&mut out, outcome.finish)?;
+    Ok(out)
 }
 
-/// Puts the line about a process that called `exit`.
-pub fn push_process(
+/// Puts why a run stopped, where a process lives.
+fn push_last_line(out: &mut Vec<u8>, finish: Finish) -> Result<(), NoMemory>
+    ensures { OnOk result (out.new.items ≡ out.old.items ++ last_line finish) }
+{
+    match finish {
+        Finish::Budget => out.extend_from_slice(b"budget\n")?,
+        Finish::Stalled => out.extend_from_slice(b"stalled\n")?,
+        Finish::AllEnded | Finish::OutOfMemory | Finish::Running => {}
+    }
+    Ok(())
+}
+
+/// Puts the line about a process, and its console.
+fn push_process(
+    alloc: Global,
+    out: &mut Vec<u8>,
+    description: &Description,
+    process: &Kept,
+) -> Result<(), NoMemory>
+    ensures { OnOk result (out.new.items ≡ out.old.items ++ text_of description.now process.now) }
+{
+    let program = program_name(
+        description.programs.as_slice(),
+        process.image.program_number(),
+    );
+    let home = kernel_name(description.kernels.as_slice(), process.pid.home());
+    push_process_line(
+        alloc,
+        out,
+        process.pid.number(),
+        program,
+        home,
+        &process.ending,
+    )?;
+    push_console(out, process.console.as_slice())
+}
+
+/// The name of the program of that number; none where there is no such program.
+fn program_name(programs: &[ProgramLine], number: u8) -> &[u8]
+    ensures { result.now ≡ program_name programs.now number }
+{
+    let place = usize::from(number);
+    if place == 0 || place > programs.len() {
+        return &[];
+    }
+    programs[place - 1].name.as_slice()
+}
+
+/// The name of the kernel; none where there is no such kernel.
+fn kernel_name(kernels: &[KernelLine], home: Kernel) -> &[u8]
+    ensures { result.now ≡ kernel_name kernels.now home }
+{
+    let place = usize::from(home.number()) - 1;
+    if place < kernels.len() {
+        return kernels[place].name.as_slice();
+    }
+    &[]
+}
+
+/// Puts the line about a process.
+fn push_process_line(
     alloc: Global,
     out: &mut Vec<u8>,
     pid: u32,
     name: &[u8],
     home: &[u8],
-    code: u8,
+    ending: &Option<Ending>,
 ) -> Result<(), NoMemory>
-    ensures { OnOk result (out.new.items ≡ out.old.items ++ process_line pid name.now home.now (codes "exit " ++ decimal code)) }
+    ensures { OnOk result (out.new.items ≡ out.old.items ++ process_line pid name.now home.now (ending_text ending.now)) }
 {
     out.extend_from_slice(b"pid ")?;
     push_decimal(alloc, out, pid)?;
@@ -95,8 +166,24 @@ pub fn push_process(
     out.push(b' ')?;
     out.extend_from_slice(home)?;
     out.push(b' ')?;
-    push_exit(alloc, out, code)?;
+    push_ending(alloc, out, ending)?;
     out.push(b'\n')?;
+    Ok(())
+}
+
+/// Puts how a process ended.
+fn push_ending(alloc: Global, out: &mut Vec<u8>, ending: &Option<Ending>) -> Result<(), NoMemory>
+    ensures { OnOk result (out.new.items ≡ out.old.items ++ ending_text ending.now) }
+{
+    match ending {
+        None => out.extend_from_slice(b"live")?,
+        Some(Ending::Bad) => out.extend_from_slice(b"bad")?,
+        Some(Ending::Killed) => out.extend_from_slice(b"killed")?,
+        Some(Ending::Exit(code)) => {
+            out.extend_from_slice(b"exit ")?;
+            push_decimal(alloc, out, u32::from(*code))?;
+        }
+    }
     Ok(())
 }
 

@@ -1,6 +1,6 @@
 use crate::top::{Ended, Status, sprite};
 use sprite_bytes::{MemSink, MemSource};
-use sprite_ids::{Finish, NoMemory};
+use sprite_ids::NoMemory;
 use std::alloc::Global;
 use std::test::Fail;
 
@@ -256,7 +256,7 @@ fn a_failing_read_is_told(rt: HostRuntime) -> Result<(), Fail> {
 }
 
 /// Lines of a program, and what is written: the output of its run, or the line of a refusal.
-const PROGRAMS: [(&[u8], &[u8]); 22] = [
+const PROGRAMS: [(&[u8], &[u8]); 33] = [
     (b"sys exit 0", b"pid 1001 p c1 exit 0\n"),
     (b"sys exit 255", b"pid 1001 p c1 exit 255\n"),
     (b"sys exit 256", b"pid 1001 p c1 exit 0\n"),
@@ -286,8 +286,9 @@ const PROGRAMS: [(&[u8], &[u8]); 22] = [
         b"sys print 4095 1\nsys exit 0",
         b"pid 1001 p c1 exit 0\n| \\00\n",
     ),
-    (b"sys print 4095 2\nsys exit 0", b"refused: 13\n"),
-    (b"sys print 4090 10", b"refused: 13\n"),
+    // a part that leaves the pages: the call is refused, and nothing is printed
+    (b"sys print 4095 2\nsys exit r0", b"pid 1001 p c1 exit 20\n"),
+    (b"sys print 4090 10", b"pid 1001 p c1 bad\n"),
     (b"sys print 9000 0\nsys exit 0", b"pid 1001 p c1 exit 0\n"),
     (
         b"text 0 \"a\\n\\nb\"\nsys print 0 4\nsys print 0 2\nsys exit 0",
@@ -297,11 +298,36 @@ const PROGRAMS: [(&[u8], &[u8]); 22] = [
         b"text 0 \"ab\"\ntext 1 \"c\"\nsys print 0 2\nsys exit 0",
         b"pid 1001 p c1 exit 0\n| ac\n",
     ),
-    (b"sys exit 0\nsys exit 0", b"refused: 13\n"),
-    (b"sys exit 0\n", b"refused: 13\n"),
-    (b"# a comment\nsys exit 0", b"refused: 13\n"),
-    (b"sys print 0 6", b"refused: 13\n"),
-    (b"sys tick\nsys exit 0", b"refused: 13\n"),
+    (b"sys exit 3\nsys exit 0", b"pid 1001 p c1 exit 3\n"),
+    (b"sys exit 0\n", b"pid 1001 p c1 exit 0\n"),
+    (b"# a comment\nsys exit 0", b"pid 1001 p c1 exit 0\n"),
+    (b"sys print 0 2", b"pid 1001 p c1 bad\n| \\00\\00\n"),
+    // register 0 is 0 and register 1 the count after a tick
+    (
+        b"sys tick\nsys tick\nadd r0 r1\nsys exit r0",
+        b"pid 1001 p c1 exit 2\n",
+    ),
+    // 1001 modulo 256
+    (b"sys getpid\nsys exit r1", b"pid 1001 p c1 exit 233\n"),
+    (b"sys getppid\nsys exit r1", b"pid 1001 p c1 exit 0\n"),
+    (
+        b"sys host 0 2\nsys print 0 2\nsys exit r1",
+        b"pid 1001 p c1 exit 0\n| c1\n",
+    ),
+    (b"sys host 0 2\nsys exit r1", b"pid 1001 p c1 exit 2\n"),
+    // no room for the name: Invalid
+    (b"sys host 0 1\nsys exit r0", b"pid 1001 p c1 exit 10\n"),
+    // a loop of ten turns
+    (
+        b"set r2 10\nagain:\naddi r1 3\naddi r3 1\njlt r3 r2 again\nsys exit r1",
+        b"pid 1001 p c1 exit 30\n",
+    ),
+    (b"set r1 1\ndiv r1 r2\nsys exit 0", b"pid 1001 p c1 bad\n"),
+    // calls that aren't built so far
+    (b"sys open 0 1 1\nsys exit 0", b"refused: 13\n"),
+    (b"sys exit 0\nsys fork", b"refused: 13\n"),
+    (b"sys wait\nsys exit 0", b"refused: 13\n"),
+    (b"sys migrate 0 2\nsys exit 0", b"refused: 13\n"),
     (
         b"text 0 \"a\\tb\"\nsys exit 0",
         b"refused: 11 program 1 line 1\n",
@@ -330,12 +356,12 @@ fn wrong_program(alloc: Global) -> Result<Option<usize>, NoMemory> {
 }
 
 #[test]
-fn small_programs_are_run_and_others_refused(rt: HostRuntime) -> Result<(), Fail> {
+fn programs_are_run_and_others_refused(rt: HostRuntime) -> Result<(), Fail> {
     assert_eq!(rt; wrong_program(rt.alloc())?, None);
     Ok(())
 }
 
-/// The parts of a small description.
+/// The parts of a description.
 const PARTS: [&[u8]; 5] = [
     b"version = 1\n",
     b"[[kernel]]\nname = \"c1\"\n",
@@ -347,10 +373,10 @@ const PARTS: [&[u8]; 5] = [
 /// A part's number, what stands in its place, and what is written: the output of the run, or the line of a refusal.
 const CHANGES: [(usize, &[u8], &[u8]); 24] = [
     (0, b"version = 1 # a comment\n", b"pid 1001 p c1 exit 0\n"),
-    (0, b"version = 2\n", b"refused: 13\n"),
+    (0, b"version = 2\n", b"pid 1001 p c1 exit 0\n"),
     (0, b"version = \"1\"\n", b"refused: 5 version\n"),
     (0, b"", b"refused: 4 version\n"),
-    (0, b"version = 1\nbudget = 100\n", b"refused: 13\n"),
+    (0, b"version = 1\nbudget = 100\n", b"pid 1001 p c1 exit 0\n"),
     (0, b"version =\n", b"refused: 2\n"),
     (0, b"\xff\n", b"refused: 2\n"),
     (
@@ -393,7 +419,7 @@ const CHANGES: [(usize, &[u8], &[u8]); 24] = [
     (
         2,
         b"[[kernel]]\nname = \"s1\"\nserves = [\"/\", \"/a\"]\n",
-        b"refused: 13\n",
+        b"pid 1001 p c1 exit 0\n",
     ),
     (2, b"[[kernel]]\nname = \"s1\"\n", b"refused: 8\n"),
     (
@@ -404,7 +430,7 @@ const CHANGES: [(usize, &[u8], &[u8]); 24] = [
     (
         3,
         b"[[program]]\nname = \"p\"\ntext = \"\"\n",
-        b"refused: 13\n",
+        b"pid 1001 p c1 bad\n",
     ),
     (
         3,
@@ -424,7 +450,7 @@ const CHANGES: [(usize, &[u8], &[u8]); 24] = [
     (
         4,
         b"[[start]]\nhost = \"c1\"\nprogram = \"p\"\narg = 1\n",
-        b"refused: 13\n",
+        b"pid 1001 p c1 exit 0\n",
     ),
 ];
 
@@ -459,7 +485,117 @@ fn wrong_change(alloc: Global) -> Result<Option<usize>, NoMemory> {
 }
 
 #[test]
-fn other_descriptions_are_refused(rt: HostRuntime) -> Result<(), Fail> {
+fn changed_descriptions_are_run_or_refused(rt: HostRuntime) -> Result<(), Fail> {
     assert_eq!(rt; wrong_change(rt.alloc())?, None);
+    Ok(())
+}
+
+/// Two clients, and programs of three kinds: one that tells its argument, one that ticks, one that doesn't end.
+const CLUSTER: &[u8] = b"version = 1
+budget = 60
+[[kernel]]
+name = \"c1\"
+[[kernel]]
+name = \"c2\"
+[[kernel]]
+name = \"s1\"
+serves = [\"/\"]
+[[program]]
+name = \"tell\"
+text = '''
+sys exit r1
+'''
+[[program]]
+name = \"ticks\"
+text = '''
+sys tick
+sys tick
+sys exit r1
+'''
+[[program]]
+name = \"ever\"
+text = '''
+text 0 \"still\\n\"
+sys print 0 6
+again:
+jmp again
+'''
+";
+
+const TELL_1: &[u8] = b"[[start]]\nhost = \"c1\"\nprogram = \"tell\"\narg = 7\n";
+
+const TELL_2: &[u8] = b"[[start]]\nhost = \"c2\"\nprogram = \"tell\"\narg = 9\n";
+
+const TICKS_1: &[u8] = b"[[start]]\nhost = \"c1\"\nprogram = \"ticks\"\n";
+
+const TICKS_2: &[u8] = b"[[start]]\nhost = \"c2\"\nprogram = \"ticks\"\n";
+
+const EVER: &[u8] = b"[[start]]\nhost = \"c1\"\nprogram = \"ever\"\n";
+
+/// Starts, with the status and the output.
+const STARTS: [(&[&[u8]], Status, &[u8]); 7] = [
+    (&[], Status::Ended, b""),
+    (
+        &[TELL_2, TELL_1],
+        Status::Ended,
+        b"pid 1001 tell c1 exit 7\npid 2001 tell c2 exit 9\n",
+    ),
+    (
+        &[TELL_1, TELL_1, TELL_2],
+        Status::Ended,
+        b"pid 1001 tell c1 exit 7\npid 1002 tell c1 exit 7\npid 2001 tell c2 exit 9\n",
+    ),
+    // each kernel counts for itself
+    (
+        &[TICKS_1, TICKS_2],
+        Status::Ended,
+        b"pid 1001 ticks c1 exit 2\npid 2001 ticks c2 exit 2\n",
+    ),
+    // the processes of a kernel take turns, so their counts are 1, 2, 3 and 4
+    (
+        &[TICKS_1, TICKS_1],
+        Status::Ended,
+        b"pid 1001 ticks c1 exit 3\npid 1002 ticks c1 exit 4\n",
+    ),
+    (
+        &[EVER],
+        Status::Budget,
+        b"pid 1001 ever c1 live\n| still\nbudget\n",
+    ),
+    (
+        &[EVER, TELL_1, TELL_2],
+        Status::Budget,
+        b"pid 1001 ever c1 live\n| still\npid 1002 tell c1 exit 7\npid 2001 tell c2 exit 9\nbudget\n",
+    ),
+];
+
+/// Whether the cluster with these starts leaves that.
+fn runs_so(
+    alloc: Global,
+    starts: &[&[u8]],
+    status: Status,
+    output: &[u8],
+) -> Result<bool, NoMemory> {
+    let mut file = Vec::from_slice(alloc, CLUSTER)?;
+    for start in starts {
+        file.extend_from_slice(start)?;
+    }
+    let left = called(alloc, &["run"], file.as_slice(), SOUND)?;
+    Ok(left.status == status && left.written.as_slice() == output)
+}
+
+/// The first of these that is run otherwise.
+fn wrong_starts(alloc: Global) -> Result<Option<usize>, NoMemory> {
+    for (place, (starts, status, output)) in STARTS.iter().enumerate() {
+        if !runs_so(alloc, starts, *status, output)? {
+            return Ok(Some(place));
+        }
+    }
+    Ok(None)
+}
+
+#[test]
+fn clusters_are_run_to_their_end_or_their_budget(rt: HostRuntime) -> Result<(), Fail> {
+    assert_eq!(rt; wrong_starts(rt.alloc())?, None);
     Ok(())
 }

@@ -1,18 +1,14 @@
 ghost use Rattle.std.specs.Prelude.{◌≡◌, ◌++◌, ◌↔◌, None, IsTrue, IfOk};
 ghost use Rattle.std.specs.Io.KnownBytes.{Consumes, Appends, IsAtEnd};
-ghost use Rattle.sprite_ids.specs.declared.running.Finish.TheVariants.{AllEnded};
+ghost use Rattle.sprite_ids.specs.declared.running.Finish.TheVariants.{AllEnded, Budget as Spent};
 ghost use Rattle.sprite_bytes.specs.Counts.{Rose};
-ghost use Rattle.unix_calls.specs.Output.{output_of};
-ghost use Rattle.call_journal.specs.Journal.{journal_of};
-ghost use Rattle.sprite_top.specs.SmallRun.{IsSmall, IsRun};
-ghost use Rattle.sprite_top.specs.Top.{spelled, run_words, IsEnded, IsRefused, IsUsage, IsReadFault, Causes, FileCauses, ClusterCauses, Wrote, Broke, status_number};
+ghost use Rattle.sprite_top.specs.Top.{spelled, run_words, IsEnded, IsRefused, IsUsage, IsReadFault, Causes, FileCauses, ClusterCauses, Wrote, Broke, status_of, status_number};
 
-use crate::report::{push_console, push_process, refusal_line};
-use crate::run::{Outcome, run};
-use crate::small::cluster::read_description;
+use crate::report::{output, refusal_line};
 use call_journal::Closed;
-use cluster_file::FileEnd;
+use cluster_file::{FileEnd, read_description};
 use sprite_bytes::{ReadEnd, Sink, Source, read_all, write_all};
+use sprite_cluster::{is_run_today, run};
 use sprite_ids::{Bytes, Finish, NoMemory};
 use std::alloc::Global;
 use unix_calls::Description;
@@ -43,6 +39,8 @@ pub enum Status {
     Usage,
     /// 3: the source failed.
     ReadFault,
+    /// 4: the budget is spent and a process lives; the output was written.
+    Budget,
     /// 6: memory was wanting; nothing was written.
     NoMemory,
     /// 7: the sink failed; a prefix of what was due was written.
@@ -76,7 +74,8 @@ pub fn sprite<S: Source, K: Sink>(
     source: &mut S,
     sink: &mut K,
 ) -> Ended
-    ensures ended { result.status ≡ Status.Ended → Wrote (K.held sink.old) (K.held sink.new) (IsEnded (spelled words.now) (S.left source.old) (S.left source.new) result.closed) }
+    ensures ended { result.status ≡ Status.Ended → Wrote (K.held sink.old) (K.held sink.new) (IsEnded AllEnded (spelled words.now) (S.left source.old) (S.left source.new) result.closed) }
+    ensures budget { result.status ≡ Status.Budget → Wrote (K.held sink.old) (K.held sink.new) (IsEnded Spent (spelled words.now) (S.left source.old) (S.left source.new) result.closed) }
     ensures refused { result.status ≡ Status.Refused → Wrote (K.held sink.old) (K.held sink.new) (IsRefused (spelled words.now) (S.left source.old) (S.left source.new) result.closed) }
     ensures usage { result.status ≡ Status.Usage → Wrote (K.held sink.old) (K.held sink.new) (IsUsage (spelled words.now) (S.left source.old) (S.left source.new) (S.faults source.old) (S.faults source.new) result.closed) }
     ensures read_fault { result.status ≡ Status.ReadFault → Wrote (K.held sink.old) (K.held sink.new) (IsReadFault (spelled words.now) (S.faults source.old) (S.faults source.new) result.closed) }
@@ -141,8 +140,8 @@ fn refuse(alloc: Global, status: Status, line: &[u8]) -> Result<Answer, NoMemory
 fn answer_file(alloc: Global, bytes: &[u8]) -> Result<Answer, NoMemory>
     ensures { IfOk result (λ a. FileCauses a.status bytes.now a.closed a.due) }
 {
-    match cluster_file::read_description(alloc, bytes) {
-        Ok(_) => answer_cluster(alloc, bytes),
+    match read_description(alloc, bytes) {
+        Ok(description) => answer_cluster(alloc, description),
         Err(FileEnd::Refused(refusal)) => {
             let line = refusal_line(alloc, &refusal)?;
             refuse(alloc, Status::Refused, line.as_slice())
@@ -151,38 +150,34 @@ fn answer_file(alloc: Global, bytes: &[u8]) -> Result<Answer, NoMemory>
     }
 }
 
-/// What is due for a file that describes a cluster. The one error is want of memory.
-fn answer_cluster(alloc: Global, bytes: &[u8]) -> Result<Answer, NoMemory>
-    ensures { IfOk result (λ a. ClusterCauses a.status bytes.now a.closed a.due) }
+/// What is due for a described cluster. The one error is want of memory.
+fn answer_cluster(alloc: Global, description: Description) -> Result<Answer, NoMemory>
+    ensures { IfOk result (λ a. ClusterCauses a.status description a.closed a.due) }
 {
-    let Some(description) = read_description(alloc, bytes)? else {
+    if !is_run_today(&description) {
         return refuse(alloc, Status::Refused, REFUSED_LINE);
-    };
+    }
     let outcome = run(alloc, &description)?;
     let due = output(alloc, &description, &outcome)?;
     Ok(Answer {
-        status: Status::Ended,
+        status: status_of(outcome.finish),
         due: Bytes::of_vec(due),
         closed: Some(Closed {
             description,
-            trace: outcome.running.trace,
-            finish: Finish::AllEnded,
+            trace: outcome.trace,
+            finish: outcome.finish,
         }),
     })
 }
 
-/// The output of a run.
-fn output(alloc: Global, description: &Description, outcome: &Outcome) -> Result<Vec<u8>, NoMemory>
-    requires small { IsSmall description.now }
-    requires run { IsRun description.now outcome.now }
-    ensures { IfOk result (λ out. out.items ≡ output_of description.now (journal_of outcome.now.running.trace) AllEnded) }
+/// The status of a run that came to its end so.
+fn status_of(finish: Finish) -> Status
+    ensures { result ≡ status_of finish }
 {
-    let mut out = Vec::new(alloc);
-    let name = description.programs.at(0).name.as_slice();
-    let home = description.kernels.at(0).name.as_slice();
-    push_process(alloc, &mut out, 1001, name, home, outcome.code)?;
-    push_console(&mut out, outcome.running.console.as_slice())?;
-    Ok(out)
+    match finish {
+        Finish::Budget => Status::Budget,
+        _ => Status::Ended,
+    }
 }
 
 impl Status {
@@ -195,6 +190,7 @@ impl Status {
             Status::Refused => 1,
             Status::Usage => 2,
             Status::ReadFault => 3,
+            Status::Budget => 4,
             Status::NoMemory => 6,
             Status::WriteFault => 7,
         }

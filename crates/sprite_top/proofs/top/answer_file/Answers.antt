@@ -2,4 +2,4 @@ use Rattle.sprite_top.proofs.TopLaws.{from_cluster}
 use Rattle.sprite_top.proofs.top.answer_file.Goals as goal
 
 pub returns-in-Ok : goal.returns-in-Ok
-returns-in-Ok c = from_cluster c.args.bytes.now c.in-Ok.field-0 c.answer_cluster.result c.in-Ok.ensures.described c.answer_cluster.ensures
+returns-in-Ok c = from_cluster c.args.bytes.now c.in-Ok.description c.answer_cluster.result c.in-Ok.ensures.described c.answer_cluster.ensures

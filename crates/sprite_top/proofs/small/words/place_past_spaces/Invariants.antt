@@ -1,8 +1,0 @@
-use Rattle.std.proofs.Common.{◌≡◌, ◌+◌, ◌==◌, not, drop}
-use Rattle.std.specs.List.{position_or_len}
-use Rattle.sprite_top.proofs.small.words.place_past_spaces.Given as goal
-
--- the first place in the rest, counted from here, is the first place in the whole
-abbrev pub invariant-loop-place : goal.invariant-loop-place
-invariant-loop-place l =
-    l.place + position_or_len (λ b. not (b == 32)) (drop l.place l.bytes) ≡ position_or_len (λ b. not (b == 32)) l.bytes
