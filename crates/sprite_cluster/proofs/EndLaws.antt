@@ -22,6 +22,7 @@ use Rattle.sprite_cluster.specs.Turns.{IsPlainProgram}
 use Rattle.sprite_cluster.specs.Carried.{process_of, processes_of, AreCarried, Stands}
 use Rattle.sprite_cluster.specs.Histories.{LivesAt, HasEnded, HasNoneTo, text_of, all_ended, one_lives, IsFinished, IsHistory}
 use Rattle.sprite_cluster.proofs.KeptLaws.{kept_at}
+use Rattle.sprite_cluster.proofs.RuleLaws.{tame_formed, tame_reached, tame_rules}
 
 -- ---- what a turn needs
 
@@ -106,6 +107,9 @@ history : (c : Description) (r : Running) (end : Finish) → Stands c r → IsFi
 history c r end stands finished = record {
   legal = ap is_some stands.state;
   once = stands.once;
+  formed = tame_formed c r.trace stands.tame;
+  reached = tame_reached c r.trace stands.tame;
+  rules = tame_rules c r.trace stands.tame;
   finished = finished;
   output = ap (λ o. output_in c o end) stands.state ∙ ap (λ text. text ++ last_line end) (texts_are c r.trace r.kept stands.images stands.carried);
 }

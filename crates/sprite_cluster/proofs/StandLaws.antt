@@ -1,10 +1,10 @@
 -- What holds of a cluster on its way holds after a process's turn.
-use Rattle.std.proofs.Common.{◌≡◌, ℕ, zero, suc, ◌+◌, ◌-◌, ◌≤◌, ◌<◌, List, [], ◌∷◌, ◌++◌, Option, Some, None, refl, ap, sym, subst, ◌∙◌, arith, slice_get, slice_set, slice_index}
+use Rattle.std.proofs.Common.{◌≡◌, ℕ, zero, suc, ◌+◌, ◌-◌, ◌≤◌, ◌<◌, false, List, [], ◌∷◌, ◌++◌, Option, Some, None, refl, ap, sym, subst, ◌∙◌, arith, slice_get, slice_set, slice_index}
 use Rattle.std.specs.List.{AllByRecursion}
 use Rattle.std.proofs.lemmas.List.{append-nil}
 use Rattle.sprite_ids.specs.Pid.{home_of}
 use Rattle.sprite_ids.specs.declared.running.Ending.{Ending}
-use Rattle.sprite_ids.proofs.ListLaws.{some_is, each_weaken, each_set, get_within, get_set_same, set_same}
+use Rattle.sprite_ids.proofs.ListLaws.{some_is, each_append, each_push, each_weaken, each_set, get_within, get_set_same, set_same}
 use Rattle.process_machine.specs.declared.call.Call.{Call}
 use Rattle.process_machine.specs.declared.call.Call.TheVariants as call
 use Rattle.process_machine.specs.declared.call.Reply.{Reply}
@@ -27,6 +27,7 @@ use Rattle.unix_calls.proofs.HistoryLaws.{state_from-append}
 use Rattle.call_journal.specs.Journal.{journal_of}
 use Rattle.call_journal.specs.Once.{progress_from, call_events}
 use Rattle.call_journal.specs.Units.{units_of}
+use Rattle.call_journal.specs.Calls.{error_in, is_unreachable_error}
 use Rattle.call_journal.proofs.GrowthLaws.{journals_grow}
 use Rattle.sprite_cluster.specs.declared.kept.Kept.{Kept}
 use Rattle.sprite_cluster.specs.declared.running.Running.{Running}
@@ -34,7 +35,9 @@ use Rattle.sprite_cluster.specs.Answers.{IsBuilt, ending_of, count_at, answer_of
 use Rattle.sprite_cluster.specs.Turns.{IsPlainProgram, at_home, whole_entry, entered_records, returned_records, call_records, image_after, kept_after, Stops, at_call, at_bad_step, Goes, on, calls, with_image, Turned}
 use Rattle.sprite_cluster.specs.Carried.{processes_of, unix_of, IsCarried, AreCarried, Stands}
 use Rattle.sprite_cluster.specs.Histories.{TurnedOn}
-use Rattle.sprite_cluster.proofs.BuiltLaws.{built_there}
+use Rattle.sprite_cluster.proofs.BuiltLaws.{built_there, refused_by, reached_there}
+use Rattle.sprite_cluster.specs.Tame.{IsHome, IsTame}
+use Rattle.sprite_cluster.proofs.AnswerLaws.{answer_reached}
 use Rattle.sprite_cluster.proofs.EntryLaws.{after_is}
 use Rattle.sprite_cluster.proofs.HistoryLaws.{progress_more, progress_stays, no_events, own_progress, once_called, once_ran, differ, units_more}
 use Rattle.sprite_cluster.proofs.KeptLaws.{kept_at, Stay, carried_set, rises_set, set_again}
@@ -63,6 +66,7 @@ stays c trace more pid none = λ k image apart carried.
       leads = carried.leads;
       present = carried.present;
       counted = omega (arith, longer, carried.counted);
+      placed = carried.placed;
       turn = λ lives. progress_stays k.pid trace more (none k.pid apart) ∙ carried.turn lives;
     }
 
@@ -84,6 +88,7 @@ ran_carried c trace k base image p count carried found few moved =
       leads = ahead_sum p base k.image image carried.ran count leads moved;
       present = present_ahead p k.image image count carried.present moved;
       counted = omega (arith, longer, carried.counted);
+      placed = carried.placed;
       turn = λ lives. progress_stays k.pid trace burst refl ∙ carried.turn lives;
     }
 
@@ -103,6 +108,7 @@ stands_ran c r i k p count image stands got found few moved =
       state = ap (state_of c) (journals_grow r.trace burst ∙ append-nil (journal_of r.trace)) ∙ stands.state ∙ ap (λ (ps : List Process). Some (unix_of c ps r.ticks stands.entries)) (sym (there.same image));
       once = once_ran k.pid count r.trace stands.once;
       ticked = counts_stay r.trace burst r.ticks stands.ticked;
+      tame = each_push (IsTame c) r.trace (at_home k.pid (Burst k.pid count)) stands.tame (record { same = refl; placed = there.carried.placed });
     }
 
 -- ---- a call
@@ -164,8 +170,16 @@ called_carried c trace k base p called reply carried found plain lives =
       leads = refl;
       present = image_present p k.image (ending_of called) reply carried.present;
       counted = omega (arith, longer, some, carried.counted);
+      placed = carried.placed;
       turn = λ goes. progress_more k.pid trace more ∙ ap (λ s. progress_from s (call_events k.pid more)) (carried.turn lives) ∙ own_progress k.pid k.calls called reply goes;
     }
+
+-- the records of a built call are tame
+call_tame : (c : Description) (end : Option Ending) (pid number : ℕ) (called : Call) (reply : Reply) → IsHome c pid (home_of pid) → IsBuilt called → is_unreachable_error (error_in (Some reply)) ≡ false → AllByRecursion (IsTame c) (entered_records pid number called reply ++ returned_records end pid number reply)
+call_tame c None pid number called reply home built reached =
+    (home, (record { home = home; called = called; reply = reply; built = built; reached = reached; whole = refl; call = refl; answer = refl }, (home, tt)))
+call_tame c (Some end) pid number called reply home built reached =
+    (home, (record { home = home; called = called; reply = reply; built = built; reached = reached; whole = refl; call = refl; answer = refl }, tt))
 
 -- the cluster after a call of the process at a place
 pub stands_called : (c : Description) (r : Running) (i : ℕ) (k : Kept) (p : Program) (called : Call) → Stands c r → slice_get r.kept i ≡ Some k → k.ending ≡ None → program_at c.programs k.image.number ≡ Some p → units_of r.trace ≤ 4000000 → Stops p k.image → called ≡ call_there p k.image (step_of p k.image) → Stands c (changed r i (kept_after p k called (answer_of c.kernels r.ticks k.pid called)) (ticks_after r.ticks k.pid called) (r.trace ++ call_records k.pid (k.calls + 1) called (answer_of c.kernels r.ticks k.pid called)))
@@ -182,6 +196,7 @@ stands_called c r i k p called stands got lives found few stops is =
     let leads : ahead p there.image carried.ran ≡ Some k.image = subst (λ (q : Program). ahead q there.image carried.ran ≡ Some k.image) same carried.leads in
     let next : at_next_call p there.image ≡ Some k.image = next_found p there.image k.image carried.ran (bursts_within carried.ran (omega (arith, carried.few, few))) leads (stopped p k.image stops) in
     let built : IsBuilt called = subst IsBuilt (sym is) (built_there p k.image plain stops) in
+    let reached = answer_reached c.kernels r.ticks k.pid called (subst (λ (made : Call). is_unreachable_error (refused_by made) ≡ false) (sym is) (reached_there p k.image (step_of p k.image))) in
     let entered = after_is c (processes_of r.kept stands.images) r.ticks stands.entries p k there.image k.image called there.there lives found_base next found is built in
     record {
       images = slice_set stands.images i image';
@@ -191,6 +206,7 @@ stands_called c r i k p called stands got lives found few stops is =
       state = grown c r.trace more (unix_of c (processes_of r.kept stands.images) r.ticks stands.entries) (whole_entry k.pid (k.calls + 1) called reply) stands.state (one_entry (ending_of called) k.pid (k.calls + 1) called reply) ∙ entered ∙ ap (λ (ps : List Process). Some (unix_of c ps (ticks_after r.ticks k.pid called) (stands.entries + 1))) (there.put k' image' refl);
       once = once_called k.pid k.calls r.trace called reply (carried.turn lives) stands.once;
       ticked = ticked_on r.trace more r.ticks k.pid called (some_units (ending_of called) k.pid (k.calls + 1) called reply) stands.ticked;
+      tame = each_append (IsTame c) r.trace more stands.tame (call_tame c (ending_of called) k.pid (k.calls + 1) called reply (record { same = refl; placed = carried.placed }) built reached);
     }
 
 -- ---- a turn

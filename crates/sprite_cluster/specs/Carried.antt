@@ -16,6 +16,7 @@ use Rattle.call_journal.specs.Once.{Between, Once, progress_of}
 use Rattle.call_journal.specs.Units.{units_of}
 use Rattle.sprite_cluster.specs.declared.kept.Kept.{Kept}
 use Rattle.sprite_cluster.specs.declared.running.Running.{Running}
+use Rattle.sprite_cluster.specs.Tame.{IsPlaced, IsTame}
 use Rattle.sprite_cluster.specs.Turns.{IsPlainProgram}
 
 -- the process that the one-kernel Unix has for a kept one, with the image that it had at its last entry
@@ -65,6 +66,7 @@ pub record IsCarried (c : Description) (trace : List Rec) (k : Kept) (image : Ma
   pub leads : ahead program image ran ≡ Some k.image
   pub present : AllPresent k.image.pages
   pub counted : k.calls ≤ units_of trace
+  pub placed : IsPlaced c k.pid
   pub turn : k.ending ≡ None → progress_of k.pid trace ≡ Some (Between k.calls)
 
 abbrev pub AreCarried : Description → List Rec → List Kept → List Machine → Type 0
@@ -86,3 +88,4 @@ pub record Stands (c : Description) (r : Running) : Type 0 where
   pub state : state_of c (journal_of r.trace) ≡ Some (unix_of c (processes_of r.kept images) r.ticks entries)
   pub once : Once r.trace
   pub ticked : AllByRecursion (λ count. count ≤ units_of r.trace) r.ticks
+  pub tame : AllByRecursion (IsTame c) r.trace

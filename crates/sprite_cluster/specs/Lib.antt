@@ -2,5 +2,6 @@ pub mod Answers
 pub mod Booted
 pub mod Carried
 pub mod Histories
+pub mod Tame
 pub mod Today
 pub mod Turns
