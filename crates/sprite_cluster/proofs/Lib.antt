@@ -9,3 +9,4 @@ pub mod StandLaws
 pub mod TameLaws
 pub mod MoveLaws
 pub mod RuleLaws
+pub mod WorthLaws
