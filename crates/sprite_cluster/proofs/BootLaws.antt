@@ -170,6 +170,7 @@ fresh_carried c k h placed = record {
   present = h.present;
   counted = omega (arith, h.calls);
   placed = placed;
+  done = refl;
   turn = λ lives. ap (λ n. Some (Between n)) (sym h.calls);
 }
 
@@ -204,14 +205,18 @@ zeros_under (suc n) = (omega arith, zeros_under n)
 pub stands_first : (c : Description) (kept : List Kept) (ticks : List ℕ) → IsStarted c kept → ticks ≡ replicate (length c.kernels) 0 → Stands c (record { kept = kept; ticks = ticks; trace = [] })
 stands_first c kept ticks h zeros =
     subst (λ (counts : List ℕ). Stands c (record { kept = kept; ticks = counts; trace = [] })) (sym zeros) (record {
-      images = images_of kept;
-      carried = all_carried c kept h.fresh (all_placed c kept h);
-      rises = h.rises;
-      entries = 0;
-      state = ap (λ (ps : List Process). Some (unix_of c ps (replicate (length c.kernels) 0) 0)) (sym h.are);
-      once = λ pid. refl;
-      ticked = zeros_under (length c.kernels);
-      tame = tt;
+      follows = record {
+        images = images_of kept;
+        carried = all_carried c kept h.fresh (all_placed c kept h);
+        rises = h.rises;
+        entries = 0;
+        state = ap (λ (ps : List Process). Some (unix_of c ps (replicate (length c.kernels) 0) 0)) (sym h.are);
+        once = λ pid. refl;
+        ticked = zeros_under (length c.kernels);
+        tame = tt;
+        fits = refl;
+      };
+      whole = refl;
     })
 
 -- ---- what a cluster is that is run so far

@@ -10,3 +10,5 @@ pub mod TameLaws
 pub mod MoveLaws
 pub mod RuleLaws
 pub mod WorthLaws
+pub mod BurstLaws
+pub mod FitLaws

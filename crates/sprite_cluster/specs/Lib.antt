@@ -1,5 +1,6 @@
 pub mod Answers
 pub mod Booted
+pub mod Bursts
 pub mod Carried
 pub mod Histories
 pub mod Tame
