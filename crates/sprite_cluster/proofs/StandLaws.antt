@@ -100,24 +100,24 @@ ran_carried c trace k base image p count carried found few moved =
 
 -- the cluster after a burst of the process at a place
 pub follows_ran : (c : Description) (r : Running) (i : ℕ) (k : Kept) (p : Program) (count : ℕ) (image : Machine) → Follows c r → slice_get r.kept i ≡ Some k → program_at c.programs k.image.number ≡ Some p → count ≤ 10000 → ahead p k.image count ≡ Some image → Follows c (changed r i (with_image k image) r.ticks (r.trace ++ at_home k.pid (Burst k.pid count) ∷ []))
-follows_ran c r i k p count image stands got found few moved =
+follows_ran c r i k p count image follows got found few moved =
     let burst : List Rec = at_home k.pid (Burst k.pid count) ∷ [] in
-    let there = kept_at c r.trace r.kept stands.images i k stands.carried stands.rises got in
+    let there = kept_at c r.trace r.kept follows.images i k follows.carried follows.rises got in
     let found_base : program_at c.programs there.image.number ≡ Some p = ap (program_at c.programs) (sym there.carried.same) ∙ found in
     let new = ran_carried c r.trace k there.image image p count there.carried found_base few moved in
     let same : there.carried.program ≡ p = some_is there.carried.program p (sym there.carried.found ∙ found_base) in
     let leads : ahead p there.image there.carried.ran ≡ Some k.image = subst (λ (q : Program). ahead q there.image there.carried.ran ≡ Some k.image) same there.carried.leads in
-    let kept : slice_set stands.images i there.image ≡ stands.images = set_same stands.images i there.image there.got in
+    let kept : slice_set follows.images i there.image ≡ follows.images = set_same follows.images i there.image there.got in
     record {
-      images = stands.images;
-      carried = subst (λ (images : List Machine). AreCarried c (r.trace ++ burst) (slice_set r.kept i (with_image k image)) images) kept (carried_set c r.trace (r.trace ++ burst) r.kept stands.images i k (with_image k image) there.image stands.carried stands.rises got (stays c r.trace burst k.pid (λ other apart. refl) (λ other apart. other_burst k.pid other count r.trace (differ other k.pid apart))) new);
-      rises = rises_set r.kept i k (with_image k image) stands.rises got refl;
-      entries = stands.entries;
-      state = ap (state_of c) (journals_grow r.trace burst ∙ append-nil (journal_of r.trace)) ∙ stands.state ∙ ap (λ (ps : List Process). Some (unix_of c ps r.ticks stands.entries)) (sym (there.same image));
-      once = once_ran k.pid count r.trace stands.once;
-      ticked = counts_stay r.trace burst r.ticks stands.ticked;
-      tame = each_push (IsTame c) r.trace (at_home k.pid (Burst k.pid count)) stands.tame (record { same = refl; placed = there.carried.placed });
-      fits = burst_fits c r.trace (unix_of c (processes_of r.kept stands.images) r.ticks stands.entries) k there.image image p there.carried.ran count stands.state there.there found_base there.carried.done (ahead_sum p there.image k.image image there.carried.ran count leads moved) stands.fits;
+      images = follows.images;
+      carried = subst (λ (images : List Machine). AreCarried c (r.trace ++ burst) (slice_set r.kept i (with_image k image)) images) kept (carried_set c r.trace (r.trace ++ burst) r.kept follows.images i k (with_image k image) there.image follows.carried follows.rises got (stays c r.trace burst k.pid (λ other apart. refl) (λ other apart. other_burst k.pid other count r.trace (differ other k.pid apart))) new);
+      rises = rises_set r.kept i k (with_image k image) follows.rises got refl;
+      entries = follows.entries;
+      state = ap (state_of c) (journals_grow r.trace burst ∙ append-nil (journal_of r.trace)) ∙ follows.state ∙ ap (λ (ps : List Process). Some (unix_of c ps r.ticks follows.entries)) (sym (there.same image));
+      once = once_ran k.pid count r.trace follows.once;
+      ticked = counts_stay r.trace burst r.ticks follows.ticked;
+      tame = each_push (IsTame c) r.trace (at_home k.pid (Burst k.pid count)) follows.tame (record { same = refl; placed = there.carried.placed });
+      fits = burst_fits c r.trace (unix_of c (processes_of r.kept follows.images) r.ticks follows.entries) k there.image image p there.carried.ran count follows.state there.there found_base there.carried.done (ahead_sum p there.image k.image image there.carried.ran count leads moved) follows.fits;
     }
 
 -- ---- a call
@@ -193,12 +193,12 @@ call_tame c (Some end) pid number called reply home built reached =
 
 -- the cluster after a call of the process at a place
 pub follows_called : (c : Description) (r : Running) (i : ℕ) (k : Kept) (p : Program) (called : Call) → Follows c r → slice_get r.kept i ≡ Some k → k.ending ≡ None → program_at c.programs k.image.number ≡ Some p → units_of r.trace ≤ 4000000 → Stops p k.image → called ≡ call_there p k.image (step_of p k.image) → Follows c (changed r i (kept_after p k called (answer_of c.kernels r.ticks k.pid called)) (ticks_after r.ticks k.pid called) (r.trace ++ call_records k.pid (k.calls + 1) called (answer_of c.kernels r.ticks k.pid called)))
-follows_called c r i k p called stands got lives found few stops is =
+follows_called c r i k p called follows got lives found few stops is =
     let reply = answer_of c.kernels r.ticks k.pid called in
     let more = call_records k.pid (k.calls + 1) called reply in
     let k' = kept_after p k called reply in
     let image' = image_after p k.image (ending_of called) reply in
-    let there = kept_at c r.trace r.kept stands.images i k stands.carried stands.rises got in
+    let there = kept_at c r.trace r.kept follows.images i k follows.carried follows.rises got in
     let carried = there.carried in
     let found_base : program_at c.programs there.image.number ≡ Some p = ap (program_at c.programs) (sym carried.same) ∙ found in
     let same : carried.program ≡ p = some_is carried.program p (sym carried.found ∙ found_base) in
@@ -207,17 +207,17 @@ follows_called c r i k p called stands got lives found few stops is =
     let next : at_next_call p there.image ≡ Some k.image = next_found p there.image k.image carried.ran (bursts_within carried.ran (omega (arith, carried.few, few))) leads (stopped p k.image stops) in
     let built : IsBuilt called = subst IsBuilt (sym is) (built_there p k.image plain stops) in
     let reached = answer_reached c.kernels r.ticks k.pid called (subst (λ (made : Call). is_unreachable_error (refused_by made) ≡ false) (sym is) (reached_there p k.image (step_of p k.image))) in
-    let entered = after_is c (processes_of r.kept stands.images) r.ticks stands.entries p k there.image k.image called there.there lives found_base next found is built in
+    let entered = after_is c (processes_of r.kept follows.images) r.ticks follows.entries p k there.image k.image called there.there lives found_base next found is built in
     record {
-      images = slice_set stands.images i image';
-      carried = carried_set c r.trace (r.trace ++ more) r.kept stands.images i k k' image' stands.carried stands.rises got (stays c r.trace more k.pid (λ other apart. no_events k.pid other (k.calls + 1) called reply (differ other k.pid apart)) (λ other apart. other_call (ending_of called) k.pid other (k.calls + 1) called reply r.trace (differ other k.pid apart))) (called_carried c r.trace k there.image p called reply carried found plain lives);
-      rises = rises_set r.kept i k k' stands.rises got refl;
-      entries = stands.entries + 1;
-      state = grown c r.trace more (unix_of c (processes_of r.kept stands.images) r.ticks stands.entries) (whole_entry k.pid (k.calls + 1) called reply) stands.state (one_entry (ending_of called) k.pid (k.calls + 1) called reply) ∙ entered ∙ ap (λ (ps : List Process). Some (unix_of c ps (ticks_after r.ticks k.pid called) (stands.entries + 1))) (there.put k' image' refl);
-      once = once_called k.pid k.calls r.trace called reply (carried.turn lives) stands.once;
-      ticked = ticked_on r.trace more r.ticks k.pid called (some_units (ending_of called) k.pid (k.calls + 1) called reply) stands.ticked;
-      tame = each_append (IsTame c) r.trace more stands.tame (call_tame c (ending_of called) k.pid (k.calls + 1) called reply (record { same = refl; placed = carried.placed }) built reached);
-      fits = call_fits c r.trace (unix_of c (processes_of r.kept stands.images) r.ticks stands.entries) k there.image p carried.ran (k.calls + 1) called reply (ending_of called) stands.state there.there found_base carried.done leads stops stands.fits;
+      images = slice_set follows.images i image';
+      carried = carried_set c r.trace (r.trace ++ more) r.kept follows.images i k k' image' follows.carried follows.rises got (stays c r.trace more k.pid (λ other apart. no_events k.pid other (k.calls + 1) called reply (differ other k.pid apart)) (λ other apart. other_call (ending_of called) k.pid other (k.calls + 1) called reply r.trace (differ other k.pid apart))) (called_carried c r.trace k there.image p called reply carried found plain lives);
+      rises = rises_set r.kept i k k' follows.rises got refl;
+      entries = follows.entries + 1;
+      state = grown c r.trace more (unix_of c (processes_of r.kept follows.images) r.ticks follows.entries) (whole_entry k.pid (k.calls + 1) called reply) follows.state (one_entry (ending_of called) k.pid (k.calls + 1) called reply) ∙ entered ∙ ap (λ (ps : List Process). Some (unix_of c ps (ticks_after r.ticks k.pid called) (follows.entries + 1))) (there.put k' image' refl);
+      once = once_called k.pid k.calls r.trace called reply (carried.turn lives) follows.once;
+      ticked = ticked_on r.trace more r.ticks k.pid called (some_units (ending_of called) k.pid (k.calls + 1) called reply) follows.ticked;
+      tame = each_append (IsTame c) r.trace more follows.tame (call_tame c (ending_of called) k.pid (k.calls + 1) called reply (record { same = refl; placed = carried.placed }) built reached);
+      fits = call_fits c r.trace (unix_of c (processes_of r.kept follows.images) r.ticks follows.entries) k there.image p carried.ran (k.calls + 1) called reply (ending_of called) follows.state there.there found_base carried.done leads stops follows.fits;
     }
 
 -- ---- a turn

@@ -58,7 +58,7 @@ unix_of c processes ticks entries =
       entries = entries;
     }
 
--- a kept process with the image that it had at its last entry, from which it has come by instructions alone
+-- a kept process with the image that it had at its last entry, from which it has come by the instructions of its bursts alone
 pub record IsCarried (c : Description) (trace : List Rec) (k : Kept) (image : Machine) : Type 0 where
   pub program : Program
   pub found : program_at c.programs image.number ≡ Some program
@@ -95,7 +95,7 @@ pub record Follows (c : Description) (r : Running) : Type 0 where
   pub tame : AllByRecursion (IsTame c) r.trace
   pub fits : IsTrue (each_record c (λ past rec rest. count_fits c past rec.event) r.trace)
 
--- the cluster between two turns
+-- the cluster between two turns: each burst is whole, or has its reason behind it
 pub record Stands (c : Description) (r : Running) : Type 0 where
   pub follows : Follows c r
   pub whole : IsTrue (are_whole r.trace)

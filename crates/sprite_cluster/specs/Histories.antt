@@ -63,8 +63,8 @@ IsFinished c trace finish.Budget = (c.budget ≤ units_of trace) × IsTrue (one_
 IsFinished c trace _ = ⊥
 
 -- the whole run: its journal is a history of one Unix kernel, each finished call stands in it once, its records are written as
--- they should be and call nothing unreachable without cause, they keep the nine rules, none stands for nothing, it came to its end, and what is printed
--- about the processes is the output of the journal
+-- they should be and call nothing unreachable without cause, they keep the nine rules, none of them stands for nothing, it came
+-- to its end, and what is printed about the processes is the output of the journal
 pub record IsHistory (c : Description) (o : Outcome) : Type 0 where
   pub legal : IsTrue (legal c (journal_of o.trace))
   pub once : Once o.trace
