@@ -21,6 +21,8 @@ use Rattle.sprite_cluster.specs.declared.kept.Kept.{Kept}
 use Rattle.sprite_cluster.specs.Answers.{IsBuilt, ending_of, count_at, counted_at, answer_of, ticks_after}
 use Rattle.sprite_cluster.specs.Turns.{image_after, kept_after, with_image}
 use Rattle.sprite_cluster.specs.Carried.{process_of, unix_of}
+use Rattle.call_journal.specs.Calls.{error_in, is_unreachable_error}
+use Rattle.sprite_cluster.proofs.BuiltLaws.{refused_by}
 
 -- an answer has no more bytes than the call has room for
 host_fits : (max : ℕ) (name : List ℕ) (b : Bool) → nat_lt max (length name) ≡ b → Fits (call.Host max) (cond b (Error errno.Invalid) (Value (length name) 0 name))
@@ -31,6 +33,18 @@ pub answer_fits : (kernels : List KernelLine) (ticks : List ℕ) (pid : ℕ) (ca
 answer_fits kernels ticks pid (call.Host max) = host_fits max (kernel_name kernels (home_of pid)) (nat_lt max (length (kernel_name kernels (home_of pid)))) refl
 answer_fits kernels ticks pid (call.Refused e) = tt
 answer_fits kernels ticks pid _ = omega arith
+
+-- an answer isn't that something is unreachable, where the call wasn't refused so
+host_reached : (name : List ℕ) (b : Bool) → is_unreachable_error (error_in (Some (cond b (Error errno.Invalid) (Value (length name) 0 name)))) ≡ false
+host_reached name true = refl
+host_reached name false = refl
+
+pub answer_reached : (kernels : List KernelLine) (ticks : List ℕ) (pid : ℕ) (called : Call) → is_unreachable_error (refused_by called) ≡ false → is_unreachable_error (error_in (Some (answer_of kernels ticks pid called))) ≡ false
+answer_reached kernels ticks pid (call.Host max) h =
+    let name = kernel_name kernels (home_of pid) in
+    host_reached name (nat_lt max (length name))
+answer_reached kernels ticks pid (call.Refused e) h = h
+answer_reached kernels ticks pid _ h = refl
 
 -- the process of the one-kernel Unix after its call
 abbrev pub later_process : Program → Kept → Machine → Call → Reply → Process

@@ -18,11 +18,14 @@ use Rattle.unix_calls.specs.Boot.{started, started_by}
 use Rattle.unix_calls.proofs.ProcessLaws.{Compared, Same, Less, More, compared, at_same, at_other, put_less, put_more, Behind, Ascending}
 use Rattle.unix_calls.proofs.NumberLaws.{Numbered, next_is_new, numbered_more}
 use Rattle.call_journal.specs.Once.{Between}
+use Rattle.call_journal.specs.Past.{whereabouts_of, at_homes}
 use Rattle.sprite_cluster.specs.declared.kept.Kept.{Kept}
 use Rattle.sprite_cluster.specs.Today.{is_plain, are_placed, has_program, is_run_today}
 use Rattle.sprite_cluster.specs.Turns.{IsPlainProgram}
 use Rattle.sprite_cluster.specs.Carried.{process_of, unix_of, IsCarried, AreCarried, Rises, Stands}
+use Rattle.sprite_cluster.specs.Tame.{home_place, IsPlaced}
 use Rattle.sprite_cluster.proofs.BuiltLaws.{all_get}
+use Rattle.sprite_cluster.proofs.HistoryLaws.{same_number, differ}
 use Rattle.sprite_cluster.specs.Booted.{images_of, booted, births_of, new_kept, put_kept, IsFresh, IsPlaceOf, IsNext, IsStarted}
 
 -- ---- the place of a process
@@ -155,8 +158,8 @@ all_started c kept left none on_way =
     let way = subst (λ (lines : List StartLine). IsOnWay c lines kept) none on_way in
     record { fresh = way.fresh; rises = rises_booted kept way.numbered.ascending; are = way.are }
 
-fresh_carried : (c : Description) (k : Kept) → IsFresh c k → IsCarried c [] k k.image
-fresh_carried c k h = record {
+fresh_carried : (c : Description) (k : Kept) → IsFresh c k → IsPlaced c k.pid → IsCarried c [] k k.image
+fresh_carried c k h placed = record {
   program = h.program;
   found = h.found;
   plain = h.plain;
@@ -166,12 +169,34 @@ fresh_carried c k h = record {
   leads = refl;
   present = h.present;
   counted = omega (arith, h.calls);
+  placed = placed;
+  done = refl;
   turn = λ lives. ap (λ n. Some (Between n)) (sym h.calls);
 }
 
-all_carried : (c : Description) (kept : List Kept) → AllByRecursion (IsFresh c) kept → AreCarried c [] kept (images_of kept)
-all_carried c [] h = tt
-all_carried c (k ∷ ks) h = (fresh_carried c k h.0, all_carried c ks h.1)
+all_carried : (c : Description) (kept : List Kept) → AllByRecursion (IsFresh c) kept → AllByRecursion (λ (k : Kept). IsPlaced c k.pid) kept → AreCarried c [] kept (images_of kept)
+all_carried c [] h placed = tt
+all_carried c (k ∷ ks) h placed = (fresh_carried c k h.0 placed.0, all_carried c ks h.1 placed.1)
+
+-- a process is at its home among some
+abbrev IsAmong : List Process → Kept → Type 0
+IsAmong ps k = whereabouts_of (at_homes ps) k.pid ≡ Some (home_place k.pid)
+
+-- and among these behind one with a lesser number
+among_more : (p : Process) (ps : List Process) (ks : List Kept) → AllByRecursion (λ (k : Kept). p.pid < k.pid) ks → AllByRecursion (IsAmong ps) ks → AllByRecursion (IsAmong (p ∷ ps)) ks
+among_more p ps [] less h = tt
+among_more p ps (k ∷ ks) less h =
+    let first = ap (λ b. cond b (Some (home_place p.pid)) (whereabouts_of (at_homes ps) k.pid)) (differ k.pid p.pid (λ e. omega (arith, e, less.0))) ∙ h.0 in
+    (first, among_more p ps ks less.1 h.1)
+
+all_among : (kept : List Kept) → Rises kept → AllByRecursion (IsAmong (booted kept)) kept
+all_among [] rises = tt
+all_among (k ∷ ks) rises =
+    (ap (λ b. cond b (Some (home_place k.pid)) (whereabouts_of (at_homes (booted ks)) k.pid)) (same_number k.pid), among_more (process_of k k.image) (booted ks) ks rises.0 (all_among ks rises.1))
+
+-- the processes of the start are placed
+all_placed : (c : Description) (kept : List Kept) → IsStarted c kept → AllByRecursion (λ (k : Kept). IsPlaced c k.pid) kept
+all_placed c kept h = subst (λ (ps : List Process). AllByRecursion (IsAmong ps) kept) h.are (all_among kept h.rises)
 
 zeros_under : (n : ℕ) → AllByRecursion (λ count. count ≤ 0) (replicate n 0)
 zeros_under zero = tt
@@ -180,13 +205,18 @@ zeros_under (suc n) = (omega arith, zeros_under n)
 pub stands_first : (c : Description) (kept : List Kept) (ticks : List ℕ) → IsStarted c kept → ticks ≡ replicate (length c.kernels) 0 → Stands c (record { kept = kept; ticks = ticks; trace = [] })
 stands_first c kept ticks h zeros =
     subst (λ (counts : List ℕ). Stands c (record { kept = kept; ticks = counts; trace = [] })) (sym zeros) (record {
-      images = images_of kept;
-      carried = all_carried c kept h.fresh;
-      rises = h.rises;
-      entries = 0;
-      state = ap (λ (ps : List Process). Some (unix_of c ps (replicate (length c.kernels) 0) 0)) (sym h.are);
-      once = λ pid. refl;
-      ticked = zeros_under (length c.kernels);
+      follows = record {
+        images = images_of kept;
+        carried = all_carried c kept h.fresh (all_placed c kept h);
+        rises = h.rises;
+        entries = 0;
+        state = ap (λ (ps : List Process). Some (unix_of c ps (replicate (length c.kernels) 0) 0)) (sym h.are);
+        once = λ pid. refl;
+        ticked = zeros_under (length c.kernels);
+        tame = tt;
+        fits = refl;
+      };
+      whole = refl;
     })
 
 -- ---- what a cluster is that is run so far

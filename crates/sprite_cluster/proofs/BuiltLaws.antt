@@ -1,9 +1,13 @@
 -- A program that makes only calls that are built so far stands at such a call.
-use Rattle.std.proofs.Common.{◌≡◌, ℕ, zero, suc, Bool, true, true≢false, List, [], ◌∷◌, Option, Some, None, refl, sym, subst, arith, slice_get}
+use Rattle.std.proofs.Common.{◌≡◌, ℕ, zero, suc, ◌||◌, Bool, true, false, cond, true≢false, List, [], ◌∷◌, Option, Some, None, refl, sym, subst, arith, slice_get}
 use Rattle.std.proofs.lemmas.Bool.{and_parts}
 use Rattle.std.specs.List.{list_all}
 use Rattle.sprite_ids.proofs.ListLaws.{some_is}
 use Rattle.sprite_ids.specs.declared.errno.Errno.{Errno}
+use Rattle.sprite_ids.specs.declared.errno.Errno.TheVariants as errno
+use Rattle.process_machine.specs.declared.call.Call.{Call}
+use Rattle.process_machine.specs.declared.call.Call.TheVariants as call
+use Rattle.call_journal.specs.Calls.{is_unreachable_error}
 use Rattle.process_machine.specs.declared.instruction.Instruction.{Instruction}
 use Rattle.process_machine.specs.declared.instruction.Instruction.TheVariants.{Sys}
 use Rattle.process_machine.specs.declared.instruction.SyscallName.{SyscallName}
@@ -12,9 +16,9 @@ use Rattle.process_machine.specs.declared.arguments.Arguments.{Arguments}
 use Rattle.process_machine.specs.declared.program.Program.{Program}
 use Rattle.process_machine.specs.Arguments.{arguments}
 use Rattle.process_machine.specs.Machine.{Machine}
-use Rattle.process_machine.specs.Parts.{parts_of, refusal}
+use Rattle.process_machine.specs.Parts.{parts_of, too_long, misnamed, leaves_pages, refusal}
 use Rattle.process_machine.specs.Calls.{named_call, unless_refused, call_in, call_at}
-use Rattle.process_machine.specs.Steps.{step_of}
+use Rattle.process_machine.specs.Steps.{Step, AtBadStep, step_of}
 use Rattle.process_machine.specs.Runs.{call_there}
 use Rattle.sprite_cluster.specs.Today.{is_plain_name, is_plain}
 use Rattle.sprite_cluster.specs.Answers.{IsBuilt}
@@ -49,6 +53,38 @@ built_get code place (Some i) m e h = built_in i m (all_get is_plain code place 
 
 pub built_at : (p : Program) (m : Machine) → IsPlainProgram p → IsBuilt (call_at p m)
 built_at p m h = built_get p.code m.counter (slice_get p.code m.counter) m refl h
+
+-- the error with which a call is refused before it is made
+abbrev pub refused_by : Call → Option Errno
+refused_by (call.Refused e) = Some e
+refused_by _ = None
+
+-- it isn't that something is unreachable
+refusal_reached : (long misnamed away : Bool) → is_unreachable_error (cond long (Some errno.Invalid) (cond misnamed (Some errno.BadName) (cond away (Some errno.BadAddress) None))) ≡ false
+refusal_reached true misnamed away = refl
+refusal_reached false true away = refl
+refusal_reached false false true = refl
+refusal_reached false false false = refl
+
+reached_named : (n : SyscallName) (a : Arguments) (pages : List (Option (List ℕ))) → is_unreachable_error (refused_by (named_call n a pages)) ≡ false
+reached_named name.Print a pages = refl
+reached_named _ a pages = refl
+
+reached_with : (o : Option Errno) (n : SyscallName) (a : Arguments) (pages : List (Option (List ℕ))) → is_unreachable_error o ≡ false → is_unreachable_error (refused_by (unless_refused o (named_call n a pages))) ≡ false
+reached_with None n a pages h = reached_named n a pages
+reached_with (Some e) n a pages h = h
+
+reached_in : (o : Option Instruction) (m : Machine) → is_unreachable_error (refused_by (call_in o m)) ≡ false
+reached_in None m = refl
+reached_in (Some (Sys n operands)) m =
+    let a = arguments m operands in
+    let parts = parts_of n a in
+    reached_with (refusal m.pages parts) n a m.pages (refusal_reached (too_long parts.first || too_long parts.second) (misnamed parts.first || misnamed parts.second) (leaves_pages m.pages parts.first || leaves_pages m.pages parts.second))
+reached_in (Some _) m = refl
+
+pub reached_there : (p : Program) (m : Machine) (s : Step) → is_unreachable_error (refused_by (call_there p m s)) ≡ false
+reached_there p m AtBadStep = refl
+reached_there p m _ = reached_in (slice_get p.code m.counter) m
 
 -- at a call or a bad step
 pub built_there : (p : Program) (m : Machine) → IsPlainProgram p → Stops p m → IsBuilt (call_there p m (step_of p m))

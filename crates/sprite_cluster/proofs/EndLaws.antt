@@ -22,6 +22,9 @@ use Rattle.sprite_cluster.specs.Turns.{IsPlainProgram}
 use Rattle.sprite_cluster.specs.Carried.{process_of, processes_of, AreCarried, Stands}
 use Rattle.sprite_cluster.specs.Histories.{LivesAt, HasEnded, HasNoneTo, text_of, all_ended, one_lives, IsFinished, IsHistory}
 use Rattle.sprite_cluster.proofs.KeptLaws.{kept_at}
+use Rattle.sprite_cluster.proofs.RuleLaws.{tame_formed, tame_reached, tame_rules}
+use Rattle.sprite_cluster.proofs.WorthLaws.{tame_deliveries, tame_expires, tame_sends, tame_records, tame_caches, tame_kills}
+use Rattle.sprite_cluster.proofs.FitLaws.{worth_bursts}
 
 -- ---- what a turn needs
 
@@ -42,7 +45,7 @@ found_within lines (suc i) p e =
 
 pub ready : (c : Description) (r : Running) (i : ℕ) (k : Kept) → Stands c r → slice_get r.kept i ≡ Some k → units_of r.trace < 4000000 → Ready c k
 ready c r i k stands got few =
-    let there = kept_at c r.trace r.kept stands.images i k stands.carried stands.rises got in
+    let there = kept_at c r.trace r.kept stands.follows.images i k stands.follows.carried stands.follows.rises got in
     let carried = there.carried in
     let found : program_at c.programs k.image.number ≡ Some carried.program = ap (program_at c.programs) carried.same ∙ carried.found in
     record {
@@ -53,7 +56,7 @@ ready c r i k stands got few =
 
 pub counts_under : (c : Description) (r : Running) → Stands c r → units_of r.trace < 4000000 → AllByRecursion (λ count. count < 18446744073709551615) r.ticks
 counts_under c r stands few =
-    each_weaken (λ count. count ≤ units_of r.trace) (λ count. count < 18446744073709551615) r.ticks (λ (count : ℕ) (under : count ≤ units_of r.trace). omega (arith, under, few)) stands.ticked
+    each_weaken (λ count. count ≤ units_of r.trace) (λ count. count < 18446744073709551615) r.ticks (λ (count : ℕ) (under : count ≤ units_of r.trace). omega (arith, under, few)) stands.follows.ticked
 
 pub on_ok : {A E P Q : Type 0} (r : Result A E) → (P → Q) → OnOk r P → OnOk r Q
 on_ok (Ok a) f p = f p
@@ -104,16 +107,28 @@ texts_are c trace (k ∷ ks) (image ∷ images) carried =
 
 history : (c : Description) (r : Running) (end : Finish) → Stands c r → IsFinished c r.trace end → IsHistory c (record { kept = r.kept; trace = r.trace; finish = end })
 history c r end stands finished = record {
-  legal = ap is_some stands.state;
-  once = stands.once;
+  legal = ap is_some stands.follows.state;
+  once = stands.follows.once;
+  formed = tame_formed c r.trace stands.follows.tame;
+  reached = tame_reached c r.trace stands.follows.tame;
+  rules = tame_rules c r.trace stands.follows.tame;
+  worth = record {
+    bursts = worth_bursts c r.trace stands.whole stands.follows.fits;
+    deliveries = tame_deliveries c r.trace stands.follows.tame;
+    expires = tame_expires c r.trace stands.follows.tame;
+    sends = tame_sends c r.trace stands.follows.tame;
+    records = tame_records c r.trace stands.follows.tame;
+    caches = tame_caches c r.trace stands.follows.tame;
+    kills = tame_kills c r.trace stands.follows.tame;
+  };
   finished = finished;
-  output = ap (λ o. output_in c o end) stands.state ∙ ap (λ text. text ++ last_line end) (texts_are c r.trace r.kept stands.images stands.carried);
+  output = ap (λ o. output_in c o end) stands.follows.state ∙ ap (λ text. text ++ last_line end) (texts_are c r.trace r.kept stands.follows.images stands.follows.carried);
 }
 
 pub ended_history : (c : Description) (r : Running) → Stands c r → AllByRecursion HasEnded r.kept → IsHistory c (record { kept = r.kept; trace = r.trace; finish = finish.AllEnded })
 ended_history c r stands ended =
-    history c r finish.AllEnded stands (ap all_ended stands.state ∙ all_have_ended c r.trace r.kept stands.images stands.carried ended)
+    history c r finish.AllEnded stands (ap all_ended stands.follows.state ∙ all_have_ended c r.trace r.kept stands.follows.images stands.follows.carried ended)
 
 pub spent_history : (c : Description) (r : Running) (at : ℕ) → Stands c r → LivesAt r.kept at → c.budget ≤ units_of r.trace → IsHistory c (record { kept = r.kept; trace = r.trace; finish = finish.Budget })
 spent_history c r at stands living spent =
-    history c r finish.Budget stands (spent, ap one_lives stands.state ∙ one_is_alive c r.trace r.kept stands.images at living.process stands.carried living.got living.lives)
+    history c r finish.Budget stands (spent, ap one_lives stands.follows.state ∙ one_is_alive c r.trace r.kept stands.follows.images at living.process stands.follows.carried living.got living.lives)

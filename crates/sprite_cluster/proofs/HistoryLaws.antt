@@ -107,7 +107,7 @@ once_by true pid other number trace called reply e same between before =
 once_by false pid other number trace called reply e same between before =
     ap is_in_turn (progress_stays other trace (call_records pid (number + 1) called reply) (no_events pid other (number + 1) called reply e)) ∙ before
 
-one_number : (a b : ℕ) → a == b ≡ true → a ≡ b
+pub one_number : (a b : ℕ) → a == b ≡ true → a ≡ b
 one_number a b e = grind (arith, nat_tests)
 
 pub once_called : (pid number : ℕ) (trace : List Rec) (called : Call) (reply : Reply) → progress_of pid trace ≡ Some (Between number) → Once trace → Once (trace ++ call_records pid (number + 1) called reply)

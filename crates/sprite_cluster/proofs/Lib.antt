@@ -6,3 +6,9 @@ pub mod EntryLaws
 pub mod HistoryLaws
 pub mod KeptLaws
 pub mod StandLaws
+pub mod TameLaws
+pub mod MoveLaws
+pub mod RuleLaws
+pub mod WorthLaws
+pub mod BurstLaws
+pub mod FitLaws

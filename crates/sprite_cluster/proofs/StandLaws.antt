@@ -1,10 +1,10 @@
 -- What holds of a cluster on its way holds after a process's turn.
-use Rattle.std.proofs.Common.{◌≡◌, ℕ, zero, suc, ◌+◌, ◌-◌, ◌≤◌, ◌<◌, List, [], ◌∷◌, ◌++◌, Option, Some, None, refl, ap, sym, subst, ◌∙◌, arith, slice_get, slice_set, slice_index}
+use Rattle.std.proofs.Common.{◌≡◌, ℕ, zero, suc, ◌+◌, ◌-◌, ◌≤◌, ◌<◌, true, false, IsTrue, List, [], ◌∷◌, ◌++◌, Option, Some, None, refl, ap, sym, subst, ◌∙◌, arith, append_assoc, slice_get, slice_set, slice_index}
 use Rattle.std.specs.List.{AllByRecursion}
 use Rattle.std.proofs.lemmas.List.{append-nil}
 use Rattle.sprite_ids.specs.Pid.{home_of}
 use Rattle.sprite_ids.specs.declared.running.Ending.{Ending}
-use Rattle.sprite_ids.proofs.ListLaws.{some_is, each_weaken, each_set, get_within, get_set_same, set_same}
+use Rattle.sprite_ids.proofs.ListLaws.{some_is, each_append, each_push, each_weaken, each_set, get_within, get_set_same, set_same}
 use Rattle.process_machine.specs.declared.call.Call.{Call}
 use Rattle.process_machine.specs.declared.call.Call.TheVariants as call
 use Rattle.process_machine.specs.declared.call.Reply.{Reply}
@@ -14,7 +14,7 @@ use Rattle.process_machine.specs.Facts.{AllPresent}
 use Rattle.process_machine.specs.Steps.{step_of}
 use Rattle.process_machine.specs.Runs.{ahead, at_next_call, call_there}
 use Rattle.process_machine.proofs.MachineLaws.{Stands as StandsAt, ahead_sum, at_call as stands_at_call, at_bad_step as stands_at_bad_step, next_found, bursts_within}
-use Rattle.process_machine.proofs.StepLaws.{ahead_keeps, given_keeps, present_ahead, present_given}
+use Rattle.process_machine.proofs.StepLaws.{ahead_keeps, given_keeps, present_ahead, present_given, wants_none}
 use Rattle.unix_calls.specs.declared.description.Description.{Description}
 use Rattle.unix_calls.specs.declared.entry.Entry.{Entry}
 use Rattle.unix_calls.specs.declared.event.Event.TheVariants.{Burst}
@@ -27,15 +27,22 @@ use Rattle.unix_calls.proofs.HistoryLaws.{state_from-append}
 use Rattle.call_journal.specs.Journal.{journal_of}
 use Rattle.call_journal.specs.Once.{progress_from, call_events}
 use Rattle.call_journal.specs.Units.{units_of}
+use Rattle.call_journal.specs.WorthBursts.{done_since_entry}
+use Rattle.call_journal.specs.Calls.{error_in, is_unreachable_error}
 use Rattle.call_journal.proofs.GrowthLaws.{journals_grow}
 use Rattle.sprite_cluster.specs.declared.kept.Kept.{Kept}
 use Rattle.sprite_cluster.specs.declared.running.Running.{Running}
 use Rattle.sprite_cluster.specs.Answers.{IsBuilt, ending_of, count_at, answer_of, ticks_after}
-use Rattle.sprite_cluster.specs.Turns.{IsPlainProgram, at_home, whole_entry, entered_records, returned_records, call_records, image_after, kept_after, Stops, at_call, at_bad_step, Goes, on, calls, with_image, Turned}
-use Rattle.sprite_cluster.specs.Carried.{processes_of, unix_of, IsCarried, AreCarried, Stands}
+use Rattle.sprite_cluster.specs.Turns.{IsPlainProgram, at_home, whole_entry, entered_records, returned_records, call_records, image_after, kept_after, Stops, at_call, at_bad_step, Rests, is_whole, is_away, Goes, on, calls, with_image, Turned}
+use Rattle.sprite_cluster.specs.Carried.{processes_of, unix_of, IsCarried, AreCarried, Follows, Stands}
+use Rattle.sprite_cluster.specs.Bursts.{are_whole}
 use Rattle.sprite_cluster.specs.Histories.{TurnedOn}
-use Rattle.sprite_cluster.proofs.BuiltLaws.{built_there}
+use Rattle.sprite_cluster.proofs.BuiltLaws.{built_there, refused_by, reached_there}
+use Rattle.sprite_cluster.specs.Tame.{IsHome, IsTame}
+use Rattle.sprite_cluster.proofs.AnswerLaws.{answer_reached}
 use Rattle.sprite_cluster.proofs.EntryLaws.{after_is}
+use Rattle.sprite_cluster.proofs.BurstLaws.{own_burst, other_burst, own_call, other_call}
+use Rattle.sprite_cluster.proofs.FitLaws.{burst_fits, call_fits, whole_more, full_whole, called_whole}
 use Rattle.sprite_cluster.proofs.HistoryLaws.{progress_more, progress_stays, no_events, own_progress, once_called, once_ran, differ, units_more}
 use Rattle.sprite_cluster.proofs.KeptLaws.{kept_at, Stay, carried_set, rises_set, set_again}
 
@@ -50,8 +57,8 @@ counts_stay trace more ticks h =
     each_weaken (λ count. count ≤ units_of trace) (λ count. count ≤ units_of (trace ++ more)) ticks (λ (count : ℕ) (under : count ≤ units_of trace). omega (arith, under, longer)) h
 
 -- another process stays, whose calls the further records aren't about
-stays : (c : Description) (trace more : List Rec) (pid : ℕ) → ((other : ℕ) → (other ≡ pid → ⊥) → call_events other more ≡ []) → Stay c trace (trace ++ more) pid
-stays c trace more pid none = λ k image apart carried.
+stays : (c : Description) (trace more : List Rec) (pid : ℕ) → ((other : ℕ) → (other ≡ pid → ⊥) → call_events other more ≡ []) → ((other : ℕ) → (other ≡ pid → ⊥) → done_since_entry other (trace ++ more) ≡ done_since_entry other trace) → Stay c trace (trace ++ more) pid
+stays c trace more pid none idle = λ k image apart carried.
     let longer = units_more trace more in
     record {
       program = carried.program;
@@ -63,6 +70,8 @@ stays c trace more pid none = λ k image apart carried.
       leads = carried.leads;
       present = carried.present;
       counted = omega (arith, longer, carried.counted);
+      placed = carried.placed;
+      done = idle k.pid apart ∙ carried.done;
       turn = λ lives. progress_stays k.pid trace more (none k.pid apart) ∙ carried.turn lives;
     }
 
@@ -84,25 +93,31 @@ ran_carried c trace k base image p count carried found few moved =
       leads = ahead_sum p base k.image image carried.ran count leads moved;
       present = present_ahead p k.image image count carried.present moved;
       counted = omega (arith, longer, carried.counted);
+      placed = carried.placed;
+      done = own_burst k.pid count carried.ran trace carried.done;
       turn = λ lives. progress_stays k.pid trace burst refl ∙ carried.turn lives;
     }
 
 -- the cluster after a burst of the process at a place
-pub stands_ran : (c : Description) (r : Running) (i : ℕ) (k : Kept) (p : Program) (count : ℕ) (image : Machine) → Stands c r → slice_get r.kept i ≡ Some k → program_at c.programs k.image.number ≡ Some p → count ≤ 10000 → ahead p k.image count ≡ Some image → Stands c (changed r i (with_image k image) r.ticks (r.trace ++ at_home k.pid (Burst k.pid count) ∷ []))
-stands_ran c r i k p count image stands got found few moved =
+pub follows_ran : (c : Description) (r : Running) (i : ℕ) (k : Kept) (p : Program) (count : ℕ) (image : Machine) → Follows c r → slice_get r.kept i ≡ Some k → program_at c.programs k.image.number ≡ Some p → count ≤ 10000 → ahead p k.image count ≡ Some image → Follows c (changed r i (with_image k image) r.ticks (r.trace ++ at_home k.pid (Burst k.pid count) ∷ []))
+follows_ran c r i k p count image follows got found few moved =
     let burst : List Rec = at_home k.pid (Burst k.pid count) ∷ [] in
-    let there = kept_at c r.trace r.kept stands.images i k stands.carried stands.rises got in
+    let there = kept_at c r.trace r.kept follows.images i k follows.carried follows.rises got in
     let found_base : program_at c.programs there.image.number ≡ Some p = ap (program_at c.programs) (sym there.carried.same) ∙ found in
     let new = ran_carried c r.trace k there.image image p count there.carried found_base few moved in
-    let kept : slice_set stands.images i there.image ≡ stands.images = set_same stands.images i there.image there.got in
+    let same : there.carried.program ≡ p = some_is there.carried.program p (sym there.carried.found ∙ found_base) in
+    let leads : ahead p there.image there.carried.ran ≡ Some k.image = subst (λ (q : Program). ahead q there.image there.carried.ran ≡ Some k.image) same there.carried.leads in
+    let kept : slice_set follows.images i there.image ≡ follows.images = set_same follows.images i there.image there.got in
     record {
-      images = stands.images;
-      carried = subst (λ (images : List Machine). AreCarried c (r.trace ++ burst) (slice_set r.kept i (with_image k image)) images) kept (carried_set c r.trace (r.trace ++ burst) r.kept stands.images i k (with_image k image) there.image stands.carried stands.rises got (stays c r.trace burst k.pid (λ other apart. refl)) new);
-      rises = rises_set r.kept i k (with_image k image) stands.rises got refl;
-      entries = stands.entries;
-      state = ap (state_of c) (journals_grow r.trace burst ∙ append-nil (journal_of r.trace)) ∙ stands.state ∙ ap (λ (ps : List Process). Some (unix_of c ps r.ticks stands.entries)) (sym (there.same image));
-      once = once_ran k.pid count r.trace stands.once;
-      ticked = counts_stay r.trace burst r.ticks stands.ticked;
+      images = follows.images;
+      carried = subst (λ (images : List Machine). AreCarried c (r.trace ++ burst) (slice_set r.kept i (with_image k image)) images) kept (carried_set c r.trace (r.trace ++ burst) r.kept follows.images i k (with_image k image) there.image follows.carried follows.rises got (stays c r.trace burst k.pid (λ other apart. refl) (λ other apart. other_burst k.pid other count r.trace (differ other k.pid apart))) new);
+      rises = rises_set r.kept i k (with_image k image) follows.rises got refl;
+      entries = follows.entries;
+      state = ap (state_of c) (journals_grow r.trace burst ∙ append-nil (journal_of r.trace)) ∙ follows.state ∙ ap (λ (ps : List Process). Some (unix_of c ps r.ticks follows.entries)) (sym (there.same image));
+      once = once_ran k.pid count r.trace follows.once;
+      ticked = counts_stay r.trace burst r.ticks follows.ticked;
+      tame = each_push (IsTame c) r.trace (at_home k.pid (Burst k.pid count)) follows.tame (record { same = refl; placed = there.carried.placed });
+      fits = burst_fits c r.trace (unix_of c (processes_of r.kept follows.images) r.ticks follows.entries) k there.image image p there.carried.ran count follows.state there.there found_base there.carried.done (ahead_sum p there.image k.image image there.carried.ran count leads moved) follows.fits;
     }
 
 -- ---- a call
@@ -164,17 +179,26 @@ called_carried c trace k base p called reply carried found plain lives =
       leads = refl;
       present = image_present p k.image (ending_of called) reply carried.present;
       counted = omega (arith, longer, some, carried.counted);
+      placed = carried.placed;
+      done = own_call (ending_of called) k.pid (k.calls + 1) called reply trace;
       turn = λ goes. progress_more k.pid trace more ∙ ap (λ s. progress_from s (call_events k.pid more)) (carried.turn lives) ∙ own_progress k.pid k.calls called reply goes;
     }
 
+-- the records of a built call are tame
+call_tame : (c : Description) (end : Option Ending) (pid number : ℕ) (called : Call) (reply : Reply) → IsHome c pid (home_of pid) → IsBuilt called → is_unreachable_error (error_in (Some reply)) ≡ false → AllByRecursion (IsTame c) (entered_records pid number called reply ++ returned_records end pid number reply)
+call_tame c None pid number called reply home built reached =
+    (home, (record { home = home; called = called; reply = reply; built = built; reached = reached; whole = refl; call = refl; answer = refl }, (home, tt)))
+call_tame c (Some end) pid number called reply home built reached =
+    (home, (record { home = home; called = called; reply = reply; built = built; reached = reached; whole = refl; call = refl; answer = refl }, tt))
+
 -- the cluster after a call of the process at a place
-pub stands_called : (c : Description) (r : Running) (i : ℕ) (k : Kept) (p : Program) (called : Call) → Stands c r → slice_get r.kept i ≡ Some k → k.ending ≡ None → program_at c.programs k.image.number ≡ Some p → units_of r.trace ≤ 4000000 → Stops p k.image → called ≡ call_there p k.image (step_of p k.image) → Stands c (changed r i (kept_after p k called (answer_of c.kernels r.ticks k.pid called)) (ticks_after r.ticks k.pid called) (r.trace ++ call_records k.pid (k.calls + 1) called (answer_of c.kernels r.ticks k.pid called)))
-stands_called c r i k p called stands got lives found few stops is =
+pub follows_called : (c : Description) (r : Running) (i : ℕ) (k : Kept) (p : Program) (called : Call) → Follows c r → slice_get r.kept i ≡ Some k → k.ending ≡ None → program_at c.programs k.image.number ≡ Some p → units_of r.trace ≤ 4000000 → Stops p k.image → called ≡ call_there p k.image (step_of p k.image) → Follows c (changed r i (kept_after p k called (answer_of c.kernels r.ticks k.pid called)) (ticks_after r.ticks k.pid called) (r.trace ++ call_records k.pid (k.calls + 1) called (answer_of c.kernels r.ticks k.pid called)))
+follows_called c r i k p called follows got lives found few stops is =
     let reply = answer_of c.kernels r.ticks k.pid called in
     let more = call_records k.pid (k.calls + 1) called reply in
     let k' = kept_after p k called reply in
     let image' = image_after p k.image (ending_of called) reply in
-    let there = kept_at c r.trace r.kept stands.images i k stands.carried stands.rises got in
+    let there = kept_at c r.trace r.kept follows.images i k follows.carried follows.rises got in
     let carried = there.carried in
     let found_base : program_at c.programs there.image.number ≡ Some p = ap (program_at c.programs) (sym carried.same) ∙ found in
     let same : carried.program ≡ p = some_is carried.program p (sym carried.found ∙ found_base) in
@@ -182,15 +206,18 @@ stands_called c r i k p called stands got lives found few stops is =
     let leads : ahead p there.image carried.ran ≡ Some k.image = subst (λ (q : Program). ahead q there.image carried.ran ≡ Some k.image) same carried.leads in
     let next : at_next_call p there.image ≡ Some k.image = next_found p there.image k.image carried.ran (bursts_within carried.ran (omega (arith, carried.few, few))) leads (stopped p k.image stops) in
     let built : IsBuilt called = subst IsBuilt (sym is) (built_there p k.image plain stops) in
-    let entered = after_is c (processes_of r.kept stands.images) r.ticks stands.entries p k there.image k.image called there.there lives found_base next found is built in
+    let reached = answer_reached c.kernels r.ticks k.pid called (subst (λ (made : Call). is_unreachable_error (refused_by made) ≡ false) (sym is) (reached_there p k.image (step_of p k.image))) in
+    let entered = after_is c (processes_of r.kept follows.images) r.ticks follows.entries p k there.image k.image called there.there lives found_base next found is built in
     record {
-      images = slice_set stands.images i image';
-      carried = carried_set c r.trace (r.trace ++ more) r.kept stands.images i k k' image' stands.carried stands.rises got (stays c r.trace more k.pid (λ other apart. no_events k.pid other (k.calls + 1) called reply (differ other k.pid apart))) (called_carried c r.trace k there.image p called reply carried found plain lives);
-      rises = rises_set r.kept i k k' stands.rises got refl;
-      entries = stands.entries + 1;
-      state = grown c r.trace more (unix_of c (processes_of r.kept stands.images) r.ticks stands.entries) (whole_entry k.pid (k.calls + 1) called reply) stands.state (one_entry (ending_of called) k.pid (k.calls + 1) called reply) ∙ entered ∙ ap (λ (ps : List Process). Some (unix_of c ps (ticks_after r.ticks k.pid called) (stands.entries + 1))) (there.put k' image' refl);
-      once = once_called k.pid k.calls r.trace called reply (carried.turn lives) stands.once;
-      ticked = ticked_on r.trace more r.ticks k.pid called (some_units (ending_of called) k.pid (k.calls + 1) called reply) stands.ticked;
+      images = slice_set follows.images i image';
+      carried = carried_set c r.trace (r.trace ++ more) r.kept follows.images i k k' image' follows.carried follows.rises got (stays c r.trace more k.pid (λ other apart. no_events k.pid other (k.calls + 1) called reply (differ other k.pid apart)) (λ other apart. other_call (ending_of called) k.pid other (k.calls + 1) called reply r.trace (differ other k.pid apart))) (called_carried c r.trace k there.image p called reply carried found plain lives);
+      rises = rises_set r.kept i k k' follows.rises got refl;
+      entries = follows.entries + 1;
+      state = grown c r.trace more (unix_of c (processes_of r.kept follows.images) r.ticks follows.entries) (whole_entry k.pid (k.calls + 1) called reply) follows.state (one_entry (ending_of called) k.pid (k.calls + 1) called reply) ∙ entered ∙ ap (λ (ps : List Process). Some (unix_of c ps (ticks_after r.ticks k.pid called) (follows.entries + 1))) (there.put k' image' refl);
+      once = once_called k.pid k.calls r.trace called reply (carried.turn lives) follows.once;
+      ticked = ticked_on r.trace more r.ticks k.pid called (some_units (ending_of called) k.pid (k.calls + 1) called reply) follows.ticked;
+      tame = each_append (IsTame c) r.trace more follows.tame (call_tame c (ending_of called) k.pid (k.calls + 1) called reply (record { same = refl; placed = carried.placed }) built reached);
+      fits = call_fits c r.trace (unix_of c (processes_of r.kept follows.images) r.ticks follows.entries) k there.image p carried.ran (k.calls + 1) called reply (ending_of called) follows.state there.there found_base carried.done leads stops follows.fits;
     }
 
 -- ---- a turn
@@ -202,22 +229,40 @@ changed_again r i k1 k' ticks1 ticks' trace1 trace' = ap (λ ks. record { kept =
 changed_to : (r : Running) (i : ℕ) (k k' : Kept) (ticks ticks' : List ℕ) (trace trace' : List Rec) → k' ≡ k → ticks' ≡ ticks → trace' ≡ trace → changed r i k ticks trace ≡ changed r i k' ticks' trace'
 changed_to r i k k' ticks ticks' trace trace' a b d = sym (λ j. changed r i (a j) (b j) (d j))
 
+-- a process that rests behind its burst has done 10,000 instructions, as its pages are all there
+rested : (p : Program) (m : Machine) (count : ℕ) → AllPresent m.pages → Rests p m count → count ≡ 10000
+rested p m count present (is_whole e) = e
+rested p m count present (is_away page e) = absurd (wants_none p m page present e)
+
 -- after the burst, the call is made or nothing more happens
-goes_on : (c : Description) (r : Running) (i : ℕ) (k1 : Kept) (p : Program) (trace1 : List Rec) (k' : Kept) (ticks' : List ℕ) (trace' : List Rec) → Stands c (changed r i k1 r.ticks trace1) → slice_get (slice_set r.kept i k1) i ≡ Some k1 → k1.ending ≡ None → program_at c.programs k1.image.number ≡ Some p → units_of trace1 ≡ units_of r.trace + 1 → units_of r.trace < 4000000 → Goes c.kernels p k1 r.ticks trace1 k' ticks' trace' → TurnedOn c r (changed r i k' ticks' trace')
-goes_on c r i k1 p trace1 k' ticks' trace' ran got lives found longer few (on a b d) =
-    let same = changed_to r i k1 k' r.ticks ticks' trace1 trace' a b d in
-    record { stands = subst (Stands c) same ran; rose = subst (λ t. units_of r.trace < units_of t) (sym d) (omega (arith, longer)) }
-goes_on c r i k1 p trace1 k' ticks' trace' ran got lives found longer few (calls made) =
+goes_on : (c : Description) (r : Running) (i : ℕ) (k1 : Kept) (p : Program) (count : ℕ) (k' : Kept) (ticks' : List ℕ) (trace' : List Rec) → Follows c (changed r i k1 r.ticks (r.trace ++ at_home k1.pid (Burst k1.pid count) ∷ [])) → IsTrue (are_whole r.trace) → slice_get (slice_set r.kept i k1) i ≡ Some k1 → k1.ending ≡ None → program_at c.programs k1.image.number ≡ Some p → count ≤ 10000 → units_of r.trace < 4000000 → Goes c.kernels p k1 count r.ticks (r.trace ++ at_home k1.pid (Burst k1.pid count) ∷ []) k' ticks' trace' → TurnedOn c r (changed r i k' ticks' trace')
+goes_on c r i k1 p count k' ticks' trace' ran whole got lives found short few (on rests a b d) =
+    let burst : List Rec = at_home k1.pid (Burst k1.pid count) ∷ [] in
+    let longer : units_of (r.trace ++ burst) ≡ units_of r.trace + 1 = units_more r.trace burst in
+    let same = changed_to r i k1 k' r.ticks ticks' (r.trace ++ burst) trace' a b d in
+    let there = kept_at c (r.trace ++ burst) (slice_set r.kept i k1) ran.images i k1 ran.carried ran.rises got in
+    let full = full_whole k1.pid count (rested p k1.image count there.carried.present rests) in
+    record {
+      stands = subst (Stands c) same (record { follows = ran; whole = whole_more r.trace burst whole full });
+      rose = subst (λ t. units_of r.trace < units_of t) (sym d) (omega (arith, longer));
+    }
+goes_on c r i k1 p count k' ticks' trace' ran whole got lives found short few (calls made) =
+    let burst : List Rec = at_home k1.pid (Burst k1.pid count) ∷ [] in
+    let longer : units_of (r.trace ++ burst) ≡ units_of r.trace + 1 = units_more r.trace burst in
     let reply = answer_of c.kernels r.ticks k1.pid made.call in
     let more = call_records k1.pid (k1.calls + 1) made.call reply in
-    let after_call = stands_called c (changed r i k1 r.ticks trace1) i k1 p made.call ran got lives found (omega (arith, longer, few)) made.stops made.called in
-    let same = changed_again r i k1 (kept_after p k1 made.call reply) r.ticks (ticks_after r.ticks k1.pid made.call) trace1 (trace1 ++ more) ∙ changed_to r i (kept_after p k1 made.call reply) k' (ticks_after r.ticks k1.pid made.call) ticks' (trace1 ++ more) trace' made.kept made.counts made.records in
-    let units = units_more trace1 more in
-    record { stands = subst (Stands c) same after_call; rose = subst (λ t. units_of r.trace < units_of t) (sym made.records) (omega (arith, longer, units)) }
+    let after_call = follows_called c (changed r i k1 r.ticks (r.trace ++ burst)) i k1 p made.call ran got lives found (omega (arith, longer, few)) made.stops made.called in
+    let same = changed_again r i k1 (kept_after p k1 made.call reply) r.ticks (ticks_after r.ticks k1.pid made.call) (r.trace ++ burst) ((r.trace ++ burst) ++ more) ∙ changed_to r i (kept_after p k1 made.call reply) k' (ticks_after r.ticks k1.pid made.call) ticks' ((r.trace ++ burst) ++ more) trace' made.kept made.counts made.records in
+    let units = units_more (r.trace ++ burst) more in
+    let reached : are_whole ((r.trace ++ burst) ++ more) ≡ true = ap are_whole (append_assoc r.trace burst more) ∙ whole_more r.trace (burst ++ more) whole (called_whole (ending_of made.call) k1.pid count (k1.calls + 1) made.call reply short) in
+    record {
+      stands = subst (Stands c) same (record { follows = after_call; whole = reached });
+      rose = subst (λ t. units_of r.trace < units_of t) (sym made.records) (omega (arith, longer, units));
+    }
 
 pub turned_on : (c : Description) (r : Running) (i : ℕ) (k : Kept) (p : Program) (k' : Kept) (ticks' : List ℕ) (trace' : List Rec) → Stands c r → slice_get r.kept i ≡ Some k → k.ending ≡ None → program_at c.programs k.image.number ≡ Some p → units_of r.trace < 4000000 → Turned c.kernels p k r.ticks r.trace k' ticks' trace' → TurnedOn c r (changed r i k' ticks' trace')
 turned_on c r i k p k' ticks' trace' stands got lives found few turned =
-    let burst : List Rec = at_home k.pid (Burst k.pid turned.count) ∷ [] in
     let k1 = with_image k turned.image in
     let number : turned.image.number ≡ k.image.number = (ahead_keeps p k.image turned.image turned.count turned.moved).number in
-    goes_on c r i k1 p (r.trace ++ burst) k' ticks' trace' (stands_ran c r i k p turned.count turned.image stands got found turned.few turned.moved) (get_set_same r.kept i k1 (get_within r.kept i k got)) lives (ap (program_at c.programs) number ∙ found) (units_more r.trace burst) few turned.goes
+    let ran = follows_ran c r i k p turned.count turned.image stands.follows got found turned.few turned.moved in
+    goes_on c r i k1 p turned.count k' ticks' trace' ran stands.whole (get_set_same r.kept i k1 (get_within r.kept i k got)) lives (ap (program_at c.programs) number ∙ found) turned.few few turned.goes

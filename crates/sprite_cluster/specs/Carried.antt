@@ -1,5 +1,5 @@
 -- How a cluster on its way stands to the one-kernel Unix.
-use Rattle.std.specs.Prelude.{◌≡◌, ℕ, ◌*◌, ◌≤◌, ◌<◌, false, List, [], ◌∷◌, Some, None}
+use Rattle.std.specs.Prelude.{◌≡◌, ℕ, ◌*◌, ◌≤◌, ◌<◌, false, List, [], ◌∷◌, Some, None, IsTrue}
 use Rattle.std.specs.List.{AllByRecursion}
 use Rattle.process_machine.specs.declared.program.Program.{Program}
 use Rattle.process_machine.specs.Machine.{Machine}
@@ -14,8 +14,12 @@ use Rattle.unix_calls.specs.After.{state_of}
 use Rattle.call_journal.specs.Journal.{journal_of}
 use Rattle.call_journal.specs.Once.{Between, Once, progress_of}
 use Rattle.call_journal.specs.Units.{units_of}
+use Rattle.call_journal.specs.Past.{each_record}
+use Rattle.call_journal.specs.WorthBursts.{done_since_entry}
+use Rattle.sprite_cluster.specs.Bursts.{are_whole, count_fits}
 use Rattle.sprite_cluster.specs.declared.kept.Kept.{Kept}
 use Rattle.sprite_cluster.specs.declared.running.Running.{Running}
+use Rattle.sprite_cluster.specs.Tame.{IsPlaced, IsTame}
 use Rattle.sprite_cluster.specs.Turns.{IsPlainProgram}
 
 -- the process that the one-kernel Unix has for a kept one, with the image that it had at its last entry
@@ -54,7 +58,7 @@ unix_of c processes ticks entries =
       entries = entries;
     }
 
--- a kept process with the image that it had at its last entry, from which it has come by instructions alone
+-- a kept process with the image that it had at its last entry, from which it has come by the instructions of its bursts alone
 pub record IsCarried (c : Description) (trace : List Rec) (k : Kept) (image : Machine) : Type 0 where
   pub program : Program
   pub found : program_at c.programs image.number ≡ Some program
@@ -65,6 +69,8 @@ pub record IsCarried (c : Description) (trace : List Rec) (k : Kept) (image : Ma
   pub leads : ahead program image ran ≡ Some k.image
   pub present : AllPresent k.image.pages
   pub counted : k.calls ≤ units_of trace
+  pub placed : IsPlaced c k.pid
+  pub done : done_since_entry k.pid trace ≡ ran
   pub turn : k.ending ≡ None → progress_of k.pid trace ≡ Some (Between k.calls)
 
 abbrev pub AreCarried : Description → List Rec → List Kept → List Machine → Type 0
@@ -77,8 +83,8 @@ abbrev pub Rises : List Kept → Type 0
 Rises [] = Unit {0}
 Rises (k ∷ ks) = AllByRecursion (λ other. k.pid < other.pid) ks × Rises ks
 
--- the cluster on its way
-pub record Stands (c : Description) (r : Running) : Type 0 where
+-- the cluster on its way, also between a burst and the call that it leads to
+pub record Follows (c : Description) (r : Running) : Type 0 where
   pub images : List Machine
   pub carried : AreCarried c r.trace r.kept images
   pub rises : Rises r.kept
@@ -86,3 +92,10 @@ pub record Stands (c : Description) (r : Running) : Type 0 where
   pub state : state_of c (journal_of r.trace) ≡ Some (unix_of c (processes_of r.kept images) r.ticks entries)
   pub once : Once r.trace
   pub ticked : AllByRecursion (λ count. count ≤ units_of r.trace) r.ticks
+  pub tame : AllByRecursion (IsTame c) r.trace
+  pub fits : IsTrue (each_record c (λ past rec rest. count_fits c past rec.event) r.trace)
+
+-- the cluster between two turns: each burst is whole, or has its reason behind it
+pub record Stands (c : Description) (r : Running) : Type 0 where
+  pub follows : Follows c r
+  pub whole : IsTrue (are_whole r.trace)

@@ -13,6 +13,10 @@ use Rattle.unix_calls.specs.After.{legal, state_of}
 use Rattle.call_journal.specs.Journal.{journal_of}
 use Rattle.call_journal.specs.Once.{Once}
 use Rattle.call_journal.specs.Units.{units_of}
+use Rattle.call_journal.specs.Formed.{formed}
+use Rattle.call_journal.specs.Unreachable.{unreachable_for_cause}
+use Rattle.call_journal.specs.Rules.{KeepsRules}
+use Rattle.call_journal.specs.Worth.{Worth}
 use Rattle.sprite_cluster.specs.declared.kept.Kept.{Kept}
 use Rattle.sprite_cluster.specs.declared.turns.Outcome.{Outcome}
 use Rattle.sprite_cluster.specs.declared.running.Running.{Running}
@@ -58,10 +62,15 @@ IsFinished c trace finish.AllEnded = IsTrue (all_ended (state_of c (journal_of t
 IsFinished c trace finish.Budget = (c.budget ≤ units_of trace) × IsTrue (one_lives (state_of c (journal_of trace)))
 IsFinished c trace _ = ⊥
 
--- the whole run: its journal is a history of one Unix kernel, each finished call stands in it once, it came to its end, and
--- what is printed about the processes is the output of the journal
+-- the whole run: its journal is a history of one Unix kernel, each finished call stands in it once, its records are written as
+-- they should be and call nothing unreachable without cause, they keep the nine rules, none of them stands for nothing, it came
+-- to its end, and what is printed about the processes is the output of the journal
 pub record IsHistory (c : Description) (o : Outcome) : Type 0 where
   pub legal : IsTrue (legal c (journal_of o.trace))
   pub once : Once o.trace
+  pub formed : IsTrue (formed c o.trace)
+  pub reached : IsTrue (unreachable_for_cause c o.trace)
+  pub rules : KeepsRules c o.trace
+  pub worth : Worth c o.trace
   pub finished : IsFinished c o.trace o.finish
   pub output : output_of c (journal_of o.trace) o.finish ≡ flat_map (text_of c) o.kept ++ last_line o.finish

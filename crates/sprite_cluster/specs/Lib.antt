@@ -1,6 +1,8 @@
 pub mod Answers
 pub mod Booted
+pub mod Bursts
 pub mod Carried
 pub mod Histories
+pub mod Tame
 pub mod Today
 pub mod Turns

@@ -10,7 +10,7 @@ use Rattle.process_machine.specs.Machine.{Machine}
 use Rattle.process_machine.specs.Replies.{given}
 use Rattle.process_machine.specs.Runs.{ahead, call_there}
 use Rattle.process_machine.specs.Calls.{call_at}
-use Rattle.process_machine.specs.Steps.{step_of, AtCall, AtBadStep}
+use Rattle.process_machine.specs.Steps.{step_of, AtCall, AtBadStep, AtPage}
 use Rattle.unix_calls.specs.declared.description.KernelLine.{KernelLine}
 use Rattle.unix_calls.specs.declared.entry.Entry.{Entry}
 use Rattle.unix_calls.specs.declared.entry.Part.TheVariants.{Whole}
@@ -81,10 +81,15 @@ pub record Calls (kernels : List KernelLine) (p : Program) (k : Kept) (ticks : L
   pub counts : ticks' ≡ ticks_after ticks k.pid call
   pub records : trace' ≡ trace ++ call_records k.pid (k.calls + 1) call (answer_of kernels ticks k.pid call)
 
--- a call is made, or nothing more happens
-pub data Goes (kernels : List KernelLine) (p : Program) (k : Kept) (ticks : List ℕ) (trace : List Rec) (k' : Kept) (ticks' : List ℕ) (trace' : List Rec) : Type 0 where
-  on : k' ≡ k → ticks' ≡ ticks → trace' ≡ trace → Goes kernels p k ticks trace k' ticks' trace'
-  calls : Calls kernels p k ticks trace k' ticks' trace' → Goes kernels p k ticks trace k' ticks' trace'
+-- the process stands at no call: its burst is whole, or a page is away
+pub data Rests (p : Program) (m : Machine) (count : ℕ) : Type 0 where
+  is_whole : count ≡ 10000 → Rests p m count
+  is_away : (page : ℕ) → step_of p m ≡ AtPage page → Rests p m count
+
+-- a call is made after a burst of so many instructions, or nothing more happens
+pub data Goes (kernels : List KernelLine) (p : Program) (k : Kept) (count : ℕ) (ticks : List ℕ) (trace : List Rec) (k' : Kept) (ticks' : List ℕ) (trace' : List Rec) : Type 0 where
+  on : Rests p k.image count → k' ≡ k → ticks' ≡ ticks → trace' ≡ trace → Goes kernels p k count ticks trace k' ticks' trace'
+  calls : Calls kernels p k ticks trace k' ticks' trace' → Goes kernels p k count ticks trace k' ticks' trace'
 
 -- the process with another image
 abbrev pub with_image : Kept → Machine → Kept
@@ -96,4 +101,4 @@ pub record Turned (kernels : List KernelLine) (p : Program) (k : Kept) (ticks : 
   pub few : count ≤ 10000
   pub image : Machine
   pub moved : ahead p k.image count ≡ Some image
-  pub goes : Goes kernels p (with_image k image) ticks (trace ++ at_home k.pid (Burst k.pid count) ∷ []) k' ticks' trace'
+  pub goes : Goes kernels p (with_image k image) count ticks (trace ++ at_home k.pid (Burst k.pid count) ∷ []) k' ticks' trace'
