@@ -23,7 +23,7 @@ use Rattle.sprite_cluster.specs.declared.kept.Kept.{Kept}
 use Rattle.sprite_cluster.specs.Today.{is_plain, are_placed, has_program, is_run_today}
 use Rattle.sprite_cluster.specs.Turns.{IsPlainProgram}
 use Rattle.sprite_cluster.specs.Carried.{process_of, unix_of, IsCarried, AreCarried, Rises, Stands}
-use Rattle.sprite_cluster.specs.Tame.{home_place, IsPlaced}
+use Rattle.sprite_cluster.specs.Local.{home_place, IsPlaced}
 use Rattle.sprite_cluster.proofs.BuiltLaws.{all_get}
 use Rattle.sprite_cluster.proofs.HistoryLaws.{same_number, differ}
 use Rattle.sprite_cluster.specs.Booted.{images_of, booted, births_of, new_kept, put_kept, IsFresh, IsPlaceOf, IsNext, IsStarted}
@@ -213,7 +213,7 @@ stands_first c kept ticks h zeros =
         state = ap (λ (ps : List Process). Some (unix_of c ps (replicate (length c.kernels) 0) 0)) (sym h.are);
         once = λ pid. refl;
         ticked = zeros_under (length c.kernels);
-        tame = tt;
+        local = tt;
         fits = refl;
       };
       whole = refl;

@@ -22,8 +22,8 @@ use Rattle.sprite_cluster.specs.Turns.{IsPlainProgram}
 use Rattle.sprite_cluster.specs.Carried.{process_of, processes_of, AreCarried, Stands}
 use Rattle.sprite_cluster.specs.Histories.{LivesAt, HasEnded, HasNoneTo, text_of, all_ended, one_lives, IsFinished, IsHistory}
 use Rattle.sprite_cluster.proofs.KeptLaws.{kept_at}
-use Rattle.sprite_cluster.proofs.RuleLaws.{tame_formed, tame_reached, tame_rules}
-use Rattle.sprite_cluster.proofs.WorthLaws.{tame_deliveries, tame_expires, tame_sends, tame_records, tame_caches, tame_kills}
+use Rattle.sprite_cluster.proofs.RuleLaws.{local_formed, local_reached, local_rules}
+use Rattle.sprite_cluster.proofs.WorthLaws.{local_deliveries, local_expires, local_sends, local_records, local_caches, local_kills}
 use Rattle.sprite_cluster.proofs.FitLaws.{worth_bursts}
 
 -- ---- what a turn needs
@@ -109,17 +109,17 @@ history : (c : Description) (r : Running) (end : Finish) → Stands c r → IsFi
 history c r end stands finished = record {
   legal = ap is_some stands.follows.state;
   once = stands.follows.once;
-  formed = tame_formed c r.trace stands.follows.tame;
-  reached = tame_reached c r.trace stands.follows.tame;
-  rules = tame_rules c r.trace stands.follows.tame;
+  formed = local_formed c r.trace stands.follows.local;
+  reached = local_reached c r.trace stands.follows.local;
+  rules = local_rules c r.trace stands.follows.local;
   worth = record {
     bursts = worth_bursts c r.trace stands.whole stands.follows.fits;
-    deliveries = tame_deliveries c r.trace stands.follows.tame;
-    expires = tame_expires c r.trace stands.follows.tame;
-    sends = tame_sends c r.trace stands.follows.tame;
-    records = tame_records c r.trace stands.follows.tame;
-    caches = tame_caches c r.trace stands.follows.tame;
-    kills = tame_kills c r.trace stands.follows.tame;
+    deliveries = local_deliveries c r.trace stands.follows.local;
+    expires = local_expires c r.trace stands.follows.local;
+    sends = local_sends c r.trace stands.follows.local;
+    records = local_records c r.trace stands.follows.local;
+    caches = local_caches c r.trace stands.follows.local;
+    kills = local_kills c r.trace stands.follows.local;
   };
   finished = finished;
   output = ap (λ o. output_in c o end) stands.follows.state ∙ ap (λ text. text ++ last_line end) (texts_are c r.trace r.kept stands.follows.images stands.follows.carried);

@@ -1,4 +1,4 @@
--- In a trace of tame records each process runs where it is.
+-- In a trace of local records each process runs where it is.
 use Rattle.std.proofs.Common.{◌≡◌, ℕ, ◌+◌, ◌==◌, ◌&&◌, ◌||◌, not, Bool, true, false, cond, IsTrue, List, [], ◌∷◌, Option, Some, None, refl, ap, ap₂, ◌∙◌}
 use Rattle.std.specs.List.{AllByRecursion, list_any}
 use Rattle.std.proofs.lemmas.Bool.{and_from, and_left, and_right, or_from, or_right}
@@ -16,8 +16,8 @@ use Rattle.call_journal.specs.Matching.{is_at, has_event, is_any_issue, is_issue
 use Rattle.call_journal.specs.Calls.{move_target}
 use Rattle.call_journal.specs.Moves.{is_placed, moves_to, target_on_way, arrives_at, issues_at, is_born, birth_of, is_due_at, is_left, is_overdue, is_master, runs_well, processes_run_where_they_are}
 use Rattle.sprite_cluster.specs.Answers.{IsBuilt}
-use Rattle.sprite_cluster.specs.Tame.{IsHome, IsTameEvent, IsTame}
-use Rattle.sprite_cluster.proofs.TameLaws.{IsQuiet, each_tame, none_tame, place_is, own_at}
+use Rattle.sprite_cluster.specs.Local.{IsHome, IsLocalEvent, IsLocal}
+use Rattle.sprite_cluster.proofs.LocalLaws.{IsQuiet, each_local, none_local, place_is, own_at}
 
 -- a process is at its home
 placed_home : (c : Description) (past : Past) (pid kernel : ℕ) → IsQuiet c past → IsHome c pid kernel → is_placed past pid kernel ≡ true
@@ -47,7 +47,7 @@ none_overdue : (c : Description) (past : Past) (pid kernel : ℕ) (lines : List 
 none_overdue c past pid kernel [] q home = refl
 none_overdue c past pid kernel (line ∷ lines) q home =
     let left = some_record c (λ earlier r rest. is_left line earlier pid r rest) past.records in
-    or_from (line.host == kernel && left) (list_any (is_overdue c past pid kernel) lines) (and_right (line.host == kernel) left (none_tame c (λ earlier r rest. is_left line earlier pid r rest) past.records (λ earlier r rest p t. not_left c line earlier pid kernel r rest p home) q.tame)) (none_overdue c past pid kernel lines q home)
+    or_from (line.host == kernel && left) (list_any (is_overdue c past pid kernel) lines) (and_right (line.host == kernel) left (none_local c (λ earlier r rest. is_left line earlier pid r rest) past.records (λ earlier r rest p t. not_left c line earlier pid kernel r rest p home) q.local)) (none_overdue c past pid kernel lines q home)
 
 -- ---- no call moves
 
@@ -60,27 +60,27 @@ none_of_two : {X : Type 0} (b : Bool) (o : Option X) → o ≡ None → cond b o
 none_of_two true o h = h
 none_of_two false o h = refl
 
-no_target : (c : Description) (past : Past) (pid number kernel : ℕ) (e : Event) → IsTameEvent c kernel e → target_on_way past pid number e ≡ None
-no_target c past pid number kernel (event.Burst p count) tame = refl
-no_target c past pid number kernel (event.Issue p n called) tame = refl
-no_target c past pid number kernel (event.Enter entry) tame =
-    none_of_two ((entry.pid == pid && entry.number == number) && is_moving past pid) (move_target entry.call entry.reply) (ap₂ move_target tame.call tame.answer ∙ no_move tame.called tame.reply tame.built)
-no_target c past pid number kernel (event.Return p n reply) tame = refl
-no_target c past pid number kernel _ tame = absurd tame
+no_target : (c : Description) (past : Past) (pid number kernel : ℕ) (e : Event) → IsLocalEvent c kernel e → target_on_way past pid number e ≡ None
+no_target c past pid number kernel (event.Burst p count) local = refl
+no_target c past pid number kernel (event.Issue p n called) local = refl
+no_target c past pid number kernel (event.Enter entry) local =
+    none_of_two ((entry.pid == pid && entry.number == number) && is_moving past pid) (move_target entry.call entry.reply) (ap₂ move_target local.call local.answer ∙ no_move local.called local.reply local.built)
+no_target c past pid number kernel (event.Return p n reply) local = refl
+no_target c past pid number kernel _ local = absurd local
 
 -- ---- each record
 
-runs_at : (c : Description) (past : Past) (kernel : ℕ) (e : Event) → IsQuiet c past → IsTameEvent c kernel e → runs_well c past kernel e ≡ true
-runs_at c past kernel (event.Burst pid count) q tame = placed_home c past pid kernel q tame
-runs_at c past kernel (event.Issue pid number called) q tame =
+runs_at : (c : Description) (past : Past) (kernel : ℕ) (e : Event) → IsQuiet c past → IsLocalEvent c kernel e → runs_well c past kernel e ≡ true
+runs_at c past kernel (event.Burst pid count) q local = placed_home c past pid kernel q local
+runs_at c past kernel (event.Issue pid number called) q local =
     let late = list_any (is_overdue c past pid kernel) c.evicts in
-    and_from (is_placed past pid kernel) (is_master past.unix pid || not late) (placed_home c past pid kernel q tame) (or_right (is_master past.unix pid) (not late) (ap not (none_overdue c past pid kernel c.evicts q tame)))
-runs_at c past kernel (event.Enter entry) q tame =
-    ap (moves_to c past entry.pid) (ap₂ move_target tame.call tame.answer ∙ no_move tame.called tame.reply tame.built)
-runs_at c past kernel (event.Return pid number reply) q tame =
-    ap not (none_tame c (λ earlier r rest. not (arrives_at c pid kernel (target_on_way earlier pid number r.event) rest)) past.records (λ earlier r rest p t. ap (λ o. not (arrives_at c pid kernel o rest)) (no_target c earlier pid number r.kernel r.event t)) q.tame)
-runs_at c past kernel _ q tame = absurd tame
+    and_from (is_placed past pid kernel) (is_master past.unix pid || not late) (placed_home c past pid kernel q local) (or_right (is_master past.unix pid) (not late) (ap not (none_overdue c past pid kernel c.evicts q local)))
+runs_at c past kernel (event.Enter entry) q local =
+    ap (moves_to c past entry.pid) (ap₂ move_target local.call local.answer ∙ no_move local.called local.reply local.built)
+runs_at c past kernel (event.Return pid number reply) q local =
+    ap not (none_local c (λ earlier r rest. not (arrives_at c pid kernel (target_on_way earlier pid number r.event) rest)) past.records (λ earlier r rest p t. ap (λ o. not (arrives_at c pid kernel o rest)) (no_target c earlier pid number r.kernel r.event t)) q.local)
+runs_at c past kernel _ q local = absurd local
 
-pub tame_moves : (c : Description) (trace : List Rec) → AllByRecursion (IsTame c) trace → IsTrue (processes_run_where_they_are c trace)
-tame_moves c trace tame =
-    each_tame c (λ past rec rest. runs_well c past rec.kernel rec.event) trace (λ past rec rest q t. runs_at c past rec.kernel rec.event q t) tame
+pub local_moves : (c : Description) (trace : List Rec) → AllByRecursion (IsLocal c) trace → IsTrue (processes_run_where_they_are c trace)
+local_moves c trace local =
+    each_local c (λ past rec rest. runs_well c past rec.kernel rec.event) trace (λ past rec rest q t. runs_at c past rec.kernel rec.event q t) local

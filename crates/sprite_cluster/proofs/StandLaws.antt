@@ -38,7 +38,7 @@ use Rattle.sprite_cluster.specs.Carried.{processes_of, unix_of, IsCarried, AreCa
 use Rattle.sprite_cluster.specs.Bursts.{are_whole}
 use Rattle.sprite_cluster.specs.Histories.{TurnedOn}
 use Rattle.sprite_cluster.proofs.BuiltLaws.{built_there, refused_by, reached_there}
-use Rattle.sprite_cluster.specs.Tame.{IsHome, IsTame}
+use Rattle.sprite_cluster.specs.Local.{IsHome, IsLocal}
 use Rattle.sprite_cluster.proofs.AnswerLaws.{answer_reached}
 use Rattle.sprite_cluster.proofs.EntryLaws.{after_is}
 use Rattle.sprite_cluster.proofs.BurstLaws.{own_burst, other_burst, own_call, other_call}
@@ -116,7 +116,7 @@ follows_ran c r i k p count image follows got found few moved =
       state = ap (state_of c) (journals_grow r.trace burst ∙ append-nil (journal_of r.trace)) ∙ follows.state ∙ ap (λ (ps : List Process). Some (unix_of c ps r.ticks follows.entries)) (sym (there.same image));
       once = once_ran k.pid count r.trace follows.once;
       ticked = counts_stay r.trace burst r.ticks follows.ticked;
-      tame = each_push (IsTame c) r.trace (at_home k.pid (Burst k.pid count)) follows.tame (record { same = refl; placed = there.carried.placed });
+      local = each_push (IsLocal c) r.trace (at_home k.pid (Burst k.pid count)) follows.local (record { same = refl; placed = there.carried.placed });
       fits = burst_fits c r.trace (unix_of c (processes_of r.kept follows.images) r.ticks follows.entries) k there.image image p there.carried.ran count follows.state there.there found_base there.carried.done (ahead_sum p there.image k.image image there.carried.ran count leads moved) follows.fits;
     }
 
@@ -184,11 +184,11 @@ called_carried c trace k base p called reply carried found plain lives =
       turn = λ goes. progress_more k.pid trace more ∙ ap (λ s. progress_from s (call_events k.pid more)) (carried.turn lives) ∙ own_progress k.pid k.calls called reply goes;
     }
 
--- the records of a built call are tame
-call_tame : (c : Description) (end : Option Ending) (pid number : ℕ) (called : Call) (reply : Reply) → IsHome c pid (home_of pid) → IsBuilt called → is_unreachable_error (error_in (Some reply)) ≡ false → AllByRecursion (IsTame c) (entered_records pid number called reply ++ returned_records end pid number reply)
-call_tame c None pid number called reply home built reached =
+-- the records of a built call are local
+call_local : (c : Description) (end : Option Ending) (pid number : ℕ) (called : Call) (reply : Reply) → IsHome c pid (home_of pid) → IsBuilt called → is_unreachable_error (error_in (Some reply)) ≡ false → AllByRecursion (IsLocal c) (entered_records pid number called reply ++ returned_records end pid number reply)
+call_local c None pid number called reply home built reached =
     (home, (record { home = home; called = called; reply = reply; built = built; reached = reached; whole = refl; call = refl; answer = refl }, (home, tt)))
-call_tame c (Some end) pid number called reply home built reached =
+call_local c (Some end) pid number called reply home built reached =
     (home, (record { home = home; called = called; reply = reply; built = built; reached = reached; whole = refl; call = refl; answer = refl }, tt))
 
 -- the cluster after a call of the process at a place
@@ -216,7 +216,7 @@ follows_called c r i k p called follows got lives found few stops is =
       state = grown c r.trace more (unix_of c (processes_of r.kept follows.images) r.ticks follows.entries) (whole_entry k.pid (k.calls + 1) called reply) follows.state (one_entry (ending_of called) k.pid (k.calls + 1) called reply) ∙ entered ∙ ap (λ (ps : List Process). Some (unix_of c ps (ticks_after r.ticks k.pid called) (follows.entries + 1))) (there.put k' image' refl);
       once = once_called k.pid k.calls r.trace called reply (carried.turn lives) follows.once;
       ticked = ticked_on r.trace more r.ticks k.pid called (some_units (ending_of called) k.pid (k.calls + 1) called reply) follows.ticked;
-      tame = each_append (IsTame c) r.trace more follows.tame (call_tame c (ending_of called) k.pid (k.calls + 1) called reply (record { same = refl; placed = carried.placed }) built reached);
+      local = each_append (IsLocal c) r.trace more follows.local (call_local c (ending_of called) k.pid (k.calls + 1) called reply (record { same = refl; placed = carried.placed }) built reached);
       fits = call_fits c r.trace (unix_of c (processes_of r.kept follows.images) r.ticks follows.entries) k there.image p carried.ran (k.calls + 1) called reply (ending_of called) follows.state there.there found_base carried.done leads stops follows.fits;
     }
 

@@ -19,7 +19,7 @@ use Rattle.call_journal.specs.WorthBursts.{done_since_entry}
 use Rattle.sprite_cluster.specs.Bursts.{are_whole, count_fits}
 use Rattle.sprite_cluster.specs.declared.kept.Kept.{Kept}
 use Rattle.sprite_cluster.specs.declared.running.Running.{Running}
-use Rattle.sprite_cluster.specs.Tame.{IsPlaced, IsTame}
+use Rattle.sprite_cluster.specs.Local.{IsPlaced, IsLocal}
 use Rattle.sprite_cluster.specs.Turns.{IsPlainProgram}
 
 -- the process that the one-kernel Unix has for a kept one, with the image that it had at its last entry
@@ -92,7 +92,7 @@ pub record Follows (c : Description) (r : Running) : Type 0 where
   pub state : state_of c (journal_of r.trace) ≡ Some (unix_of c (processes_of r.kept images) r.ticks entries)
   pub once : Once r.trace
   pub ticked : AllByRecursion (λ count. count ≤ units_of r.trace) r.ticks
-  pub tame : AllByRecursion (IsTame c) r.trace
+  pub local : AllByRecursion (IsLocal c) r.trace
   pub fits : IsTrue (each_record c (λ past rec rest. count_fits c past rec.event) r.trace)
 
 -- the cluster between two turns: each burst is whole, or has its reason behind it

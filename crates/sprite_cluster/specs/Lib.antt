@@ -3,6 +3,6 @@ pub mod Booted
 pub mod Bursts
 pub mod Carried
 pub mod Histories
-pub mod Tame
+pub mod Local
 pub mod Today
 pub mod Turns

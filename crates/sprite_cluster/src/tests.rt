@@ -10,15 +10,39 @@ use unix_calls::{Description, KernelLine, ProgramLine, StartLine};
 
 // A program's text and a budget; how the run ended, how the process did, and how many records there are.
 const RUNS: [(&str, u32, Finish, Option<Ending>, usize); 7] = [
-    ("sys exit 5", 100, Finish::AllEnded, Some(Ending::Exit(5)), 3),
-    ("sys tick\nsys exit r1", 100, Finish::AllEnded, Some(Ending::Exit(1)), 7),
+    (
+        "sys exit 5",
+        100,
+        Finish::AllEnded,
+        Some(Ending::Exit(5)),
+        3,
+    ),
+    (
+        "sys tick\nsys exit r1",
+        100,
+        Finish::AllEnded,
+        Some(Ending::Exit(1)),
+        7,
+    ),
     ("sys print 0 2", 100, Finish::AllEnded, Some(Ending::Bad), 7),
     ("", 100, Finish::AllEnded, Some(Ending::Bad), 3),
     // a burst of 10,000 instructions costs one unit
     ("again:\njmp again", 10, Finish::Budget, None, 10),
     // the budget is looked at between turns, and a turn's call comes whole: a burst, three records, and a unit for the byte
-    ("again:\nsys print 0 1\njmp again", 5, Finish::Budget, None, 4),
-    ("again:\nsys print 0 1\njmp again", 6, Finish::Budget, None, 8),
+    (
+        "again:\nsys print 0 1\njmp again",
+        5,
+        Finish::Budget,
+        None,
+        4,
+    ),
+    (
+        "again:\nsys print 0 1\njmp again",
+        6,
+        Finish::Budget,
+        None,
+        8,
+    ),
 ];
 
 // A cluster of a client and a server, whose client runs the program.

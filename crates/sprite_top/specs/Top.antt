@@ -15,6 +15,10 @@ use Rattle.sprite_top.specs.Refused.{refusal_line}
 use Rattle.call_journal.specs.Journal.{journal_of}
 use Rattle.unix_calls.specs.After.{legal}
 use Rattle.call_journal.specs.Once.{Once}
+use Rattle.call_journal.specs.Formed.{formed}
+use Rattle.call_journal.specs.Unreachable.{unreachable_for_cause}
+use Rattle.call_journal.specs.Rules.{KeepsRules}
+use Rattle.call_journal.specs.Worth.{Worth}
 use Rattle.sprite_cluster.specs.Today.{is_run_today}
 use Rattle.sprite_cluster.specs.Histories.{IsFinished}
 use Rattle.unix_calls.specs.Output.{output_of}
@@ -41,7 +45,8 @@ abbrev pub fault_line : List ℕ
 fault_line = codes "read fault\n"
 
 -- a run of the cluster that came to that end: its journal is a history of one Unix kernel, each finished call stands in it
--- once, it ended so, and what is due is the output of the journal
+-- once, its records are written as they should be, call no server unreachable without cause, keep the rules and are worth
+-- their units, it ended so, and what is due is the output of the journal
 pub record IsRunOf (c : Description) (end : Finish) (closed : Option Closed) (due : List ℕ) : Type 0 where
   pub run : Closed
   pub kept : closed ≡ Some run
@@ -49,6 +54,10 @@ pub record IsRunOf (c : Description) (end : Finish) (closed : Option Closed) (du
   pub ends : run.finish ≡ end
   pub legal : IsTrue (legal c (journal_of run.trace))
   pub once : Once run.trace
+  pub formed : IsTrue (formed c run.trace)
+  pub reached : IsTrue (unreachable_for_cause c run.trace)
+  pub rules : KeepsRules c run.trace
+  pub worth : Worth c run.trace
   pub finished : IsFinished c run.trace end
   pub output : due ≡ output_of c (journal_of run.trace) end
 

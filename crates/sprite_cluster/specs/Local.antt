@@ -32,7 +32,7 @@ pub record IsHome (c : Description) (pid kernel : ℕ) : Type 0 where
   pub placed : IsPlaced c pid
 
 -- the entry of a whole call that is built, whose answer isn't that something is unreachable
-pub record IsTameEntry (c : Description) (kernel : ℕ) (entry : Entry) : Type 0 where
+pub record IsLocalEntry (c : Description) (kernel : ℕ) (entry : Entry) : Type 0 where
   pub home : IsHome c entry.pid kernel
   pub called : Call
   pub reply : Reply
@@ -42,13 +42,13 @@ pub record IsTameEntry (c : Description) (kernel : ℕ) (entry : Entry) : Type 0
   pub call : entry.call ≡ Some called
   pub answer : entry.reply ≡ Some reply
 
-abbrev pub IsTameEvent : Description → ℕ → Event → Type 0
-IsTameEvent c kernel (event.Burst pid count) = IsHome c pid kernel
-IsTameEvent c kernel (event.Issue pid number call) = IsHome c pid kernel
-IsTameEvent c kernel (event.Enter entry) = IsTameEntry c kernel entry
-IsTameEvent c kernel (event.Return pid number reply) = IsHome c pid kernel
-IsTameEvent c kernel _ = ⊥
+abbrev pub IsLocalEvent : Description → ℕ → Event → Type 0
+IsLocalEvent c kernel (event.Burst pid count) = IsHome c pid kernel
+IsLocalEvent c kernel (event.Issue pid number call) = IsHome c pid kernel
+IsLocalEvent c kernel (event.Enter entry) = IsLocalEntry c kernel entry
+IsLocalEvent c kernel (event.Return pid number reply) = IsHome c pid kernel
+IsLocalEvent c kernel _ = ⊥
 
 -- a burst, an issue, such an entry or a return of a process at its home
-abbrev pub IsTame : Description → Rec → Type 0
-IsTame c rec = IsTameEvent c rec.kernel rec.event
+abbrev pub IsLocal : Description → Rec → Type 0
+IsLocal c rec = IsLocalEvent c rec.kernel rec.event

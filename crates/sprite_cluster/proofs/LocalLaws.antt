@@ -1,4 +1,4 @@
--- What tame records leave as it is: the processes at their homes, and no stream.
+-- What local records leave as it is: the processes at their homes, and no stream.
 use Rattle.std.proofs.Common.{◌≡◌, ℕ, ◌==◌, nat_lt, ◌&&◌, not, Bool, true, false, cond, List, [], ◌∷◌, length, Option, Some, None, is_some, refl, ap, ap₂, sym, subst, ◌∙◌}
 use Rattle.std.specs.List.{AllByRecursion}
 use Rattle.std.specs.Option.{option_map, option_and_then}
@@ -26,7 +26,7 @@ use Rattle.unix_calls.proofs.AfterLaws.{Yields, none_yields, yields_if, found_yi
 use Rattle.call_journal.specs.Past.{Past, Whereabouts, whereabouts_of, child_in, with_child, moved_by, state_by, no_past, past_with, each_from, each_record, some_from, some_record, settled_at, place_of, kernel_of}
 use Rattle.sprite_cluster.specs.Answers.{IsBuilt}
 use Rattle.sprite_cluster.proofs.HistoryLaws.{same_number}
-use Rattle.sprite_cluster.specs.Tame.{homes, IsHome, IsTameEntry, IsTameEvent, IsTame}
+use Rattle.sprite_cluster.specs.Local.{homes, IsHome, IsLocalEntry, IsLocalEvent, IsLocal}
 
 -- ---- no stream is made
 
@@ -82,29 +82,29 @@ death_bare : (u : Unix) (p : Process) → IsBare u → Yields IsBare (after_deat
 death_bare u p h =
     yields_if IsBare (p.killed && not (is_some p.asking)) (Some (with_process (record p { descriptors = no_descriptors; ending = Some ending.Killed }) u)) None (λ on. record { holds = h }) (λ off. none_yields IsBare)
 
-part_bare : (c : Description) (u : Unix) (p : Process) (kernel : ℕ) (entry : Entry) (claimed called : Call) → IsTameEntry c kernel entry → IsBare u → entry.call ≡ Some claimed → same_call claimed called ≡ true → Yields IsBare (after_part c u p entry.part called entry.reply)
-part_bare c u p kernel entry claimed called tame h is same =
-    let first : tame.called ≡ claimed = some_is tame.called claimed (sym tame.call ∙ is) in
-    let built : IsBuilt called = subst IsBuilt (first ∙ call_is claimed called same) tame.built in
-    subst (λ (o : Option Unix). Yields IsBare o) (sym (ap₂ (λ part reply. after_part c u p part called reply) tame.whole tame.answer)) (whole_bare c u p called tame.reply built h)
+part_bare : (c : Description) (u : Unix) (p : Process) (kernel : ℕ) (entry : Entry) (claimed called : Call) → IsLocalEntry c kernel entry → IsBare u → entry.call ≡ Some claimed → same_call claimed called ≡ true → Yields IsBare (after_part c u p entry.part called entry.reply)
+part_bare c u p kernel entry claimed called local h is same =
+    let first : local.called ≡ claimed = some_is local.called claimed (sym local.call ∙ is) in
+    let built : IsBuilt called = subst IsBuilt (first ∙ call_is claimed called same) local.built in
+    subst (λ (o : Option Unix). Yields IsBare o) (sym (ap₂ (λ part reply. after_part c u p part called reply) local.whole local.answer)) (whole_bare c u p called local.reply built h)
 
 counted_bare : (o : Option Unix) → Yields IsBare o → HasNoStreams (option_map counted o)
 counted_bare None h = tt
 counted_bare (Some u) h = h.holds
 
--- nor does a tame entry
-entry_bare : (c : Description) (u : Option Unix) (kernel : ℕ) (entry : Entry) → IsTameEntry c kernel entry → HasNoStreams u → HasNoStreams (state_by c (event.Enter entry) u)
-entry_bare c None kernel entry tame h = tt
-entry_bare c (Some u) kernel entry tame h =
-    counted_bare (after_of c u entry (process_at u.processes entry.pid)) (found_yields IsBare c u entry (process_at u.processes entry.pid) (λ q claimed called is same s. part_bare c u q kernel entry claimed called tame h is same) (λ q s there. death_bare u q h) refl)
+-- nor does a local entry
+entry_bare : (c : Description) (u : Option Unix) (kernel : ℕ) (entry : Entry) → IsLocalEntry c kernel entry → HasNoStreams u → HasNoStreams (state_by c (event.Enter entry) u)
+entry_bare c None kernel entry local h = tt
+entry_bare c (Some u) kernel entry local h =
+    counted_bare (after_of c u entry (process_at u.processes entry.pid)) (found_yields IsBare c u entry (process_at u.processes entry.pid) (λ q claimed called is same s. part_bare c u q kernel entry claimed called local h is same) (λ q s there. death_bare u q h) refl)
 
--- nor any tame event
-pub event_bare : (c : Description) (kernel : ℕ) (e : Event) (u : Option Unix) → IsTameEvent c kernel e → HasNoStreams u → HasNoStreams (state_by c e u)
-event_bare c kernel (event.Burst pid count) u tame h = h
-event_bare c kernel (event.Issue pid number called) u tame h = h
-event_bare c kernel (event.Enter entry) u tame h = entry_bare c u kernel entry tame h
-event_bare c kernel (event.Return pid number reply) u tame h = h
-event_bare c kernel _ u tame h = absurd tame
+-- nor any local event
+pub event_bare : (c : Description) (kernel : ℕ) (e : Event) (u : Option Unix) → IsLocalEvent c kernel e → HasNoStreams u → HasNoStreams (state_by c e u)
+event_bare c kernel (event.Burst pid count) u local h = h
+event_bare c kernel (event.Issue pid number called) u local h = h
+event_bare c kernel (event.Enter entry) u local h = entry_bare c u kernel entry local h
+event_bare c kernel (event.Return pid number reply) u local h = h
+event_bare c kernel _ u local h = absurd local
 
 -- ---- no process moves
 
@@ -113,51 +113,51 @@ no_child : (called : Call) (reply : Reply) → IsBuilt called → child_in (Some
 no_child call.Fork reply built = absurd built
 no_child _ reply built = refl
 
-event_stays : (c : Description) (kernel : ℕ) (e : Event) (ws : List Whereabouts) → IsTameEvent c kernel e → moved_by kernel e ws ≡ ws
-event_stays c kernel (event.Burst pid count) ws tame = refl
-event_stays c kernel (event.Issue pid number called) ws tame = refl
-event_stays c kernel (event.Enter entry) ws tame =
-    ap (λ o. with_child o (whereabouts_of ws entry.pid) ws) (ap₂ child_in tame.call tame.answer ∙ no_child tame.called tame.reply tame.built)
-event_stays c kernel (event.Return pid number reply) ws tame = refl
-event_stays c kernel _ ws tame = absurd tame
+event_stays : (c : Description) (kernel : ℕ) (e : Event) (ws : List Whereabouts) → IsLocalEvent c kernel e → moved_by kernel e ws ≡ ws
+event_stays c kernel (event.Burst pid count) ws local = refl
+event_stays c kernel (event.Issue pid number called) ws local = refl
+event_stays c kernel (event.Enter entry) ws local =
+    ap (λ o. with_child o (whereabouts_of ws entry.pid) ws) (ap₂ child_in local.call local.answer ∙ no_child local.called local.reply local.built)
+event_stays c kernel (event.Return pid number reply) ws local = refl
+event_stays c kernel _ ws local = absurd local
 
--- ---- a past of tame records
+-- ---- a past of local records
 
--- the records of a past are tame, its processes are at their homes, and it has no streams
+-- the records of a past are local, its processes are at their homes, and it has no streams
 pub record IsQuiet (c : Description) (past : Past) : Type 0 where
-  pub tame : AllByRecursion (IsTame c) past.records
+  pub local : AllByRecursion (IsLocal c) past.records
   pub processes : past.processes ≡ homes c
   pub bare : HasNoStreams past.unix
 
 -- nothing has happened
 pub quiet_first : (c : Description) → IsQuiet c (no_past c)
-quiet_first c = record { tame = tt; processes = refl; bare = refl }
+quiet_first c = record { local = tt; processes = refl; bare = refl }
 
--- one tame record later it is so again
-pub quiet_more : (c : Description) (past : Past) (rec : Rec) → IsQuiet c past → IsTame c rec → IsQuiet c (past_with c rec past)
-quiet_more c past rec q tame = record {
-  tame = each_push (IsTame c) past.records rec q.tame tame;
-  processes = event_stays c rec.kernel rec.event past.processes tame ∙ q.processes;
-  bare = event_bare c rec.kernel rec.event past.unix tame q.bare;
+-- one local record later it is so again
+pub quiet_more : (c : Description) (past : Past) (rec : Rec) → IsQuiet c past → IsLocal c rec → IsQuiet c (past_with c rec past)
+quiet_more c past rec q local = record {
+  local = each_push (IsLocal c) past.records rec q.local local;
+  processes = event_stays c rec.kernel rec.event past.processes local ∙ q.processes;
+  bare = event_bare c rec.kernel rec.event past.unix local q.bare;
 }
 
--- a test that each tame record meets behind a quiet past is met by each record of a tame trace
-each_tame_from : (c : Description) (test : Past → Rec → List Rec → Bool) (past : Past) (trace : List Rec) → ((before : Past) (rec : Rec) (rest : List Rec) → IsQuiet c before → IsTame c rec → test before rec rest ≡ true) → IsQuiet c past → AllByRecursion (IsTame c) trace → each_from c test past trace ≡ true
-each_tame_from c test past [] met q tame = refl
-each_tame_from c test past (rec ∷ rest) met q tame =
-    and_from (test past rec rest) (each_from c test (past_with c rec past) rest) (met past rec rest q tame.0) (each_tame_from c test (past_with c rec past) rest met (quiet_more c past rec q tame.0) tame.1)
+-- a test that each local record meets behind a quiet past is met by each record of a local trace
+each_local_from : (c : Description) (test : Past → Rec → List Rec → Bool) (past : Past) (trace : List Rec) → ((before : Past) (rec : Rec) (rest : List Rec) → IsQuiet c before → IsLocal c rec → test before rec rest ≡ true) → IsQuiet c past → AllByRecursion (IsLocal c) trace → each_from c test past trace ≡ true
+each_local_from c test past [] met q local = refl
+each_local_from c test past (rec ∷ rest) met q local =
+    and_from (test past rec rest) (each_from c test (past_with c rec past) rest) (met past rec rest q local.0) (each_local_from c test (past_with c rec past) rest met (quiet_more c past rec q local.0) local.1)
 
-pub each_tame : (c : Description) (test : Past → Rec → List Rec → Bool) (trace : List Rec) → ((before : Past) (rec : Rec) (rest : List Rec) → IsQuiet c before → IsTame c rec → test before rec rest ≡ true) → AllByRecursion (IsTame c) trace → each_record c test trace ≡ true
-each_tame c test trace met tame = each_tame_from c test (no_past c) trace met (quiet_first c) tame
+pub each_local : (c : Description) (test : Past → Rec → List Rec → Bool) (trace : List Rec) → ((before : Past) (rec : Rec) (rest : List Rec) → IsQuiet c before → IsLocal c rec → test before rec rest ≡ true) → AllByRecursion (IsLocal c) trace → each_record c test trace ≡ true
+each_local c test trace met local = each_local_from c test (no_past c) trace met (quiet_first c) local
 
 -- and a test that none meets, by none
-none_tame_from : (c : Description) (test : Past → Rec → List Rec → Bool) (past : Past) (trace : List Rec) → ((before : Past) (rec : Rec) (rest : List Rec) → IsQuiet c before → IsTame c rec → test before rec rest ≡ false) → IsQuiet c past → AllByRecursion (IsTame c) trace → some_from c test past trace ≡ false
-none_tame_from c test past [] met q tame = refl
-none_tame_from c test past (rec ∷ rest) met q tame =
-    or_from (test past rec rest) (some_from c test (past_with c rec past) rest) (met past rec rest q tame.0) (none_tame_from c test (past_with c rec past) rest met (quiet_more c past rec q tame.0) tame.1)
+none_local_from : (c : Description) (test : Past → Rec → List Rec → Bool) (past : Past) (trace : List Rec) → ((before : Past) (rec : Rec) (rest : List Rec) → IsQuiet c before → IsLocal c rec → test before rec rest ≡ false) → IsQuiet c past → AllByRecursion (IsLocal c) trace → some_from c test past trace ≡ false
+none_local_from c test past [] met q local = refl
+none_local_from c test past (rec ∷ rest) met q local =
+    or_from (test past rec rest) (some_from c test (past_with c rec past) rest) (met past rec rest q local.0) (none_local_from c test (past_with c rec past) rest met (quiet_more c past rec q local.0) local.1)
 
-pub none_tame : (c : Description) (test : Past → Rec → List Rec → Bool) (trace : List Rec) → ((before : Past) (rec : Rec) (rest : List Rec) → IsQuiet c before → IsTame c rec → test before rec rest ≡ false) → AllByRecursion (IsTame c) trace → some_record c test trace ≡ false
-none_tame c test trace met tame = none_tame_from c test (no_past c) trace met (quiet_first c) tame
+pub none_local : (c : Description) (test : Past → Rec → List Rec → Bool) (trace : List Rec) → ((before : Past) (rec : Rec) (rest : List Rec) → IsQuiet c before → IsLocal c rec → test before rec rest ≡ false) → AllByRecursion (IsLocal c) trace → some_record c test trace ≡ false
+none_local c test trace met local = none_local_from c test (no_past c) trace met (quiet_first c) local
 
 -- ---- where a process is in it
 
