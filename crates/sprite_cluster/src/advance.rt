@@ -1,10 +1,7 @@
-ghost use Rattle.std.specs.Prelude.{◌≡◌, ◌+◌, ◌<◌, ◌∷◌, ◌++◌, [], None, IfOk, OnOk};
+ghost use Rattle.std.specs.Prelude.{◌≡◌, ◌+◌, ◌<◌, ◌∷◌, ◌++◌, [], None, OnOk};
 ghost use Rattle.std.specs.List.{AllByRecursion};
-ghost use Rattle.process_machine.specs.Steps.{step_of, AtCall};
-ghost use Rattle.process_machine.specs.Calls.{call_at, Fits};
-ghost use Rattle.process_machine.specs.Runs.{call_there};
 ghost use Rattle.sprite_cluster.specs.Answers.{answer_of, ending_of, ticks_after, console_after, IsBuilt};
-ghost use Rattle.sprite_cluster.specs.Turns.{at_home, call_records, entered_records, returned_records, image_after, kept_after, Stops, Calls, Turned, IsThere, IsPlainProgram};
+ghost use Rattle.sprite_cluster.specs.Turns.{at_home, call_records, entered_records, kept_after, Calls, Turned, IsThere, IsPlainProgram};
 
 use crate::answers::{answer_of, count_tick, ending_of};
 use crate::kept::Kept;

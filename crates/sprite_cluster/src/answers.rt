@@ -1,6 +1,5 @@
-ghost use Rattle.std.specs.Prelude.{◌≡◌, ◌+◌, ◌-◌, ◌<◌, IfOk, OnOk, length};
+ghost use Rattle.std.specs.Prelude.{◌≡◌, ◌+◌, ◌-◌, ◌<◌, IfOk};
 ghost use Rattle.std.specs.List.{AllByRecursion};
-ghost use Rattle.sprite_ids.specs.Pid.{home_of};
 ghost use Rattle.unix_calls.specs.Answers.{value};
 ghost use Rattle.unix_calls.specs.ProcessCalls.{kernel_name};
 ghost use Rattle.sprite_cluster.specs.Answers.{answer_of, ticks_after, ending_of, host_answer, count_at, counted_at, IsBuilt};
@@ -8,7 +7,7 @@ ghost use Rattle.sprite_cluster.specs.Answers.{answer_of, ticks_after, ending_of
 use process_machine::{Call, Reply};
 use sprite_ids::{Bytes, Copying, Ending, Errno, Items, Kernel, NoMemory, Pid};
 use std::alloc::Global;
-use unix_calls::{Description, KernelLine};
+use unix_calls::KernelLine;
 
 /// How a process ends by its call; None where it goes on.
 pub(crate) fn ending_of(call: &Call) -> Option<Ending>

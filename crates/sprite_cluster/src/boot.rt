@@ -1,6 +1,6 @@
-ghost use Rattle.std.specs.Prelude.{◌≡◌, ◌+◌, ◌*◌, ◌<◌, ◌≤◌, true, IfOk, OnOk, Some, length, replicate};
+ghost use Rattle.std.specs.Prelude.{◌≡◌, ◌+◌, ◌<◌, ◌≤◌, true, IfOk, OnOk, Some, length, replicate};
 ghost use Rattle.sprite_cluster.specs.Today.{is_run_today};
-ghost use Rattle.sprite_cluster.specs.Booted.{births_of, new_kept, put_kept, IsPlaceOf, IsNext, IsStarted};
+ghost use Rattle.sprite_cluster.specs.Booted.{births_of, put_kept, IsPlaceOf, IsNext, IsStarted};
 ghost use Rattle.sprite_cluster.specs.Carried.{Stands};
 ghost use Rattle.unix_calls.specs.Answers.{program_at};
 

@@ -12,7 +12,6 @@ mod today;
 mod turns;
 
 pub use kept::Kept;
-pub use running::Running;
 pub use today::is_run_today;
 pub use turns::{Outcome, run};
 

@@ -1,4 +1,4 @@
-ghost use Rattle.std.specs.Prelude.{◌≡◌, ◌<◌, ◌≤◌, true, None, IfSome, IfNone, length, is_some, take};
+ghost use Rattle.std.specs.Prelude.{◌≡◌, ◌<◌, true, None, IfSome, IfNone, length, take};
 ghost use Rattle.std.specs.List.{AllByRecursion};
 ghost use Rattle.sprite_cluster.specs.Histories.{LivesAt, HasEnded, HasNoneTo};
 

@@ -4,7 +4,7 @@ use sprite_ids::Items;
 
 /// A cluster on its way.
 #[derive(Debug, Drop)]
-pub struct Running {
+pub(crate) struct Running {
     /// The processes, by ascending number.
     pub kept: Items<Kept>,
     /// The count of each kernel.
