@@ -11,9 +11,9 @@ use sprite_ids::{BlockNo, Bytes, FileId, Kernel, NoMemory};
 use std::alloc::Global;
 use std::test::Fail;
 
-const SEEDS: [u64; 2] = [1, 2];
+const SEED: u64 = 1;
 
-const STEPS: u32 = 1_200;
+const STEPS: u32 = 800;
 
 // For how many blocks there is room.
 const SIZE: u16 = 8;
@@ -27,34 +27,16 @@ fn a_plain_list_does_the_same(rt: HostRuntime) -> Result<(), Fail> {
         one: Kernel::new(2).ok_or("kernel 2")?,
         other: Kernel::new(3).ok_or("kernel 3")?,
     };
-    assert_eq!(rt; first_difference_of_all(rt.alloc(), &servers)?, None);
+    assert_eq!(rt; first_difference(rt.alloc(), &servers)?, None);
     Ok(())
 }
 
-// The first seed with the place of its first step at which the two differ.
-fn first_difference_of_all(
-    alloc: Global,
-    servers: &Servers,
-) -> Result<Option<(u64, u32)>, NoMemory> {
-    for seed in SEEDS {
-        if let Some(step) = first_difference(alloc, servers, seed, STEPS)? {
-            return Ok(Some((seed, step)));
-        }
-    }
-    Ok(None)
-}
-
 // The place of the first step after which the two differ.
-fn first_difference(
-    alloc: Global,
-    servers: &Servers,
-    seed: u64,
-    steps: u32,
-) -> Result<Option<u32>, NoMemory> {
-    let mut random = Pcg32::seed_from_u64(seed);
+fn first_difference(alloc: Global, servers: &Servers) -> Result<Option<u32>, NoMemory> {
+    let mut random = Pcg32::seed_from_u64(SEED);
     let mut cache = Cache::new(alloc, SIZE)?;
     let mut plain = Plain::new(alloc, usize::from(SIZE));
-    for step in 0..steps {
+    for step in 0..STEPS {
         let act = draw(alloc, servers, &mut random, &plain)?;
         if !do_the_same(&mut cache, &mut plain, servers, &act)? {
             return Ok(Some(step));
