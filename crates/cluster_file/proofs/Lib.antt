@@ -1,3 +1,6 @@
 pub mod ClusterLaws
 pub mod RefusalLaws
+pub mod ProgramLaws
+pub mod RowLaws
+pub mod StageLaws
 pub mod TableLaws
