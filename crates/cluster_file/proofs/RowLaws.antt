@@ -171,3 +171,112 @@ kernel_row_is earlier table row e =
       number = refl;
       few = served_few earlier (value_at name.Serves table) (not-false (Rows.has_served earlier table) two.0);
     })
+
+-- the numbers of all kernels are their places
+kernels_numbered : (document : Members) (rows : List KernelRow) → Rows.rows_of Kernel Rows.kernel_row document ≡ Ok rows → AreNumbered (λ (r : KernelRow). r.kernel) 1 rows
+kernels_numbered document rows e =
+    rows_keep Kernel (AreNumbered (λ (r : KernelRow). r.kernel) 1) Rows.kernel_row
+    (λ earlier table row is h. numbered_push (λ (r : KernelRow). r.kernel) 1 earlier row h (let number = (kernel_row_is earlier table row is).number in omega (arith, number)))
+    document rows tt e
+
+kernels_named : (document : Members) (rows : List KernelRow) → Rows.rows_of Kernel Rows.kernel_row document ≡ Ok rows → AllByRecursion (λ (r : KernelRow). is_name r.name ≡ true) rows
+kernels_named document rows e = each_row Kernel _ Rows.kernel_row (λ earlier table row is. (kernel_row_is earlier table row is).named) document rows e
+
+-- all serve at most 16 domains
+served_push : (earlier : List KernelRow) (row : KernelRow) → Rows.served_by (earlier ++ row ∷ []) ≡ Rows.served_by earlier + length row.serves
+served_push [] row = omega arith
+served_push (r ∷ rs) row = let rest = served_push rs row in omega (arith, rest)
+
+still_few : (a b n : ℕ) → n ≡ a + b → (a + b ≤ 16) ⊎ (b ≡ 0) → a ≤ 16 → n ≤ 16
+still_few a b n is (inl few) h = omega (arith, is, few)
+still_few a b n is (inr none) h = omega (arith, is, none, h)
+
+kernels_serve : (document : Members) (rows : List KernelRow) → Rows.rows_of Kernel Rows.kernel_row document ≡ Ok rows → Rows.served_by rows ≤ 16
+kernels_serve document rows e =
+    rows_keep Kernel (λ (rs : List KernelRow). Rows.served_by rs ≤ 16) Rows.kernel_row
+    (λ earlier table row is h. still_few (Rows.served_by earlier) (length row.serves) _ (served_push earlier row) (kernel_row_is earlier table row is).few h)
+    document rows (omega arith) e
+
+-- a program has a name, and its number is its place
+pub record IsProgramRow (earlier : List ProgramRow) (row : ProgramRow) : Type 0 where
+  pub named : is_name row.name ≡ true
+  pub number : row.number ≡ length earlier + 1
+
+program_row_is : (earlier : List ProgramRow) (table : Members) (row : ProgramRow) → Rows.program_row earlier table ≡ Ok row → IsProgramRow earlier row
+program_row_is earlier table row e =
+    let one = if_ok (not (is_name (text_at name.Name table))) _ _ row _ refl e in
+    let same : record { number = length earlier + 1; name = text_at name.Name table; text = text_at name.Text table } ≡ row = cc in
+    subst (λ (r : ProgramRow). IsProgramRow earlier r) same (record { named = not-false (is_name (text_at name.Name table)) one.0; number = refl })
+
+programs_numbered : (document : Members) (rows : List ProgramRow) → Rows.rows_of Program Rows.program_row document ≡ Ok rows → AreNumbered (λ (r : ProgramRow). r.number) 1 rows
+programs_numbered document rows e =
+    rows_keep Program (AreNumbered (λ (r : ProgramRow). r.number) 1) Rows.program_row
+    (λ earlier table row is h. numbered_push (λ (r : ProgramRow). r.number) 1 earlier row h (let number = (program_row_is earlier table row is).number in omega (arith, number)))
+    document rows tt e
+
+programs_named : (document : Members) (rows : List ProgramRow) → Rows.rows_of Program Rows.program_row document ≡ Ok rows → AllByRecursion (λ (r : ProgramRow). is_name r.name ≡ true) rows
+programs_named document rows e = each_row Program _ Rows.program_row (λ earlier table row is. (program_row_is earlier table row is).named) document rows e
+
+-- a start's argument is below 2^63
+
+start_by : (earlier : List StartRow) (table : Members) (row : StartRow) (z : ℤ) (o : Option ℕ) → within 0 (2 ^ 63 - 1) z ≡ o → Rows.started_with earlier table o ≡ Ok row → row.arg < 2 ^ 63
+start_by earlier table row z None is e = absurd (cc)
+start_by earlier table row z (Some arg) is e =
+    let same : record { host = text_at name.Host table; program = text_at name.Program table; arg = arg } ≡ row = cc in
+    let most = leb-true arg (2 ^ 63 - 1) (and_parts (nat_le 0 arg) (nat_le arg (2 ^ 63 - 1)) (within_is 0 (2 ^ 63 - 1) z arg is)).1 in
+    subst (λ (r : StartRow). r.arg < 2 ^ 63) same (omega (arith, most))
+
+starts_small : (document : Members) (rows : List StartRow) → Rows.rows_of Start Rows.start_row document ≡ Ok rows → AllByRecursion (λ (r : StartRow). r.arg < 2 ^ 63) rows
+starts_small document rows e = each_row Start _ Rows.start_row (λ earlier table row is. start_by earlier table row (whole_at name.Arg 0 table) _ refl is) document rows e
+
+-- an eviction's call is numbered within its limits
+evict_by : (earlier : List EvictRow) (table : Members) (row : EvictRow) (z : ℤ) (o : Option ℕ) → within 1 1000000 z ≡ o → Rows.evicted_after earlier table o ≡ Ok row → is_within 1 1000000 row.after ≡ true
+evict_by earlier table row z None is e = absurd (cc)
+evict_by earlier table row z (Some after) is e =
+    let same : record { host = text_at name.Host table; after = after } ≡ row = cc in
+    subst (λ (r : EvictRow). is_within 1 1000000 r.after ≡ true) same (within_is 1 1000000 z after is)
+
+evicts_within : (document : Members) (rows : List EvictRow) → Rows.rows_of Evict Rows.evict_row document ≡ Ok rows → AllByRecursion (λ (r : EvictRow). is_within 1 1000000 r.after ≡ true) rows
+evicts_within document rows e = each_row Evict _ Rows.evict_row (λ earlier table row is. evict_by earlier table row (whole_at name.After 0 table) _ refl is) document rows e
+
+-- a fault's numbers are within their limits, and its fate is a fault
+pub record IsLinkRow (row : LinkRow) : Type 0 where
+  pub first : is_within 1 (2 ^ 31) row.first ≡ true
+  pub every : is_within 1 (2 ^ 31) row.every ≡ true
+  pub count : is_within 1 (2 ^ 31) row.count ≡ true
+  pub fate : is_fault row.fate ≡ true
+
+fate_is : (a b c : Bool) (f : Fate) → cond a (Some Lost) (cond b (Some Twice) (cond c (Some Late) None)) ≡ Some f → is_fault f ≡ true
+fate_is true b c f e = let same : Lost ≡ f = cc in ap is_fault (sym same)
+fate_is false true c f e = let same : Twice ≡ f = cc in ap is_fault (sym same)
+fate_is false false true f e = let same : Late ≡ f = cc in ap is_fault (sym same)
+fate_is false false false f e = absurd (cc)
+
+fated : (b : Bool) (text : List ℕ) (f : Fate) → cond b (Rows.fate_of text) (Some Lost) ≡ Some f → is_fault f ≡ true
+fated true text f e = fate_is (same_text text (codes "lost")) (same_text text (codes "twice")) (same_text text (codes "late")) f e
+fated false text f e = let same : Lost ≡ f = cc in ap is_fault (sym same)
+
+link_fated : (earlier : List LinkRow) (table : Members) (row : LinkRow) (first every count : ℕ) (o : Option Fate) → is_within 1 (2 ^ 31) first ≡ true → is_within 1 (2 ^ 31) every ≡ true → is_within 1 (2 ^ 31) count ≡ true → ((f : Fate) → o ≡ Some f → is_fault f ≡ true) → Rows.link_fated earlier table first every count o ≡ Ok row → IsLinkRow row
+link_fated earlier table row first every count None a b c h e = absurd (cc)
+link_fated earlier table row first every count (Some fate) a b c h e =
+    let same : record { from = text_at name.From table; to = text_at name.To table; first = first; every = every; count = count; fate = fate } ≡ row = cc in
+    subst IsLinkRow same (record { first = a; every = b; count = c; fate = h fate refl })
+
+link_counted : (earlier : List LinkRow) (table : Members) (row : LinkRow) (first every : ℕ) (z : ℤ) (o : Option ℕ) → within 1 (2 ^ 31) z ≡ o → is_within 1 (2 ^ 31) first ≡ true → is_within 1 (2 ^ 31) every ≡ true → Rows.link_counted earlier table first every o ≡ Ok row → IsLinkRow row
+link_counted earlier table row first every z None is a b e = absurd (cc)
+link_counted earlier table row first every z (Some count) is a b e =
+    link_fated earlier table row first every count (Rows.fate_at table) a b (within_is 1 (2 ^ 31) z count is)
+    (λ (f : Fate) k. fated (is_some (value_at name.Fate table)) (text_at name.Fate table) f k) e
+
+link_spaced : (earlier : List LinkRow) (table : Members) (row : LinkRow) (first : ℕ) (z : ℤ) (o : Option ℕ) → within 1 (2 ^ 31) z ≡ o → is_within 1 (2 ^ 31) first ≡ true → Rows.link_spaced earlier table first o ≡ Ok row → IsLinkRow row
+link_spaced earlier table row first z None is a e = absurd (cc)
+link_spaced earlier table row first z (Some every) is a e =
+    link_counted earlier table row first every (whole_at name.Count (2 ^ 31) table) _ refl a (within_is 1 (2 ^ 31) z every is) e
+
+link_begun : (earlier : List LinkRow) (table : Members) (row : LinkRow) (z : ℤ) (o : Option ℕ) → within 1 (2 ^ 31) z ≡ o → Rows.link_begun earlier table o ≡ Ok row → IsLinkRow row
+link_begun earlier table row z None is e = absurd (cc)
+link_begun earlier table row z (Some first) is e =
+    link_spaced earlier table row first (whole_at name.Every 1 table) _ refl (within_is 1 (2 ^ 31) z first is) e
+
+links_are : (document : Members) (rows : List LinkRow) → Rows.rows_of Link Rows.link_row document ≡ Ok rows → AllByRecursion IsLinkRow rows
+links_are document rows e = each_row Link IsLinkRow Rows.link_row (λ earlier table row is. link_begun earlier table row (whole_at name.First 1 table) _ refl is) document rows e
