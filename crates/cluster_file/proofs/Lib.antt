@@ -1,5 +1,6 @@
 pub mod ClusterLaws
 pub mod RefusalLaws
+pub mod HostLaws
 pub mod OnceLaws
 pub mod ProgramLaws
 pub mod RowLaws
