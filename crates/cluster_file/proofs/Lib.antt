@@ -1,6 +1,7 @@
 pub mod ClusterLaws
 pub mod RefusalLaws
 pub mod HostLaws
+pub mod LineLaws
 pub mod OnceLaws
 pub mod ProgramLaws
 pub mod RowLaws

@@ -49,7 +49,7 @@ reads_all {A} {B} P read each xs zs e =
     reads_each (λ (x : A). Unit {0}) P read (λ (ys : List B) (x : A) (y : B) (free : Unit {0}) (is : read ys x ≡ Ok y). each ys x y is) xs zs (each_free xs) e
 
 -- what was read keeps what each item had
-mapped_push : {B C : Type 0} (f : B → C) (ys : List B) (y : B) (more : List C) → map f (ys ++ y ∷ []) ++ more ≡ map f ys ++ f y ∷ more
+pub mapped_push : {B C : Type 0} (f : B → C) (ys : List B) (y : B) (more : List C) → map f (ys ++ y ∷ []) ++ more ≡ map f ys ++ f y ∷ more
 mapped_push f [] y more = refl
 mapped_push f (z ∷ ys) y more = ap (λ rest. f z ∷ rest) (mapped_push f ys y more)
 
