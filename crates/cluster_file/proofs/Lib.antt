@@ -1,6 +1,9 @@
+pub mod AppendLaws
 pub mod ClusterLaws
+pub mod FileLaws
 pub mod RefusalLaws
 pub mod HostLaws
+pub mod LawfulLaws
 pub mod LineLaws
 pub mod OnceLaws
 pub mod ProgramLaws

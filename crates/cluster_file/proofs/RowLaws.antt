@@ -23,7 +23,7 @@ use Rattle.cluster_file.specs.declared.keys.Section.{Section}
 use Rattle.cluster_file.specs.declared.keys.Section.TheVariants.{Kernel, Program, Start, File, Link, Evict}
 use Rattle.cluster_file.specs.Refusals.{and_then, unless, refused_at, read_all}
 use Rattle.cluster_file.specs.Keys.{section_key}
-use Rattle.cluster_file.specs.Tables.{value_at, elements_at, elements_in, texts_in, text_at, truth_at, whole_at, within, is_two}
+use Rattle.cluster_file.specs.Tables.{value_at, elements_at, elements_in, tables_in, texts_in, text_at, truth_at, whole_at, within, is_two}
 use Rattle.cluster_file.specs.Rows
 use Rattle.cluster_file.proofs.StageLaws.{then_ok, unless_ok, reads_keeps, reads_each, reads_all}
 
@@ -63,6 +63,10 @@ not_too_many {B} section row document ys e =
 pub each_row : {B : Type 0} (section : Section) (P : B → Type 0) (row : List B → Members → Result B Refusal) → ((zs : List B) (table : Members) (y : B) → row zs table ≡ Ok y → P y) → (document : Members) (ys : List B) → Rows.rows_of section row document ≡ Ok ys → AllByRecursion P ys
 each_row {B} section P row each document ys e =
     reads_all P _ (λ (zs : List B) (table : Members) (y : B) is. each zs table y (room_left section zs (row zs table) y is).1) _ ys e
+
+pub each_row_of : {B : Type 0} (section : Section) (Q : Members → Type 0) (P : B → Type 0) (row : List B → Members → Result B Refusal) → ((zs : List B) (table : Members) (y : B) → Q table → row zs table ≡ Ok y → P y) → (document : Members) (ys : List B) → AllByRecursion Q (tables_in (elements_at (section_key section) document)) → Rows.rows_of section row document ≡ Ok ys → AllByRecursion P ys
+each_row_of {B} section Q P row each document ys h e =
+    reads_each Q P _ (λ (zs : List B) (table : Members) (y : B) q is. each zs table y q (room_left section zs (row zs table) y is).1) _ ys h e
 
 pub rows_keep : {B : Type 0} (section : Section) (I : List B → Type 0) (row : List B → Members → Result B Refusal) → ((zs : List B) (table : Members) (y : B) → row zs table ≡ Ok y → I zs → I (zs ++ y ∷ [])) → (document : Members) (ys : List B) → I [] → Rows.rows_of section row document ≡ Ok ys → I ys
 rows_keep {B} section I row step document ys h e =
@@ -173,13 +177,13 @@ kernel_row_is earlier table row e =
     })
 
 -- the numbers of all kernels are their places
-kernels_numbered : (document : Members) (rows : List KernelRow) → Rows.rows_of Kernel Rows.kernel_row document ≡ Ok rows → AreNumbered (λ (r : KernelRow). r.kernel) 1 rows
+pub kernels_numbered : (document : Members) (rows : List KernelRow) → Rows.rows_of Kernel Rows.kernel_row document ≡ Ok rows → AreNumbered (λ (r : KernelRow). r.kernel) 1 rows
 kernels_numbered document rows e =
     rows_keep Kernel (AreNumbered (λ (r : KernelRow). r.kernel) 1) Rows.kernel_row
     (λ earlier table row is h. numbered_push (λ (r : KernelRow). r.kernel) 1 earlier row h (let number = (kernel_row_is earlier table row is).number in omega (arith, number)))
     document rows tt e
 
-kernels_named : (document : Members) (rows : List KernelRow) → Rows.rows_of Kernel Rows.kernel_row document ≡ Ok rows → AllByRecursion (λ (r : KernelRow). is_name r.name ≡ true) rows
+pub kernels_named : (document : Members) (rows : List KernelRow) → Rows.rows_of Kernel Rows.kernel_row document ≡ Ok rows → AllByRecursion (λ (r : KernelRow). is_name r.name ≡ true) rows
 kernels_named document rows e = each_row Kernel _ Rows.kernel_row (λ earlier table row is. (kernel_row_is earlier table row is).named) document rows e
 
 -- all serve at most 16 domains
@@ -191,7 +195,7 @@ still_few : (a b n : ℕ) → n ≡ a + b → (a + b ≤ 16) ⊎ (b ≡ 0) → a
 still_few a b n is (inl few) h = omega (arith, is, few)
 still_few a b n is (inr none) h = omega (arith, is, none, h)
 
-kernels_serve : (document : Members) (rows : List KernelRow) → Rows.rows_of Kernel Rows.kernel_row document ≡ Ok rows → Rows.served_by rows ≤ 16
+pub kernels_serve : (document : Members) (rows : List KernelRow) → Rows.rows_of Kernel Rows.kernel_row document ≡ Ok rows → Rows.served_by rows ≤ 16
 kernels_serve document rows e =
     rows_keep Kernel (λ (rs : List KernelRow). Rows.served_by rs ≤ 16) Rows.kernel_row
     (λ earlier table row is h. still_few (Rows.served_by earlier) (length row.serves) _ (served_push earlier row) (kernel_row_is earlier table row is).few h)
@@ -208,13 +212,13 @@ program_row_is earlier table row e =
     let same : record { number = length earlier + 1; name = text_at name.Name table; text = text_at name.Text table } ≡ row = cc in
     subst (λ (r : ProgramRow). IsProgramRow earlier r) same (record { named = not-false (is_name (text_at name.Name table)) one.0; number = refl })
 
-programs_numbered : (document : Members) (rows : List ProgramRow) → Rows.rows_of Program Rows.program_row document ≡ Ok rows → AreNumbered (λ (r : ProgramRow). r.number) 1 rows
+pub programs_numbered : (document : Members) (rows : List ProgramRow) → Rows.rows_of Program Rows.program_row document ≡ Ok rows → AreNumbered (λ (r : ProgramRow). r.number) 1 rows
 programs_numbered document rows e =
     rows_keep Program (AreNumbered (λ (r : ProgramRow). r.number) 1) Rows.program_row
     (λ earlier table row is h. numbered_push (λ (r : ProgramRow). r.number) 1 earlier row h (let number = (program_row_is earlier table row is).number in omega (arith, number)))
     document rows tt e
 
-programs_named : (document : Members) (rows : List ProgramRow) → Rows.rows_of Program Rows.program_row document ≡ Ok rows → AllByRecursion (λ (r : ProgramRow). is_name r.name ≡ true) rows
+pub programs_named : (document : Members) (rows : List ProgramRow) → Rows.rows_of Program Rows.program_row document ≡ Ok rows → AllByRecursion (λ (r : ProgramRow). is_name r.name ≡ true) rows
 programs_named document rows e = each_row Program _ Rows.program_row (λ earlier table row is. (program_row_is earlier table row is).named) document rows e
 
 -- a start's argument is below 2^63
@@ -226,7 +230,7 @@ start_by earlier table row z (Some arg) is e =
     let most = leb-true arg (2 ^ 63 - 1) (and_parts (nat_le 0 arg) (nat_le arg (2 ^ 63 - 1)) (within_is 0 (2 ^ 63 - 1) z arg is)).1 in
     subst (λ (r : StartRow). r.arg < 2 ^ 63) same (omega (arith, most))
 
-starts_small : (document : Members) (rows : List StartRow) → Rows.rows_of Start Rows.start_row document ≡ Ok rows → AllByRecursion (λ (r : StartRow). r.arg < 2 ^ 63) rows
+pub starts_small : (document : Members) (rows : List StartRow) → Rows.rows_of Start Rows.start_row document ≡ Ok rows → AllByRecursion (λ (r : StartRow). r.arg < 2 ^ 63) rows
 starts_small document rows e = each_row Start _ Rows.start_row (λ earlier table row is. start_by earlier table row (whole_at name.Arg 0 table) _ refl is) document rows e
 
 -- an eviction's call is numbered within its limits
@@ -236,7 +240,7 @@ evict_by earlier table row z (Some after) is e =
     let same : record { host = text_at name.Host table; after = after } ≡ row = cc in
     subst (λ (r : EvictRow). is_within 1 1000000 r.after ≡ true) same (within_is 1 1000000 z after is)
 
-evicts_within : (document : Members) (rows : List EvictRow) → Rows.rows_of Evict Rows.evict_row document ≡ Ok rows → AllByRecursion (λ (r : EvictRow). is_within 1 1000000 r.after ≡ true) rows
+pub evicts_within : (document : Members) (rows : List EvictRow) → Rows.rows_of Evict Rows.evict_row document ≡ Ok rows → AllByRecursion (λ (r : EvictRow). is_within 1 1000000 r.after ≡ true) rows
 evicts_within document rows e = each_row Evict _ Rows.evict_row (λ earlier table row is. evict_by earlier table row (whole_at name.After 0 table) _ refl is) document rows e
 
 -- a fault's numbers are within their limits, and its fate is a fault
@@ -278,5 +282,5 @@ link_begun earlier table row z None is e = absurd (cc)
 link_begun earlier table row z (Some first) is e =
     link_spaced earlier table row first (whole_at name.Every 1 table) _ refl (within_is 1 (2 ^ 31) z first is) e
 
-links_are : (document : Members) (rows : List LinkRow) → Rows.rows_of Link Rows.link_row document ≡ Ok rows → AllByRecursion IsLinkRow rows
+pub links_are : (document : Members) (rows : List LinkRow) → Rows.rows_of Link Rows.link_row document ≡ Ok rows → AllByRecursion IsLinkRow rows
 links_are document rows e = each_row Link IsLinkRow Rows.link_row (λ earlier table row is. link_begun earlier table row (whole_at name.First 1 table) _ refl is) document rows e
