@@ -1,16 +1,14 @@
 -- What bytes describe is lawful.
-use Rattle.std.proofs.Common.{◌≡◌, ◌≤◌, ◌<◌, ℕ, ◌==◌, List, [], ◌∷◌, length, codes, Bool, true, false, cond, ◌&&◌, ◌||◌, Option, Some, None, Result, Ok, Err, refl, sym, ap, subst, ◌∙◌, arith, nat_le, nat_lt}
+use Rattle.std.proofs.Common.{◌≡◌, ◌==◌, List, [], length, codes, Bool, true, false, cond, ◌&&◌, ◌||◌, Option, Some, None, Ok, refl, sym, ap, subst, ◌∙◌, arith, nat_le, nat_lt}
 use Rattle.std.specs.List.{AllByRecursion, list_all}
 use Rattle.std.proofs.lemmas.Bool.{and_from, le-leb}
 use Rattle.toml.specs.Data.{Members}
-use Rattle.link_plan.specs.declared.plan.PlanEntry.{PlanEntry}
 use Rattle.unix_calls.specs.declared.description.Description.{Description}
 use Rattle.unix_calls.specs.declared.description.KernelLine.{KernelLine}
 use Rattle.unix_calls.specs.declared.description.ProgramLine.{ProgramLine}
 use Rattle.unix_calls.specs.Domains.{roots_of}
 use Rattle.unix_calls.specs.Lawful.{Lawful, is_within, has_version, has_budget, has_cache, has_counts, has_kernel_names, has_program_names, has_domains, serves_the_root, has_programs}
 use Rattle.unix_calls.specs.Lawful as lawful
-use Rattle.cluster_file.specs.declared.refusal.Refusal.{Refusal}
 use Rattle.cluster_file.specs.declared.rows.KernelRow.{KernelRow}
 use Rattle.cluster_file.specs.declared.rows.ProgramRow.{ProgramRow}
 use Rattle.cluster_file.specs.declared.rows.FileRow.{FileRow}
@@ -49,6 +47,7 @@ record IsMade (rows : AllRows) (c : Description) : Type 0 where
   budget : c.budget ≡ rows.budget
   cache : c.cache ≡ rows.cache
 
+-- what the stages behind the duplicates say
 made : (rows : AllRows) (c : Description) → Clusters.with_hosts rows ≡ Ok c → IsMade rows c
 made rows c e =
     let hosts = then_ok _ (Names.all_started rows) c e in
@@ -73,6 +72,7 @@ made rows c e =
       cache = refl;
     })
 
+-- where `/` is asked for and nothing is refused, it is served
 root_by : (b : Bool) → cond b None (Some (refusal 8 [])) ≡ None → b ≡ true
 root_by true e = refl
 root_by false e = absurd (cc)
@@ -85,26 +85,31 @@ record IsJudged (document : Members) (rows : AllRows) (c : Description) : Type 0
   root : Names.is_served (codes "/") rows.kernels ≡ true
   made_of : IsMade rows c
 
+-- the same of all stages
 described_by : (document : Members) (c : Description) → Clusters.described document ≡ Ok c → (rows : AllRows) × IsJudged document rows c
 described_by document c e =
     let formed = unless_ok (Clusters.form_fault document) _ c e in
     let rows = then_ok Clusters.cluster_of (Rows.read_rows document) c formed.1 in
     let named = unless_ok _ (Clusters.with_hosts rows.0) c rows.2 in
-    let both = neither (Names.duplicate rows.0) (Names.no_root rows.0) named.0 in
-    (rows.0, record {
-      form = formed.0;
-      read = read_says document rows.0 rows.1;
-      once = once_is rows.0 both.0;
-      root = root_by (Names.is_served (codes "/") rows.0.kernels) both.1;
-      made_of = made rows.0 c named.1;
-    })
+    let both = neither (Names.duplicate rows.0) (Names.no_root rows.0) named.0 in (
+      rows.0,
+      record {
+        form = formed.0;
+        read = read_says document rows.0 rows.1;
+        once = once_is rows.0 both.0;
+        root = root_by (Names.is_served (codes "/") rows.0.kernels) both.1;
+        made_of = made rows.0 c named.1;
+      },
+    )
 
+-- where there is a document
 described_in : (o : Option Members) (c : Description) → Clusters.described_in o ≡ Ok c → (document : Members) × (rows : AllRows) × IsJudged document rows c
 described_in None c e = absurd (cc)
 described_in (Some document) c e = let found = described_by document c e in (document, found.0, found.1)
 
 -- ---- the fields
 
+-- the counts are lawful
 counts_are : (document : Members) (rows : AllRows) (c : Description) → IsRead document rows → AreKernels rows.kernels c.kernels → Names.is_served (codes "/") rows.kernels ≡ true → IsMade rows c → has_counts c ≡ true
 counts_are document rows c r k root m =
     let kernels_some = some_kernel rows.kernels root in

@@ -1,7 +1,8 @@
 -- What an answer that isn't refused says of each stage that gave it.
-use Rattle.std.proofs.Common.{◌≡◌, ◌≤◌, ◌<◌, ℕ, zero, suc, ◌+◌, List, [], ◌∷◌, ◌++◌, length, map, Bool, true, false, cond, Option, Some, None, Result, Ok, Err, refl, sym, ap, subst, ◌∙◌, arith, nat_le, nat_lt, append_assoc, length-append}
+use Rattle.std.proofs.Common.{◌≡◌, ℕ, List, [], ◌∷◌, ◌++◌, length, map, Bool, true, Option, Some, None, Result, Ok, Err, refl, sym, ap, subst, ◌∙◌}
+use Rattle.std.specs.Option.{option_map}
 use Rattle.std.specs.List.{AllByRecursion, list_all}
-use Rattle.std.proofs.lemmas.Bool.{true≢false, and_from}
+use Rattle.std.proofs.lemmas.Bool.{and_from}
 use Rattle.std.proofs.lemmas.List.{append-nil, length-map}
 use Rattle.sprite_ids.proofs.ListLaws.{each_push}
 use Rattle.cluster_file.specs.declared.refusal.Refusal.{Refusal}
@@ -17,6 +18,11 @@ pub unless_ok : {A : Type 0} (first : Option Refusal) (answer : Result A Refusal
 unless_ok None answer x e = (refl, e)
 unless_ok (Some r) answer x e = absurd (cc)
 
+-- nothing is mapped to nothing
+pub mapped_none : {A B : Type 0} (f : A → B) (o : Option A) → option_map f o ≡ None → o ≡ None
+mapped_none f None e = refl
+mapped_none f (Some x) e = absurd (cc)
+
 -- neither of two refusals
 pub neither : (first second : Option Refusal) → else_first first second ≡ None → (first ≡ None) × (second ≡ None)
 neither None second e = (refl, e)
@@ -27,6 +33,7 @@ read_by : {A B : Type 0} (I : List A → List B → Type 0) (read : List B → A
 read_by I read x rest ys zs (Ok y) go e = go y refl e
 read_by I read x rest ys zs (Err r) go e = absurd (cc)
 
+-- so it is along the whole list
 pub read_leads : {A B : Type 0} (I : List A → List B → Type 0) (read : List B → A → Result B Refusal) → ((x : A) (rest : List A) (ys : List B) (y : B) → read ys x ≡ Ok y → I (x ∷ rest) ys → I rest (ys ++ y ∷ [])) → (xs : List A) (ys zs : List B) → I xs ys → read_on read (Ok ys) xs ≡ Ok zs → I [] zs
 read_leads {A} {B} I read step [] ys zs h e = let same : ys ≡ zs = cc in subst (λ (l : List B). I [] l) same h
 read_leads {A} {B} I read step (x ∷ xs) ys zs h e =
@@ -44,6 +51,7 @@ pub each_free : {A : Type 0} (xs : List A) → AllByRecursion (λ (x : A). Unit 
 each_free [] = tt
 each_free (x ∷ xs) = (tt, each_free xs)
 
+-- so that a fact of all that is read needs none of the items
 pub reads_all : {A B : Type 0} (P : B → Type 0) (read : List B → A → Result B Refusal) → ((ys : List B) (x : A) (y : B) → read ys x ≡ Ok y → P y) → (xs : List A) (zs : List B) → read_all read xs ≡ Ok zs → AllByRecursion P zs
 reads_all {A} {B} P read each xs zs e =
     reads_each (λ (x : A). Unit {0}) P read (λ (ys : List B) (x : A) (y : B) (free : Unit {0}) (is : read ys x ≡ Ok y). each ys x y is) xs zs (each_free xs) e
@@ -53,6 +61,7 @@ pub mapped_push : {B C : Type 0} (f : B → C) (ys : List B) (y : B) (more : Lis
 mapped_push f [] y more = refl
 mapped_push f (z ∷ ys) y more = ap (λ rest. f z ∷ rest) (mapped_push f ys y more)
 
+-- what each that was read keeps of its item, all keep in order
 pub reads_same : {A B C : Type 0} (f : B → C) (g : A → C) (read : List B → A → Result B Refusal) → ((ys : List B) (x : A) (y : B) → read ys x ≡ Ok y → f y ≡ g x) → (xs : List A) (zs : List B) → read_all read xs ≡ Ok zs → map f zs ≡ map g xs
 reads_same {A} {B} {C} f g read each xs zs e =
     sym (append-nil (map f zs)) ∙
