@@ -1,3 +1,12 @@
+pub mod AppendLaws
 pub mod ClusterLaws
+pub mod FileLaws
 pub mod RefusalLaws
+pub mod HostLaws
+pub mod LawfulLaws
+pub mod LineLaws
+pub mod OnceLaws
+pub mod ProgramLaws
+pub mod RowLaws
+pub mod StageLaws
 pub mod TableLaws

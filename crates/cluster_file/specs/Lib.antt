@@ -1,6 +1,7 @@
 pub mod Clusters
 pub mod Faults
 pub mod Keys
+pub mod Laws
 pub mod Names
 pub mod Paths
 pub mod Refusals

@@ -18,7 +18,7 @@ mod single_rows;
 mod tables;
 
 pub use cluster::read_description;
-pub use laws::{described_or_refused, refused_once};
+pub use laws::{described_is_lawful, described_or_refused, refused_once};
 pub use refusal::{FileEnd, Refusal};
 
 #[cfg(test)]
