@@ -1,5 +1,5 @@
 -- The processes at the start are those of the one-kernel Unix.
-use Rattle.std.proofs.Common.{rules, tests, ◌≡◌, ℕ, zero, suc, ◌+◌, ◌*◌, ◌≤◌, ◌<◌, ◌==◌, nat_lt, nat_le, Bool, true, false, ◌&&◌, cond, List, [], ◌∷◌, length, drop, replicate, Option, Some, None, refl, ap, sym, subst, ◌∙◌, arith, slice_get, get_or}
+use Rattle.std.proofs.Common.{rules, tests, ◌≡◌, ℕ, zero, suc, ◌+◌, ◌*◌, ◌^◌, ◌≤◌, ◌<◌, ◌==◌, nat_lt, nat_le, Bool, true, false, ◌&&◌, cond, List, [], ◌∷◌, length, drop, replicate, Option, Some, None, refl, ap, sym, subst, ◌∙◌, arith, slice_get, get_or}
 use Rattle.std.specs.List.{AllByRecursion, insert, list_all}
 use Rattle.std.specs.Option.{option_map}
 use Rattle.std.proofs.lemmas.Bool.{and_parts, eqb-true}
@@ -20,7 +20,9 @@ use Rattle.unix_calls.proofs.NumberLaws.{Numbered, next_is_new, numbered_more}
 use Rattle.call_journal.specs.Once.{Between}
 use Rattle.call_journal.specs.Past.{whereabouts_of, at_homes}
 use Rattle.sprite_cluster.specs.declared.kept.Kept.{Kept}
-use Rattle.sprite_cluster.specs.Today.{is_plain, are_placed, has_program, is_run_today}
+use Rattle.unix_calls.specs.Domains.{roots_of}
+use Rattle.unix_calls.specs.Lawful.{Lawful, is_within, is_client_at, holds, numbered, is_program, are_programs, is_start}
+use Rattle.sprite_cluster.specs.Today.{is_plain, is_plain_line, is_run_today}
 use Rattle.sprite_cluster.specs.Turns.{IsPlainProgram}
 use Rattle.sprite_cluster.specs.Carried.{process_of, unix_of, IsCarried, AreCarried, Rises, Stands}
 use Rattle.sprite_cluster.specs.Local.{home_place, IsPlaced}
@@ -89,6 +91,11 @@ booted_length [] = refl
 booted_length (k ∷ ks) = let rest = booted_length ks in omega (arith, rest)
 
 -- ---- programs have the numbers of their places
+
+-- whether each program has the number of its place, from that one on, and makes no other call
+abbrev are_placed : ℕ → List ProgramLine → Bool
+are_placed place [] = true
+are_placed place (line ∷ lines) = (line.program.number == place) && is_plain_line line && are_placed (place + 1) lines
 
 placed_get : (place i : ℕ) (lines : List ProgramLine) (line : ProgramLine) → are_placed place lines ≡ true → slice_get lines i ≡ Some line → (line.program.number ≡ place + i) × IsPlainProgram line.program
 placed_get place i [] line h e = absurd (cc)
@@ -221,32 +228,61 @@ stands_first c kept ticks h zeros =
 
 -- ---- what a cluster is that is run so far
 
--- a start's program is there
-abbrev pub IsThereFor : ℕ → StartLine → Type 0
-IsThereFor programs line = (1 ≤ line.program) × (line.program ≤ programs)
-
 pub record RunsToday (c : Description) : Type 0 where
   pub budget : c.budget ≤ 4000000
   pub few : length c.starts ≤ 64
   pub placed : are_placed 1 c.programs ≡ true
-  pub there : list_all (has_program (length c.programs)) c.starts ≡ true
+  pub there : list_all (is_start c) c.starts ≡ true
 
 le_is : (a b : ℕ) → nat_le a b ≡ true → a ≤ b
 le_is a b h = search (rules, tests, h)
 
-pub runs_today : (c : Description) → is_run_today c ≡ true → RunsToday c
-runs_today c h =
-    let budget = nat_le c.budget 4000000 in
-    let few = nat_le (length c.starts) 64 in
-    let one = and_parts (budget && few && are_placed 1 c.programs) (list_all (has_program (length c.programs)) c.starts) h in
-    let two = and_parts (budget && few) (are_placed 1 c.programs) one.0 in
-    let three = and_parts budget few two.0 in
-    record { budget = le_is c.budget 4000000 three.0; few = le_is (length c.starts) 64 three.1; placed = two.1; there = one.1 }
+-- lawful programs have the numbers of their places
+placed_by : (version place : ℕ) (lines : List ProgramLine) → are_programs version place lines ≡ true → list_all is_plain_line lines ≡ true → are_placed place lines ≡ true
+placed_by version place [] h plain = refl
+placed_by version place (line ∷ lines) h plain =
+    let number = line.program.number == place in
+    let lawful = and_parts (number && is_program version line.program) (are_programs version (place + 1) lines) h in
+    let first = and_parts number (is_program version line.program) lawful.0 in
+    let parts = and_parts (is_plain_line line) (list_all is_plain_line lines) plain in
+    ap (λ b. b && is_plain_line line && are_placed (place + 1) lines) first.0 ∙ ap (λ b. b && are_placed (place + 1) lines) parts.0 ∙ placed_by version (place + 1) lines lawful.1 parts.1
 
-pub program_there : (programs : ℕ) (starts : List StartLine) (i : ℕ) (line : StartLine) → list_all (has_program programs) starts ≡ true → slice_get starts i ≡ Some line → IsThereFor programs line
-program_there programs starts i line h e =
-    let both = and_parts (nat_le 1 line.program) (nat_le line.program programs) (all_get (has_program programs) starts i line h e) in
-    (le_is 1 line.program both.0, le_is line.program programs both.1)
+-- the starts are the fourth of seven things that are counted
+fourth : (a b d e f g h : Bool) → (a && b && d && e && f && g && h) ≡ true → e ≡ true
+fourth a b d e f g h is =
+    let one = and_parts (a && b && d && e && f && g) h is in
+    let two = and_parts (a && b && d && e && f) g one.0 in
+    let three = and_parts (a && b && d && e) f two.0 in
+    (and_parts (a && b && d) e three.0).1
+
+pub runs_today : (c : Description) → Lawful c → is_run_today c ≡ true → RunsToday c
+runs_today c lawful plain = record {
+  budget = le_is c.budget 4000000 (and_parts (nat_le 1 c.budget) (nat_le c.budget 4000000) lawful.budget).1;
+  few = le_is (length c.starts) 64 (fourth (is_within 1 16 (length c.kernels)) (nat_le (length (roots_of c.kernels)) 16) (nat_le (length c.programs) 64) (nat_le (length c.starts) 64) (nat_le (length c.plan.entries) 64) (nat_le (length c.files) 200) (nat_le (length c.evicts) 16) lawful.counts);
+  placed = placed_by c.version 1 c.programs lawful.programs plain;
+  there = lawful.starts;
+}
+
+-- a start's program is there
+abbrev pub IsThereFor : ℕ → StartLine → Type 0
+IsThereFor programs line = (1 ≤ line.program) × (line.program ≤ programs)
+
+got_by : (lines : List ProgramLine) (i : ℕ) (o : Option ProgramLine) → slice_get lines i ≡ o → holds (λ (line : ProgramLine). true) o ≡ true → i < length lines
+got_by lines i None e h = cc
+got_by lines i (Some line) e h = get_within lines i line e
+
+numbered_within : (lines : List ProgramLine) (n : ℕ) → holds (λ (line : ProgramLine). true) (numbered lines n) ≡ true → (1 ≤ n) × (n ≤ length lines)
+numbered_within lines zero h = cc
+numbered_within lines (suc i) h =
+    let under = got_by lines i (slice_get lines i) refl h in
+    (omega arith, omega (arith, under))
+
+pub program_there : (c : Description) (i : ℕ) (line : StartLine) → RunsToday c → slice_get c.starts i ≡ Some line → IsThereFor (length c.programs) line
+program_there c i line today e =
+    let found = holds (λ (line : ProgramLine). true) (numbered c.programs line.program) in
+    let is = all_get (is_start c) c.starts i line today.there e in
+    let two = and_parts (is_client_at c.kernels line.host && found) (nat_lt line.arg (2 ^ 63)) is in
+    numbered_within c.programs line.program (and_parts (is_client_at c.kernels line.host) found two.0).1
 
 -- ---- the loop over the starts
 
@@ -270,6 +306,11 @@ item_got : (starts : List StartLine) (i : ℕ) (line : StartLine) → i < length
 item_got [] i line h e = absurd (omega (arith, h))
 item_got (x ∷ xs) zero line h e = ap Some (sym e)
 item_got (x ∷ xs) (suc i) line h e = item_got xs i line (omega (arith, h)) e
+
+-- its program is there
+pub start_there : (c : Description) (starts : List StartLine) (i : ℕ) (line : StartLine) → RunsToday c → starts ≡ c.starts → i < length starts → line ≡ get_or starts i line → IsThereFor (length c.programs) line
+start_there c starts i line today same inside is =
+    program_there c i line today (subst (λ (lines : List StartLine). slice_get lines i ≡ Some line) same (item_got starts i line inside is))
 
 -- one start more
 pub start_more : (c : Description) (starts : List StartLine) (i : ℕ) (line : StartLine) (kept kept' : List Kept) (new : Kept) → RunsToday c → starts ≡ c.starts → i < length starts → line ≡ get_or starts i line → length kept ≤ i → IsOnWay c (drop i starts) kept → IsNext c.programs kept line new → kept' ≡ put_kept new kept → IsOnWay c (drop (i + 1) starts) kept'

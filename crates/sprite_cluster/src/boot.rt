@@ -1,4 +1,5 @@
 ghost use Rattle.std.specs.Prelude.{◌≡◌, ◌+◌, ◌<◌, ◌≤◌, true, IfOk, OnOk, Some, length, replicate};
+ghost use Rattle.unix_calls.specs.Lawful.{Lawful};
 ghost use Rattle.sprite_cluster.specs.Today.{is_run_today};
 ghost use Rattle.sprite_cluster.specs.Booted.{births_of, put_kept, IsPlaceOf, IsNext, IsStarted};
 ghost use Rattle.sprite_cluster.specs.Carried.{Stands};
@@ -14,7 +15,8 @@ use unix_calls::{Description, ProgramLine, StartLine};
 
 /// The cluster at its start. The one error is want of memory.
 pub(crate) fn boot(alloc: Global, description: &Description) -> Result<Running, NoMemory>
-    requires { is_run_today description.now ≡ true }
+    requires lawful { Lawful description.now }
+    requires today { is_run_today description.now ≡ true }
     ensures { IfOk result (Stands description.now) }
 {
     Ok(Running {
@@ -26,7 +28,8 @@ pub(crate) fn boot(alloc: Global, description: &Description) -> Result<Running, 
 
 // The processes that the starts make.
 fn start_all(alloc: Global, description: &Description) -> Result<Vec<Kept>, NoMemory>
-    requires { is_run_today description.now ≡ true }
+    requires lawful { Lawful description.now }
+    requires today { is_run_today description.now ≡ true }
     ensures { IfOk result (λ kept. IsStarted description.now kept.items) }
 {
     let programs = description.programs.as_slice();

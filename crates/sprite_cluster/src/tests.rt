@@ -1,100 +1,107 @@
+ghost use Rattle.std.specs.Prelude.{IfOk};
+ghost use Rattle.unix_calls.specs.Lawful.{Lawful};
+
 use crate::today::is_run_today;
 use crate::turns::{Outcome, run};
-use link_plan::Plan;
-use program_text::assemble;
-use sprite_ids::{Bytes, Ending, Finish, Items, Kernel};
-use sprite_paths::Path;
+use cluster_file::read_description;
+use sprite_ids::{Ending, Finish, NoMemory};
 use std::alloc::Global;
 use std::test::Fail;
-use unix_calls::{Description, KernelLine, ProgramLine, StartLine};
+use unix_calls::Description;
 
-// A program's text and a budget; how the run ended, how the process did, and how many records there are.
-const RUNS: [(&str, u32, Finish, Option<Ending>, usize); 7] = [
+// What stands before a program's text, behind a budget: a client and a server.
+const HEAD: &[u8] = b"
+version = 1
+[[kernel]]
+name = \"c1\"
+[[kernel]]
+name = \"s1\"
+serves = [\"/\"]
+[[program]]
+name = \"p\"
+text = '''
+";
+
+// What stands behind it: the client runs the program.
+const TAIL: &[u8] = b"
+'''
+[[start]]
+host = \"c1\"
+program = \"p\"
+";
+
+// A budget and a program's text; how the run ended, how the process did, and how many records there are.
+const RUNS: [(&[u8], &[u8], Finish, Option<Ending>, usize); 7] = [
     (
-        "sys exit 5",
-        100,
+        b"budget = 100",
+        b"sys exit 5",
         Finish::AllEnded,
         Some(Ending::Exit(5)),
         3,
     ),
     (
-        "sys tick\nsys exit r1",
-        100,
+        b"budget = 100",
+        b"sys tick\nsys exit r1",
         Finish::AllEnded,
         Some(Ending::Exit(1)),
         7,
     ),
-    ("sys print 0 2", 100, Finish::AllEnded, Some(Ending::Bad), 7),
-    ("", 100, Finish::AllEnded, Some(Ending::Bad), 3),
+    (
+        b"budget = 100",
+        b"sys print 0 2",
+        Finish::AllEnded,
+        Some(Ending::Bad),
+        7,
+    ),
+    (b"budget = 100", b"", Finish::AllEnded, Some(Ending::Bad), 3),
     // a burst of 10,000 instructions costs one unit
-    ("again:\njmp again", 10, Finish::Budget, None, 10),
+    (
+        b"budget = 10",
+        b"again:\njmp again",
+        Finish::Budget,
+        None,
+        10,
+    ),
     // the budget is looked at between turns, and a turn's call comes whole: a burst, three records, and a unit for the byte
     (
-        "again:\nsys print 0 1\njmp again",
-        5,
+        b"budget = 5",
+        b"again:\nsys print 0 1\njmp again",
         Finish::Budget,
         None,
         4,
     ),
     (
-        "again:\nsys print 0 1\njmp again",
-        6,
+        b"budget = 6",
+        b"again:\nsys print 0 1\njmp again",
         Finish::Budget,
         None,
         8,
     ),
 ];
 
-// A cluster of a client and a server, whose client runs the program.
-fn described(alloc: Global, text: &str, budget: u32) -> Result<Description, Fail> {
-    let client = Kernel::new(1).ok_or("kernel 1")?;
-    let mut program = assemble(alloc, text, 1).map_err(|_| "a program")?;
-    program.number = 1;
-    let mut programs = Items::new(alloc);
-    programs.push(ProgramLine {
-        name: Bytes::of_slice(alloc, b"p")?,
-        program,
-    })?;
-    let mut starts = Items::new(alloc);
-    starts.append(&[StartLine {
-        host: client,
-        program: 1,
-        arg: 0,
-    }])?;
-    Ok(Description {
-        version: 1,
-        budget,
-        cache: 64,
-        kernels: kernels(alloc)?,
-        programs,
-        starts,
-        files: Items::new(alloc),
-        plan: Plan {
-            entries: Items::new(alloc),
-        },
-        evicts: Items::new(alloc),
-    })
+// The cluster file with that budget and that program.
+fn file_with(alloc: Global, budget: &[u8], text: &[u8]) -> Result<Vec<u8>, NoMemory> {
+    let mut file = Vec::from_slice(alloc, budget)?;
+    file.extend_from_slice(HEAD)?;
+    file.extend_from_slice(text)?;
+    file.extend_from_slice(TAIL)?;
+    Ok(file)
 }
 
-// The client and the server.
-fn kernels(alloc: Global) -> Result<Items<KernelLine>, Fail> {
-    let mut serves = Items::new(alloc);
-    serves.push(Path::root(alloc))?;
-    let mut kernels = Items::new(alloc);
-    kernels.push(KernelLine {
-        name: Bytes::of_slice(alloc, b"c1")?,
-        serves: Items::new(alloc),
-    })?;
-    kernels.push(KernelLine {
-        name: Bytes::of_slice(alloc, b"s1")?,
-        serves,
-    })?;
-    Ok(kernels)
+// The cluster that it describes.
+fn described(alloc: Global, budget: &[u8], text: &[u8]) -> Result<Description, Fail>
+    ensures { IfOk result Lawful }
+{
+    let file = file_with(alloc, budget, text)?;
+    match read_description(alloc, file.as_slice()) {
+        Ok(description) => Ok(description),
+        Err(_) => Err("a cluster file")?,
+    }
 }
 
 // The run of the program.
-fn outcome(alloc: Global, text: &str, budget: u32) -> Result<Outcome, Fail> {
-    let description = described(alloc, text, budget)?;
+fn outcome(alloc: Global, budget: &[u8], text: &[u8]) -> Result<Outcome, Fail> {
+    let description = described(alloc, budget, text)?;
     if !is_run_today(&description) {
         return Err("it isn't run so far")?;
     }
@@ -124,7 +131,7 @@ fn programs_are_run_to_their_end_or_their_budget(rt: HostRuntime) -> Result<(), 
 
 #[test]
 fn other_calls_are_not_run_so_far(rt: HostRuntime) -> Result<(), Fail> {
-    let description = described(rt.alloc(), "sys fork\nsys exit 0", 100)?;
+    let description = described(rt.alloc(), b"budget = 100", b"sys fork\nsys exit 0")?;
     assert!(rt; !is_run_today(&description));
     Ok(())
 }

@@ -1,5 +1,6 @@
 ghost use Rattle.std.specs.Prelude.{◌≡◌, ◌<◌, true, IfOk, OnOk};
 ghost use Rattle.call_journal.specs.Units.{units_of};
+ghost use Rattle.unix_calls.specs.Lawful.{Lawful};
 ghost use Rattle.sprite_cluster.specs.Today.{is_run_today};
 ghost use Rattle.sprite_cluster.specs.Carried.{Stands};
 ghost use Rattle.sprite_cluster.specs.Histories.{LivesAt, TurnedOn, IsHistory};
@@ -25,9 +26,10 @@ pub struct Outcome {
 }
 
 /// Runs the cluster until every process has ended, or the trace's units are the budget or more. The processes take turns: the
-/// kernels by ascending number, and of a kernel its processes. The one error is want of memory.
+/// kernels by ascending number, and of a kernel its processes. The description is lawful. The one error is want of memory.
 pub fn run(alloc: Global, description: &Description) -> Result<Outcome, NoMemory>
-    requires { is_run_today description.now ≡ true }
+    requires lawful { Lawful description.now }
+    requires today { is_run_today description.now ≡ true }
     ensures { IfOk result (IsHistory description.now) }
 {
     let mut running = boot(alloc, description)?;

@@ -1,5 +1,6 @@
 ghost use Rattle.std.specs.Prelude.{◌≡◌, ◌↔◌, None, IsTrue, IfOk};
 ghost use Rattle.sprite_ids.specs.declared.running.Finish.TheVariants.{AllEnded, Budget as Spent};
+ghost use Rattle.unix_calls.specs.Lawful.{Lawful};
 ghost use Rattle.sprite_top.specs.Top.{spelled, run_words, IsEnded, IsRefused, IsUsage, IsReadFault, Causes, FileCauses, ClusterCauses, Wrote, Broke, status_of, status_number};
 
 use crate::report::{output, refusal_line};
@@ -148,8 +149,9 @@ fn answer_file(alloc: Global, bytes: &[u8]) -> Result<Answer, NoMemory>
     }
 }
 
-/// What is due for a described cluster. The one error is want of memory.
+/// What is due for a described cluster, which is lawful. The one error is want of memory.
 fn answer_cluster(alloc: Global, description: Description) -> Result<Answer, NoMemory>
+    requires { Lawful description }
     ensures { IfOk result (λ a. ClusterCauses a.status description a.closed a.due) }
 {
     if !is_run_today(&description) {
