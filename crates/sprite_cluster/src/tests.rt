@@ -7,7 +7,7 @@ use cluster_file::read_description;
 use sprite_ids::{Ending, Finish, NoMemory};
 use std::alloc::Global;
 use std::test::Fail;
-use unix_calls::Description;
+use unix_calls::{Description, Event, Rec};
 
 // What stands before a program's text, behind a budget: a client and a server.
 const HEAD: &[u8] = b"
@@ -88,15 +88,22 @@ fn file_with(alloc: Global, budget: &[u8], text: &[u8]) -> Result<Vec<u8>, NoMem
     Ok(file)
 }
 
-// The cluster that it describes.
+// The cluster that a file describes.
+fn read(alloc: Global, file: &[u8]) -> Result<Description, Fail>
+    ensures { IfOk result Lawful }
+{
+    match read_description(alloc, file) {
+        Ok(description) => Ok(description),
+        Err(_) => Err("a cluster file")?,
+    }
+}
+
+// The cluster with that budget and that program.
 fn described(alloc: Global, budget: &[u8], text: &[u8]) -> Result<Description, Fail>
     ensures { IfOk result Lawful }
 {
     let file = file_with(alloc, budget, text)?;
-    match read_description(alloc, file.as_slice()) {
-        Ok(description) => Ok(description),
-        Err(_) => Err("a cluster file")?,
-    }
+    read(alloc, file.as_slice())
 }
 
 // The run of the program.
@@ -133,5 +140,62 @@ fn programs_are_run_to_their_end_or_their_budget(rt: HostRuntime) -> Result<(), 
 fn other_calls_are_not_run_so_far(rt: HostRuntime) -> Result<(), Fail> {
     let description = described(rt.alloc(), b"budget = 100", b"sys fork\nsys exit 0")?;
     assert!(rt; !is_run_today(&description));
+    Ok(())
+}
+
+// Two processes of one client and one of another, which never end.
+const ENDLESS: &[u8] = b"version = 1
+budget = 9
+[[kernel]]
+name = \"c1\"
+[[kernel]]
+name = \"c2\"
+[[kernel]]
+name = \"s1\"
+serves = [\"/\"]
+[[program]]
+name = \"p\"
+text = \"again:\\njmp again\"
+[[start]]
+host = \"c1\"
+program = \"p\"
+[[start]]
+host = \"c1\"
+program = \"p\"
+[[start]]
+host = \"c2\"
+program = \"p\"
+";
+
+// Whose burst each of the run's units is: the clients take turns, and so do the processes of the first one.
+const TURNS: [u32; 9] = [1001, 2001, 1002, 2001, 1001, 2001, 1002, 2001, 1001];
+
+// The process whose burst the record is; 0 for any other record.
+fn burst_of(rec: &Rec) -> u32 {
+    match &rec.event {
+        Event::Burst { pid, count: _ } => pid.number(),
+        _ => 0,
+    }
+}
+
+// The place of the first record that is another process's burst.
+fn first_out_of_turn(records: &[Rec]) -> Option<usize> {
+    for (place, pid) in TURNS.iter().enumerate() {
+        if place >= records.len() || burst_of(&records[place]) != *pid {
+            return Some(place);
+        }
+    }
+    None
+}
+
+#[test]
+fn kernels_and_their_processes_take_turns(rt: HostRuntime) -> Result<(), Fail> {
+    let alloc = rt.alloc();
+    let description = read(alloc, ENDLESS)?;
+    if !is_run_today(&description) {
+        return Err("it isn't run so far")?;
+    }
+    let outcome = run(alloc, &description)?;
+    assert_eq!(rt; first_out_of_turn(outcome.trace.records()), None);
     Ok(())
 }

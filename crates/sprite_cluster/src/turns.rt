@@ -20,13 +20,14 @@ use unix_calls::Description;
 pub struct Outcome {
     /// The processes, by ascending number.
     pub kept: Items<Kept>,
+    /// All that they did, in its order.
     pub trace: Trace,
     /// `AllEnded` or `Budget`.
     pub finish: Finish,
 }
 
 /// Runs the cluster until every process has ended, or the trace's units are the budget or more. The processes take turns: the
-/// kernels by ascending number, and of a kernel its processes. The description is lawful. The one error is want of memory.
+/// kernels by ascending number, and of a kernel its processes (this project). The description is lawful. The one error is want of memory.
 pub fn run(alloc: Global, description: &Description) -> Result<Outcome, NoMemory>
     requires lawful { Lawful description.now }
     requires today { is_run_today description.now ≡ true }
