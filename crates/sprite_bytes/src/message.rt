@@ -8,17 +8,18 @@ use std::alloc::Global;
 ///
 /// What was spelled is read again, and nothing else reads as it: each message has one spelling.
 pub trait Message: Sized {
-    /// Whether its numbers are in their ranges.
+    /// Whether it has a spelling: its numbers are in their ranges, and none of its texts and lists is too long.
     ghost is_message: { Self → Type 0 };
 
     ghost spelling: { Self → List ℕ };
 
     ghost reading: { List ℕ → Option Self };
 
-    /// The message's bytes. The one error is want of memory.
+    /// The message's bytes. The one error is want of memory, which is also the answer where a text or a list is too long to
+    /// be spelled: so what is spelled is a message.
     fn spell(&self, alloc: Global) -> Result<Vec<u8>, NoMemory>
-        requires { is_message self.now }
-        ensures { IfOk result (λ bytes. bytes.items ≡ spelling self.now) };
+        ensures bytes { IfOk result (λ bytes. bytes.items ≡ spelling self.now) }
+        ensures known { IfOk result (λ _. is_message self.now) };
 
     /// The message that is spelled so; None exactly where none is. The one error is want of memory.
     fn read(alloc: Global, bytes: &[u8]) -> Result<Option<Self>, NoMemory>
