@@ -3,13 +3,13 @@ use Rattle.std.proofs.Common.{◌≡◌, ◌≢◌, ℕ, ◌-◌, ◌≤◌, Lis
 use Rattle.std.specs.List.{AllByRecursion, list_all, slice_split, onto_first}
 use Rattle.std.specs.Cmp.Lexicographic.{pointwise, pointwise_decides, bytes_decides, same_text, other_text}
 use Rattle.std.proofs.lemmas.Bool.{cases_Bool, cond-true, cond-false, and_parts, and_from, or_parts, or_from, ne_eqb, le-leb, leb-true, true≢false}
-use Rattle.std.proofs.lemmas.List.{append-nil, take-append-drop}
+use Rattle.std.proofs.lemmas.List.{append-nil, take-append-drop, drop_at}
 use Rattle.std.proofs.Math.Seq.{take-append_seam}
 use Rattle.std.proofs.lemmas.List.Folds.{list_all-append}
 use Rattle.std.proofs.lemmas.List.Concat.{flat_map-append}
-use Rattle.sprite_ids.proofs.ListLaws.{each_push, each_take, some_is}
+use Rattle.sprite_ids.proofs.ListLaws.{each_append, each_of_append, each_push, each_take, some_is}
 use Rattle.sprite_paths.specs.Laws.{GoesOnFrom}
-use Rattle.sprite_paths.specs.Path.{is_slash, is_printed, is_path_text, stays, goes_up, step_into, start_of, walked, joined, text_of, is_short, is_within_limits, limited, clean_path, is_prefix, IsPrefix, IsPartByte, IsName, IsPath}
+use Rattle.sprite_paths.specs.Path.{is_slash, is_printed, is_path_text, stays, goes_up, step_into, start_of, walked, joined, text_of, is_short, is_within_limits, limited, clean_path, joined_path, is_prefix, behind, IsPrefix, IsPartByte, IsName, IsPath}
 
 -- ---- comparisons
 
@@ -218,3 +218,81 @@ prefix_by_text (first ∷ prefix) path is is' some = (
   λ begins. subst (λ (p : List (List ℕ)). GoesOnFrom (joined (first ∷ prefix)) (text_of p)) (sym begins.whole) (goes_on_joined (first ∷ prefix) begins.rest),
   λ on. goes_on_back first prefix path is is' on,
 )
+
+-- ---- a prefix and the rest
+
+-- two paths one behind the other are a path within the limits
+pub joined_is_path : (prefix rest : List (List ℕ)) → IsPath prefix → IsPath rest → is_within_limits (prefix ++ rest) ≡ true → IsPath (prefix ++ rest)
+joined_is_path prefix rest is is' within =
+    let all = prefix ++ rest in
+    let limits = and_parts (nat_le (length all) 16 && list_all is_short all) (nat_le (length (text_of all)) 255) within in
+    let parts = and_parts (nat_le (length all) 16) (list_all is_short all) limits.0 in
+    record {
+      names = each_append IsName prefix rest is.names is'.names;
+      short_parts = short_parts all parts.1;
+      few_parts = leb-true (length all) 16 parts.0;
+      short_text = leb-true (length (text_of all)) 255 limits.1;
+    }
+
+-- the text with `/` before each part of the rest is no longer than all
+rest_shorter : (prefix rest : List (List ℕ)) → length (joined rest) ≤ length (joined (prefix ++ rest))
+rest_shorter prefix rest =
+    let all = ap length (flat_map-append (λ p. 47 ∷ p) prefix rest) in
+    let both = length-append (joined prefix) (joined rest) in
+    omega arith
+
+text_short : (prefix rest : List (List ℕ)) → length (text_of (prefix ++ rest)) ≤ 255 → length (text_of rest) ≤ 255
+text_short prefix [] short = omega arith
+text_short [] (part ∷ rest) short = short
+text_short (first ∷ prefix) (part ∷ rest) short = let shorter = rest_shorter (first ∷ prefix) (part ∷ rest) in omega arith
+
+-- what a path has behind any of its parts is a path
+rest_is_path : (prefix rest : List (List ℕ)) → IsPath (prefix ++ rest) → IsPath rest
+rest_is_path prefix rest is = record {
+  names = (each_of_append IsName prefix rest is.names).1;
+  short_parts = (each_of_append (λ part. length part ≤ 32) prefix rest is.short_parts).1;
+  few_parts = let few = is.few_parts in let both = length-append prefix rest in omega arith;
+  short_text = text_short prefix rest is.short_text;
+}
+
+pub drop_is_path : (n : ℕ) (path : List (List ℕ)) → IsPath path → IsPath (drop n path)
+drop_is_path n path is = rest_is_path (take n path) (drop n path) (subst IsPath (sym (take-append-drop n path)) is)
+
+-- the test of a prefix, with its two sides turned
+turned : (prefix path : List (List ℕ)) → pointwise (pointwise nat_eq) (take (length prefix) path) prefix ≡ is_prefix prefix path
+turned prefix path =
+    elim (cases_Bool (is_prefix prefix path)) [
+      | inl begins ↦ (parts_decide (take (length prefix) path) prefix).1 (sym ((parts_decide prefix (take (length prefix) path)).0 begins)) ∙ sym begins
+      | inr other ↦
+          elim (cases_Bool (pointwise (pointwise nat_eq) (take (length prefix) path) prefix)) [
+            | inl same ↦ absurd (true≢false (sym ((parts_decide prefix (take (length prefix) path)).1 (sym ((parts_decide (take (length prefix) path) prefix).0 same))) ∙ other))
+            | inr apart ↦ apart ∙ sym other
+          ]
+    ]
+
+pub behind_found : (prefix path : List (List ℕ)) → pointwise (pointwise nat_eq) (take (length prefix) path) prefix ≡ true → behind prefix path ≡ Some (drop (length prefix) path)
+behind_found prefix path same = cond-true (is_prefix prefix path) _ _ (sym (turned prefix path) ∙ same)
+
+pub behind_none : (prefix path : List (List ℕ)) → pointwise (pointwise nat_eq) (take (length prefix) path) prefix ≡ false → behind prefix path ≡ None
+behind_none prefix path apart = cond-false (is_prefix prefix path) _ _ (sym (turned prefix path) ∙ apart)
+
+pub behind_joined : (prefix rest path : List (List ℕ)) → joined_path prefix rest ≡ Some path → behind prefix path ≡ Some rest
+behind_joined prefix rest path e =
+    elim (cases_Bool (is_within_limits (prefix ++ rest))) [
+      | inr past ↦ absurd (let none : None ≡ Some path = sym (cond-false (is_within_limits (prefix ++ rest)) _ _ past) ∙ e in cc)
+      | inl within ↦
+          let whole : prefix ++ rest ≡ path = some_is (prefix ++ rest) path (sym (cond-true (is_within_limits (prefix ++ rest)) _ _ within) ∙ e) in
+          let begins = (prefix_decides prefix path).1 (record { rest = rest; whole = sym whole }) in
+          cond-true (is_prefix prefix path) _ _ begins ∙ ap (λ all. Some (drop (length prefix) all)) (sym whole) ∙ ap Some (drop_at prefix rest (length prefix) refl)
+    ]
+
+pub joined_behind : (prefix rest path : List (List ℕ)) → IsPath path → behind prefix path ≡ Some rest → joined_path prefix rest ≡ Some path
+joined_behind prefix rest path is e =
+    elim (cases_Bool (is_prefix prefix path)) [
+      | inr other ↦ absurd (let none : None ≡ Some rest = sym (cond-false (is_prefix prefix path) _ _ other) ∙ e in cc)
+      | inl begins ↦
+          let found : drop (length prefix) path ≡ rest = some_is (drop (length prefix) path) rest (sym (cond-true (is_prefix prefix path) _ _ begins) ∙ e) in
+          let same : prefix ≡ take (length prefix) path = (parts_decide prefix (take (length prefix) path)).0 begins in
+          let whole : prefix ++ rest ≡ path = ap (λ front. front ++ rest) same ∙ ap (λ back. take (length prefix) path ++ back) (sym found) ∙ take-append-drop (length prefix) path in
+          ap limited whole ∙ cond-true (is_within_limits path) _ _ (path_fits path is)
+    ]

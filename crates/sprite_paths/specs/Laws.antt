@@ -1,6 +1,6 @@
 -- How a path and its text belong together, for all paths.
 use Rattle.std.specs.Prelude.{◌≡◌, ◌≢◌, ◌↔◌, ◌⊎◌, ℕ, List, [], ◌∷◌, ◌++◌, Some}
-use Rattle.sprite_paths.specs.Path.{text_of, clean_path, IsPrefix, IsPath}
+use Rattle.sprite_paths.specs.Path.{text_of, clean_path, joined_path, behind, IsPrefix, IsPath}
 
 -- what a text is cleaned into from a path is a path
 abbrev pub CleanedIsPath : Type 0
@@ -22,3 +22,11 @@ GoesOnFrom front text = (text ≡ front) ⊎ ((more : List ℕ) × (text ≡ fro
 -- other's alone or with `/` and more behind it
 abbrev pub PrefixIsByParts : Type 0
 PrefixIsByParts = (prefix path : List (List ℕ)) → IsPath prefix → IsPath path → prefix ≢ [] → IsPrefix prefix path ↔ GoesOnFrom (text_of prefix) (text_of path)
+
+-- behind a prefix that was joined with a rest stands that rest
+abbrev pub BehindUndoesJoin : Type 0
+BehindUndoesJoin = (prefix rest path : List (List ℕ)) → joined_path prefix rest ≡ Some path → behind prefix path ≡ Some rest
+
+-- a prefix joined with what a path has behind it is that path: it is never past the limits
+abbrev pub JoinUndoesBehind : Type 0
+JoinUndoesBehind = (prefix rest path : List (List ℕ)) → IsPath path → behind prefix path ≡ Some rest → joined_path prefix rest ≡ Some path

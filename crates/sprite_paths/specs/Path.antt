@@ -1,5 +1,5 @@
 -- Paths as lists of parts, and the path that a text leads to.
-use Rattle.std.specs.Prelude.{◌≡◌, ◌≢◌, ℕ, ◌-◌, ◌≤◌, ◌<◌, ◌==◌, nat_le, nat_eq, Bool, ◌&&◌, ◌||◌, if◌then◌else◌, List, [], ◌∷◌, ◌++◌, length, take, fold, codes, Option, Some, None}
+use Rattle.std.specs.Prelude.{◌≡◌, ◌≢◌, ℕ, ◌-◌, ◌≤◌, ◌<◌, ◌==◌, nat_le, nat_eq, Bool, ◌&&◌, ◌||◌, if◌then◌else◌, List, [], ◌∷◌, ◌++◌, length, take, drop, fold, codes, Option, Some, None}
 use Rattle.std.specs.List.{AllByRecursion, flat_map, list_all, slice_split, starts_with}
 use Rattle.std.specs.Cmp.Lexicographic.{pointwise}
 
@@ -62,9 +62,17 @@ limited parts = if is_within_limits parts then Some parts else None
 abbrev pub clean_path : List (List ℕ) → List ℕ → Option (List (List ℕ))
 clean_path cwd text = if is_path_text text then limited (walked (start_of cwd text) text) else None
 
+-- the parts of a prefix and then those of the rest, where they are within the limits
+abbrev pub joined_path : List (List ℕ) → List (List ℕ) → Option (List (List ℕ))
+joined_path prefix rest = limited (prefix ++ rest)
+
 -- whether the path begins with the parts of the prefix
 abbrev pub is_prefix : List (List ℕ) → List (List ℕ) → Bool
 is_prefix prefix path = starts_with (pointwise nat_eq) path prefix
+
+-- the parts of the path behind those of the prefix, where it begins with them
+abbrev pub behind : List (List ℕ) → List (List ℕ) → Option (List (List ℕ))
+behind prefix path = if is_prefix prefix path then Some (drop (length prefix) path) else None
 
 -- the path has the parts of the prefix, and then the rest
 pub record IsPrefix (prefix path : List (List ℕ)) : Type 0 where

@@ -5,7 +5,10 @@ mod laws;
 mod path;
 mod path_end;
 
-pub use laws::{cleaned_is_path, prefix_is_by_parts, text_cleans_back, text_tells_path};
+pub use laws::{
+    behind_undoes_join, cleaned_is_path, join_undoes_behind, prefix_is_by_parts, text_cleans_back,
+    text_tells_path,
+};
 pub use path::Path;
 pub use path_end::PathEnd;
 

@@ -1,6 +1,6 @@
 ghost use Rattle.std.specs.Prelude.{◌≡◌, ◌↔◌, ◌≤◌, ◌++◌, ◌∷◌, [], ℕ, List, Some, None, IsTrue, IfOk, OnOk, OnErr, IfSome, IfNone, IsErrOf, All, length, fold};
 ghost use Rattle.std.specs.List.{AllByRecursion, list_all, slice_split};
-ghost use Rattle.sprite_paths.specs.Path.{is_slash, is_printed, is_short, is_path_text, stays, goes_up, step_into, start_of, walked, joined, text_of, is_within_limits, clean_path, is_prefix, IsPrefix, IsPath};
+ghost use Rattle.sprite_paths.specs.Path.{is_slash, is_printed, is_short, is_path_text, stays, goes_up, step_into, start_of, walked, joined, text_of, is_within_limits, clean_path, joined_path, is_prefix, behind, IsPrefix, IsPath};
 
 use crate::path_end::PathEnd;
 use sprite_ids::{Bytes, Copying, Items, NoMemory};
@@ -67,6 +67,35 @@ impl Path {
             return Err(PathEnd::BadName);
         }
         Ok(Path { parts })
+    }
+
+    /// The path of this one's parts and then those of the rest, as a name below a domain is found from the domain's prefix.
+    ///
+    /// BadName comes exactly where there would be more than 16 parts, or a cleaned text of more than 255 bytes (this
+    /// project). NoMemory may always come.
+    pub fn join(&self, alloc: Global, rest: &Path) -> Result<Path, PathEnd>
+        ensures path { IfOk result (λ path. joined_path self.now rest.now ≡ Some path) }
+        ensures bad_name { IsErrOf result PathEnd.BadName → joined_path self.now rest.now ≡ None }
+    {
+        let prefix = followed(alloc, Items::new(alloc), self.parts())?;
+        let parts = followed(alloc, prefix, rest.parts())?;
+        if !fits(parts.as_slice()) {
+            return Err(PathEnd::BadName);
+        }
+        Ok(Path { parts })
+    }
+
+    /// The path of the parts behind those of the prefix, as a name is looked up below the prefix of its domain (Welch and
+    /// Ousterhout 1986); None exactly where the path doesn't begin with the prefix. The one error is want of memory.
+    pub fn behind(&self, alloc: Global, prefix: &Path) -> Result<Option<Path>, NoMemory>
+        ensures { IfOk result (λ rest. rest ≡ behind prefix.now self.now) }
+    {
+        match self.parts().strip_prefix(prefix.parts()) {
+            Some(rest) => Ok(Some(Path {
+                parts: followed(alloc, Items::new(alloc), rest)?,
+            })),
+            None => Ok(None),
+        }
     }
 
     /// Whether the path begins with the parts of the prefix: `/ab` begins with `/` and `/ab`, and not with `/a`.
@@ -188,6 +217,20 @@ fn step(alloc: Global, parts: &mut Items<Bytes>, part: &[u8]) -> Result<(), NoMe
         return Ok(());
     }
     parts.push(Bytes::of_slice(alloc, part)?)
+}
+
+/// The parts, and copies of more behind them.
+fn followed(
+    alloc: Global,
+    mut parts: Items<Bytes>,
+    more: &[Bytes],
+) -> Result<Items<Bytes>, NoMemory>
+    ensures { IfOk result (λ all. all ≡ parts ++ more.now) }
+{
+    for part in more {
+        parts.push(part.copy(alloc)?)?;
+    }
+    Ok(parts)
 }
 
 /// Whether the parts are within the limits of a path.

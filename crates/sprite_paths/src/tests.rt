@@ -36,18 +36,20 @@ const CLEANED: [(&[u8], &[u8]); 28] = [
     (b"/\xe9", b"BadName"),
 ];
 
-// Two texts, and whether the path of the first begins with the path of the second.
-const PREFIXES: [(&[u8], &[u8], bool); 10] = [
-    (b"/", b"/", true),
-    (b"/a", b"/", true),
-    (b"/", b"/a", false),
-    (b"/a", b"/a", true),
-    (b"/ab", b"/a", false),
-    (b"/a", b"/ab", false),
-    (b"/a/b", b"/a", true),
-    (b"/a/b", b"/b", false),
-    (b"/a/b", b"/a/c", false),
-    (b"/a/b", b"/a/b/c", false),
+// The text of a path and of a prefix, and the text of what the path has behind the prefix; none where it doesn't begin
+// with it.
+const PREFIXES: [(&[u8], &[u8], &[u8]); 11] = [
+    (b"/", b"/", b"/"),
+    (b"/a", b"/", b"/a"),
+    (b"/", b"/a", b""),
+    (b"/a", b"/a", b"/"),
+    (b"/ab", b"/a", b""),
+    (b"/a", b"/ab", b""),
+    (b"/a/b", b"/a", b"/b"),
+    (b"/a/b", b"/b", b""),
+    (b"/a/b", b"/a/c", b""),
+    (b"/a/b", b"/a/b/c", b""),
+    (b"/a/b/c/d", b"/a/b", b"/c/d"),
 ];
 
 // A limit: the text of a cwd as a piece so many times, and a head and a piece of which so many are the most of a path
@@ -182,17 +184,29 @@ fn limits_are_those_of_the_cleaned_path(rt: HostRuntime) -> Result<(), Fail> {
     Ok(())
 }
 
+// Whether the path has that text behind the prefix, and is joined of the two again.
+fn is_behind(alloc: Global, path: &Path, prefix: &Path, wanted: &[u8]) -> Result<bool, PathEnd> {
+    let Some(rest) = path.behind(alloc, prefix)? else {
+        return Ok(wanted.is_empty() && !path.starts_with(prefix));
+    };
+    let whole = prefix.join(alloc, &rest)?;
+    let is_one = *path == *prefix;
+    let text = rest.text(alloc)?;
+    Ok(
+        text.as_slice() == wanted
+            && whole.same(path)
+            && path.starts_with(prefix)
+            && path.same(prefix) == is_one,
+    )
+}
+
 // The pair that is told wrongly.
-fn wrong_prefix(alloc: Global, cases: &[(&[u8], &[u8], bool)]) -> Result<Option<usize>, PathEnd> {
+fn wrong_prefix(alloc: Global, cases: &[(&[u8], &[u8], &[u8])]) -> Result<Option<usize>, PathEnd> {
     let root = Path::root(alloc);
-    for (at, (text, front, starts)) in cases.iter().enumerate() {
+    for (at, (text, front, rest)) in cases.iter().enumerate() {
         let path = Path::clean(alloc, &root, *text)?;
         let prefix = Path::clean(alloc, &root, *front)?;
-        let is_one = *text == *front;
-        if path.starts_with(&prefix) != *starts
-            || path.same(&prefix) != is_one
-            || (path == prefix) != is_one
-        {
+        if !is_behind(alloc, &path, &prefix, *rest)? {
             return Ok(Some(at));
         }
     }
