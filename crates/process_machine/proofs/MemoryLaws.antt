@@ -1,5 +1,5 @@
 -- Laws on the bytes of an image's pages.
-use Rattle.std.proofs.Common.{◌≡◌, ℕ, zero, suc, ◌+◌, ◌*◌, ◌/◌, ◌%◌, ◌<◌, ◌≤◌, List, [], ◌∷◌, ◌++◌, length, Option, Some, None, refl, ap, sym, subst, ◌∙◌, arith, slice_get, slice_set, slice_index, add-one, add-zero, option_map, min, ◌-◌, ◌^◌, inl, inr, replicate, IsSome}
+use Rattle.std.proofs.Common.{◌≡◌, ℕ, zero, suc, ◌+◌, ◌*◌, ◌/◌, ◌%◌, ◌<◌, ◌≤◌, List, [], ◌∷◌, ◌++◌, length, Option, Some, None, refl, ap, sym, ap₂, ◌∙◌, arith, slice_get, slice_set, slice_index, add-one, add-zero, option_map, min, ◌-◌, ◌^◌, inl, inr, replicate, IsSome}
 use Rattle.sprite_ids.proofs.ListLaws.{set_same, get_within, get_set_same, some_is, each_set, each_get}
 use Rattle.std.specs.List.{AllByRecursion}
 use Rattle.process_machine.specs.Facts.{shape, AllPresent, AreBytes, HasBytes}
@@ -7,8 +7,9 @@ use Rattle.process_machine.specs.declared.parts.Parts.{Parts}
 use Rattle.process_machine.specs.Parts.{first_away}
 use Rattle.std.proofs.Math.ListN.{length-set}
 use Rattle.std.proofs.lemmas.Bool.{cases_lt}
+use Rattle.std.proofs.lemmas.List.{drop_more, take-replicate}
 use Rattle.std.proofs.lemmas.List.Folds.{drop_split}
-use Rattle.std.proofs.Common.{drop, length-take, length-drop}
+use Rattle.std.proofs.Common.{take, drop, length-take, length-drop}
 use Rattle.std.specs.List.{slice_range}
 use Rattle.process_machine.specs.Memory.{there, page_of, byte_in, byte_at, bytes_at, put_in, with_byte, with_bytes, bytes_in}
 
@@ -18,34 +19,69 @@ get_past [] i h = refl
 get_past (x ∷ xs) zero h = absurd (omega arith)
 get_past (x ∷ xs) (suc i) h = get_past xs i (omega arith)
 
--- one more byte at the end
-pub bytes_more : (pages : List (Option (List ℕ))) (address count : ℕ) → bytes_at pages address (suc count) ≡ bytes_at pages address count ++ byte_at pages (address + count) ∷ []
-bytes_more pages address zero = rw add-zero refl
-bytes_more pages address (suc count) =
-    let rest = bytes_more pages (address + 1) count in
-    let e : address + 1 + count ≡ address + suc count = omega arith in
-    ap (λ xs. byte_at pages address ∷ xs) (subst (λ n. bytes_at pages (address + 1) (suc count) ≡ bytes_at pages (address + 1) count ++ byte_at pages n ∷ []) e rest)
-
 -- the pages lie below address 32,768
 pub byte_outside : (pages : List (Option (List ℕ))) (address : ℕ) → length pages ≤ 8 → 32768 ≤ address → byte_at pages address ≡ 0
 byte_outside pages address few far =
     let past : length pages ≤ address / 4096 = omega arith in
     ap (λ o. byte_in (there o) (address % 4096)) (get_past pages (address / 4096) past)
 
+bytes_outside : (pages : List (Option (List ℕ))) (address count : ℕ) → length pages ≤ 8 → 32768 ≤ address → bytes_at pages address count ≡ replicate count 0
+bytes_outside pages address zero few far = refl
+bytes_outside pages address (suc count) few far =
+    ap₂ (λ b bs. b ∷ bs) (byte_outside pages address few far) (bytes_outside pages (address + 1) count few (omega arith))
+
 -- an address that would pass 2^64 is as far outside as the highest
-pub byte_stopped : (pages : List (Option (List ℕ))) (address place stopped : ℕ) → length pages ≤ 8 → stopped ≡ min (address + place) (2 ^ 64 - 1) → byte_at pages stopped ≡ byte_at pages (address + place)
-byte_stopped pages address place stopped few e =
+bytes_stopped : (pages : List (Option (List ℕ))) (address place stopped count : ℕ) → length pages ≤ 8 → stopped ≡ min (address + place) (2 ^ 64 - 1) → bytes_at pages stopped count ≡ bytes_at pages (address + place) count
+bytes_stopped pages address place stopped count few e =
     elim (cases_lt (address + place) (2 ^ 64)) [
-      | inl near ↦ (let same : stopped ≡ address + place = omega arith in ap (byte_at pages) same)
-      | inr far ↦ byte_outside pages stopped few (omega arith) ∙ sym (byte_outside pages (address + place) few (omega arith))
+      | inl near ↦ (let same : stopped ≡ address + place = omega arith in ap (λ a. bytes_at pages a count) same)
+      | inr far ↦ bytes_outside pages stopped count few (omega arith) ∙ sym (bytes_outside pages (address + place) count few (omega arith))
     ]
 
--- the step of the loop that gathers bytes
-pub gathered : (pages : List (Option (List ℕ))) (bytes : List ℕ) (address place stopped byte : ℕ) → length pages ≤ 8 → bytes ≡ bytes_at pages address place → stopped ≡ min (address + place) (2 ^ 64 - 1) → byte ≡ byte_at pages stopped → bytes ++ byte ∷ [] ≡ bytes_at pages address (place + 1)
-gathered pages bytes address place stopped byte few so_far e is =
-    let there : byte ≡ byte_at pages (address + place) = is ∙ byte_stopped pages address place stopped few e in
-    let more = bytes_more pages address place in
-    rw (add-one, more, so_far, there) refl
+-- the bytes of two parts, one behind the other
+bytes_of_parts : (pages : List (Option (List ℕ))) (address first second : ℕ) → bytes_at pages address (first + second) ≡ bytes_at pages address first ++ bytes_at pages (address + first) second
+bytes_of_parts pages address zero second =
+    let none : 0 + second ≡ second = omega arith in
+    rw (none, add-zero) refl
+bytes_of_parts pages address (suc first) second =
+    let e : address + 1 + first ≡ address + suc first = omega arith in
+    let count : suc first + second ≡ suc (first + second) = omega arith in
+    ap (bytes_at pages address) count ∙ ap (λ xs. byte_at pages address ∷ xs) (bytes_of_parts pages (address + 1) first second ∙ ap (λ a. bytes_at pages (address + 1) first ++ bytes_at pages a second) e)
+
+-- the step of the loop that gathers bytes, a page's part at a time
+pub gathered : (pages : List (Option (List ℕ))) (bytes more : List ℕ) (address done stopped count : ℕ) → length pages ≤ 8 → bytes ≡ bytes_at pages address done → stopped ≡ min (address + done) (2 ^ 64 - 1) → more ≡ bytes ++ bytes_at pages (4096 * (stopped / 4096) + stopped % 4096) count → more ≡ bytes_at pages address (done + count)
+gathered pages bytes more address done stopped count few so_far e is =
+    let at : 4096 * (stopped / 4096) + stopped % 4096 ≡ stopped = omega arith in
+    let part = ap (λ a. bytes_at pages a count) at ∙ bytes_stopped pages address done stopped count few e in
+    is ∙ (ap₂ (λ xs ys. xs ++ ys) so_far part ∙ sym (bytes_of_parts pages address done count))
+
+-- the bytes of a part of one page
+in_the_page : (pages : List (Option (List ℕ))) (k offset address count : ℕ) (page : List ℕ) → address ≡ 4096 * k + offset → offset + count ≤ 4096 → length page ≡ 4096 → page_of pages k ≡ Some page → bytes_at pages address count ≡ take count (drop offset page)
+in_the_page pages k offset address zero page at fits whole found = refl
+in_the_page pages k offset address (suc count) page at fits whole found =
+    let number : address / 4096 ≡ k = omega arith in
+    let place : address % 4096 ≡ offset = omega arith in
+    let byte : byte_at pages address ≡ slice_index page offset = rw (number, place, found) refl in
+    let rest = in_the_page pages k (offset + 1) (address + 1) count page (omega arith) (omega arith) whole found in
+    ap₂ (λ b bs. b ∷ bs) byte rest ∙ ap (take (suc count)) (sym (drop_more page offset 0 (omega arith)))
+
+-- the bytes of a part of a page that isn't there
+in_no_page : (pages : List (Option (List ℕ))) (k offset address count : ℕ) → address ≡ 4096 * k + offset → offset + count ≤ 4096 → page_of pages k ≡ None → bytes_at pages address count ≡ replicate count 0
+in_no_page pages k offset address zero at fits found = refl
+in_no_page pages k offset address (suc count) at fits found =
+    let number : address / 4096 ≡ k = omega arith in
+    let byte : byte_at pages address ≡ 0 = rw (number, found) refl in
+    ap₂ (λ b bs. b ∷ bs) byte (in_no_page pages k (offset + 1) (address + 1) count (omega arith) (omega arith) found)
+
+-- and as the code takes them
+pub page_part : (pages : List (Option (List ℕ))) (k offset count : ℕ) (page : List ℕ) → offset + count ≤ 4096 → length page ≡ 4096 → page_of pages k ≡ Some page → bytes_at pages (4096 * k + offset) count ≡ slice_range page offset (offset + count)
+page_part pages k offset count page fits whole found =
+    let long : offset + count - offset ≡ count = omega arith in
+    in_the_page pages k offset (4096 * k + offset) count page refl fits whole found ∙ ap (λ n. take n (drop offset page)) (sym long)
+
+pub zeros_part : (pages : List (Option (List ℕ))) (k offset count : ℕ) → offset + count ≤ 4096 → page_of pages k ≡ None → bytes_at pages (4096 * k + offset) count ≡ take count (replicate 4096 0)
+zeros_part pages k offset count fits found =
+    in_no_page pages k offset (4096 * k + offset) count refl fits found ∙ sym (take-replicate count 4096 0 (omega arith))
 
 -- one more copy at the end
 pub replicate_more : {X : Type 0} (n : ℕ) (x : X) → replicate n x ++ x ∷ [] ≡ replicate (suc n) x

@@ -1,6 +1,4 @@
 ghost use Rattle.std.specs.Prelude.{◌≡◌, ◌<◌};
-ghost use Rattle.process_machine.specs.Steps.{step_of, AtCall};
-ghost use Rattle.process_machine.specs.Calls.{call_at, Fits};
 ghost use Rattle.process_machine.specs.Replies.{given, answered, answer_address};
 
 use crate::arguments::Arguments;
@@ -9,15 +7,14 @@ use crate::image::Image;
 use crate::instruction::{Instruction, SyscallName};
 use crate::program::Program;
 
-/// Puts the answer of the call at which the image stands into it, and goes on to the next instruction. It takes no
-/// memory.
+/// Puts the answer of the call at which the image stands into it, and goes on to the next instruction. An image that
+/// stands at no call stays as it is. It takes no memory.
 ///
-/// A value sets register 0 to 0, registers 1 and 2 to its two values, and puts its bytes where the call wants them; these
-/// are at most the call's length or room for `Read`, `Host`, `List`, `PdGet` and `Ioctl`, and none for any other call. A
-/// refusal sets register 0 to its number and registers 1 and 2 to 0.
+/// A value sets register 0 to 0, registers 1 and 2 to its two values, and puts its bytes, all of them, from the address
+/// on at which the call wants them: `Read`, `Host`, `List`, `PdGet` and `Ioctl` name one, and for any other call it is 0.
+/// A lawful answer has no more bytes than such a call's length or room, and none for any other call; bytes outside the
+/// pages or in a page that is away are left out. A refusal sets register 0 to its number and registers 1 and 2 to 0.
 pub fn give(program: &Program, image: &mut Image, reply: &Reply)
-    requires call { step_of program.now image.old ≡ AtCall }
-    requires fits { Fits (call_at program.now image.old) reply.now }
     ensures { image.new ≡ given program.now image.old reply.now }
 {
     let code = program.code.as_slice();

@@ -125,7 +125,8 @@ fn word_by_bytes(pages: &[Option<Bytes>], address: u64) -> u64
     LittleEndian::read_u64(&bytes)
 }
 
-/// The bytes from an address on, that many.
+/// The bytes from an address on, that many: 0 where a byte's page isn't there. A page's part is copied at once. The one
+/// error is want of memory.
 pub fn bytes_at(
     alloc: Global,
     pages: &[Option<Bytes>],
@@ -135,11 +136,40 @@ pub fn bytes_at(
     requires { ArePages pages.now }
     ensures { IfOk result (λ bytes. bytes ≡ bytes_at pages.now address count) }
 {
-    let mut bytes = Bytes::new(alloc);
-    for place in 0..count {
-        bytes.push(byte_at(pages, address.saturating_add(place)))?;
+    let mut bytes = Bytes::of_vec(Vec::with_capacity(alloc, count as usize)?);
+    let mut done = 0;
+    'pieces: while done < count {
+        let at = address.saturating_add(done);
+        let offset = at % PAGE_SIZE;
+        let part = (PAGE_SIZE - offset).min(count - done);
+        append_piece(
+            &mut bytes,
+            pages,
+            at / PAGE_SIZE,
+            offset as usize,
+            part as usize,
+        )?;
+        done += part;
     }
     Ok(bytes)
+}
+
+// Puts the bytes of a part of one page at the end, zeros where the page isn't there.
+fn append_piece(
+    bytes: &mut Bytes,
+    pages: &[Option<Bytes>],
+    number: u64,
+    offset: usize,
+    count: usize,
+) -> Result<(), NoMemory>
+    requires pages { ArePages pages.now }
+    requires inside { offset + count ≤ 4096 }
+    ensures { OnOk result (bytes.new ≡ bytes.old ++ bytes_at pages.now (4096 * number + offset) count) }
+{
+    match page(pages, number) {
+        None => bytes.append(&[0; 4096][..count]),
+        Some(page) => bytes.append(&page.as_slice()[offset..offset + count]),
+    }
 }
 
 // Puts a byte into a page that is there.
