@@ -1,5 +1,5 @@
 -- A reading of lines keeps within the limits, and so does its program.
-use Rattle.std.proofs.Common.{◌≡◌, ℕ, ◌+◌, ◌*◌, ◌<◌, ◌≤◌, List, [], ◌∷◌, ◌++◌, length, map, Bool, true, false, ◌&&◌, ◌||◌, Option, Some, None, Ok, refl, subst, arith, rules, nat_lt, nat_le}
+use Rattle.std.proofs.Common.{◌≡◌, ℕ, cond, ◌+◌, ◌*◌, ◌<◌, ◌≤◌, List, [], ◌∷◌, ◌++◌, length, map, Bool, true, false, ◌&&◌, ◌||◌, Option, Some, None, Ok, refl, subst, arith, rules, nat_lt, nat_le}
 use Rattle.std.specs.Bool.{if◌then◌else◌}
 use Rattle.std.specs.List.{AllByRecursion}
 use Rattle.std.specs.Option.{is_some, unwrap_or, option_and_then}
@@ -14,9 +14,9 @@ use Rattle.program_text.specs.declared.step.Step.{Step}
 use Rattle.program_text.specs.declared.step.Step.TheVariants.{Plain, ToLabel}
 use Rattle.program_text.specs.declared.step.Jump.{Jump}
 use Rattle.program_text.specs.declared.step.Jump.TheVariants.{Always, Equal, Different, Less}
-use Rattle.program_text.specs.declared.reading.Label.{Label as Defined}
 use Rattle.program_text.specs.declared.reading.Reading.{Reading}
 use Rattle.program_text.specs.Words.{same, lines_of}
+use Rattle.program_text.specs.Labels.{defines}
 use Rattle.program_text.specs.Lines.{line_of}
 use Rattle.program_text.specs.Readings.{place_of, bytes_of, with_label, with_pages, with_text, with_step, with_line, judged, unread}
 use Rattle.program_text.specs.Programs.{aimed, jump_to, program_by, verdict}
@@ -29,7 +29,7 @@ pub record Keeps (r : Reading) : Type 0 where
   pub steps : length r.steps ≤ 512
   pub texts : length r.texts ≤ 64
   pub inside : AllByRecursion (EndsInside (bytes_of r.pages)) r.texts
-  pub within : AllByRecursion (λ (l : Defined). l.place ≤ length r.steps) r.labels
+  pub within : AllByRecursion (λ (l : List ℕ × ℕ). l.1 ≤ length r.steps) r.labels
   pub plain : AllByRecursion IsPlain r.steps
 
 -- a choice where the first arm is refused, and one where the second is
@@ -61,7 +61,7 @@ label_keeps r name h =
       steps = h.steps;
       texts = h.texts;
       inside = h.inside;
-      within = each_push (λ (l : Defined). l.place ≤ length r.steps) r.labels (record { name = name; place = length r.steps }) h.within (omega arith);
+      within = each_push (λ (l : List ℕ × ℕ). l.1 ≤ length r.steps) r.labels (name, length r.steps) h.within (omega arith);
       plain = h.plain;
     })
 
@@ -85,47 +85,47 @@ text_keeps r text h =
       plain = h.plain;
     })
 
-step_keeps : (all : List (List ℕ)) (r : Reading) (step : Step) → IsPlain step → Keeps r → Each Keeps (with_step all r step)
-step_keeps all r step p h =
+step_keeps : (defined : List ℕ → Bool) (r : Reading) (step : Step) → IsPlain step → Keeps r → Each Keeps (with_step defined r step)
+step_keeps defined r step p h =
     then_keeps _ _ (λ e.
     let more : length (r.steps ++ step ∷ []) ≡ length r.steps + 1 = length-append r.steps (step ∷ []) in
     record {
       steps = rw more (omega (arith, first_holds (length r.steps) _ e));
       texts = h.texts;
       inside = h.inside;
-      within = each_weaken _ _ r.labels (λ (l : Defined) k. rw more (omega (arith, k))) h.within;
+      within = each_weaken _ _ r.labels (λ (l : List ℕ × ℕ) k. rw more (omega (arith, k))) h.within;
       plain = each_push IsPlain r.steps step h.plain p;
     })
 
-line_keeps : (all : List (List ℕ)) (r : Reading) (l : Line) → HasPlain l → Keeps r → Each Keeps (with_line all r l)
-line_keeps all r line.Blank p h = each_some Keeps r h
-line_keeps all r (line.Label name) p h = label_keeps r name h
-line_keeps all r (line.Pages pages) p h = pages_keeps r pages h
-line_keeps all r (line.Data text) p h = text_keeps r text h
-line_keeps all r (line.Code step) p h = step_keeps all r step p h
+line_keeps : (defined : List ℕ → Bool) (r : Reading) (l : Line) → HasPlain l → Keeps r → Each Keeps (with_line defined r l)
+line_keeps defined r line.Blank p h = each_some Keeps r h
+line_keeps defined r (line.Label name) p h = label_keeps r name h
+line_keeps defined r (line.Pages pages) p h = pages_keeps r pages h
+line_keeps defined r (line.Data text) p h = text_keeps r text h
+line_keeps defined r (line.Code step) p h = step_keeps defined r step p h
 
-more_keeps : (all : List (List ℕ)) (r : Reading) (o : Option Line) → Each HasPlain o → Keeps r → Each Keeps (option_and_then (with_line all r) o)
-more_keeps all r o p h = each_then HasPlain Keeps (with_line all r) o p (λ l q. line_keeps all r l q h)
+more_keeps : (defined : List ℕ → Bool) (r : Reading) (o : Option Line) → Each HasPlain o → Keeps r → Each Keeps (option_and_then (with_line defined r) o)
+more_keeps defined r o p h = each_then HasPlain Keeps (with_line defined r) o p (λ l q. line_keeps defined r l q h)
 
 -- all lines, one after another
-judged_keeps : (version : ℕ) (all : List (List ℕ)) (n : ℕ) (o : Option Reading) (lines : List (List ℕ)) (r : Reading) → Each Keeps o → judged version all n o lines ≡ Ok r → Keeps r
-judged_keeps version all n None lines r h e = cc
-judged_keeps version all n (Some s) [] r h e = let same_one : s ≡ r = cc in subst Keeps same_one h.holds
-judged_keeps version all n (Some s) (l ∷ lines) r h e =
-    judged_keeps version all (n + 1) _ lines r (more_keeps all s (line_of version l) (line_plain version l) h.holds) e
+judged_keeps : (version : ℕ) (defined : List ℕ → Bool) (n : ℕ) (o : Option Reading) (lines : List (List ℕ)) (r : Reading) → Each Keeps o → judged version defined n o lines ≡ Ok r → Keeps r
+judged_keeps version defined n None lines r h e = cc
+judged_keeps version defined n (Some s) [] r h e = let same_one : s ≡ r = cc in subst Keeps same_one h.holds
+judged_keeps version defined n (Some s) (l ∷ lines) r h e =
+    judged_keeps version defined (n + 1) _ lines r (more_keeps defined s (line_of version l) (line_plain version l) h.holds) e
 
 unread_keeps : Keeps unread
 unread_keeps = record { steps = omega arith; texts = omega arith; inside = tt; within = tt; plain = tt }
 
-chosen_within : (count : ℕ) (t : Bool) (place : ℕ) (rest : Option ℕ) → place ≤ count → unwrap_or rest 0 ≤ count → unwrap_or (if t then Some place else rest) 0 ≤ count
+chosen_within : (count : ℕ) (t : Bool) (place : ℕ) (rest : Option ℕ) → place ≤ count → unwrap_or rest 0 ≤ count → unwrap_or (cond t (Some place) rest) 0 ≤ count
 chosen_within count true place rest h k = h
 chosen_within count false place rest h k = k
 
 -- a label's place is within the instructions, and so is 0
-place_within : (count : ℕ) (labels : List Defined) (name : List ℕ) → AllByRecursion (λ (l : Defined). l.place ≤ count) labels → unwrap_or (place_of labels name) 0 ≤ count
+place_within : (count : ℕ) (labels : List (List ℕ × ℕ)) (name : List ℕ) → AllByRecursion (λ (l : List ℕ × ℕ). l.1 ≤ count) labels → unwrap_or (place_of labels name) 0 ≤ count
 place_within count [] name h = omega arith
 place_within count (l ∷ labels) name h =
-    chosen_within count (same l.name name) l.place (place_of labels name) h.0 (place_within count labels name h.1)
+    chosen_within count (same name l.0) l.1 (place_of labels name) h.0 (place_within count labels name h.1)
 
 plain_within : (count : ℕ) (i : Instruction) → IsNoJump i → GoesWithin count i
 plain_within count (Jmp place) p = absurd p
@@ -140,11 +140,11 @@ jump_within count place (Equal a b) h = h
 jump_within count place (Different a b) h = h
 jump_within count place (Less a b) h = h
 
-step_within : (count : ℕ) (labels : List Defined) (step : Step) → AllByRecursion (λ (l : Defined). l.place ≤ count) labels → IsPlain step → GoesWithin count (aimed labels step)
+step_within : (count : ℕ) (labels : List (List ℕ × ℕ)) (step : Step) → AllByRecursion (λ (l : List ℕ × ℕ). l.1 ≤ count) labels → IsPlain step → GoesWithin count (aimed labels step)
 step_within count labels (Plain instruction) h p = plain_within count instruction p
 step_within count labels (ToLabel jump label) h p = jump_within count _ jump (place_within count labels label h)
 
-steps_within : (count : ℕ) (labels : List Defined) (steps : List Step) → AllByRecursion (λ (l : Defined). l.place ≤ count) labels → AllByRecursion IsPlain steps → AllByRecursion (GoesWithin count) (map (aimed labels) steps)
+steps_within : (count : ℕ) (labels : List (List ℕ × ℕ)) (steps : List Step) → AllByRecursion (λ (l : List ℕ × ℕ). l.1 ≤ count) labels → AllByRecursion IsPlain steps → AllByRecursion (GoesWithin count) (map (aimed labels) steps)
 steps_within count labels [] h p = tt
 steps_within count labels (step ∷ steps) h p = (step_within count labels step h p.0, steps_within count labels steps h p.1)
 
@@ -165,4 +165,4 @@ program_keeps r h = record {
 -- each program that a text writes is within the limits
 pub reading_within : (version : ℕ) (text : List ℕ) (r : Reading) → verdict version text ≡ Ok r → IsWithinLimits (program_by r)
 reading_within version text r e =
-    program_keeps r (judged_keeps version (lines_of text) 0 (Some unread) (lines_of text) r (each_some Keeps unread unread_keeps) e)
+    program_keeps r (judged_keeps version (defines (lines_of text)) 0 (Some unread) (lines_of text) r (each_some Keeps unread unread_keeps) e)

@@ -10,6 +10,7 @@ use Rattle.program_text.specs.declared.assembly.AsmEnd.{AsmEnd}
 use Rattle.program_text.specs.declared.assembly.AsmEnd.TheVariants as end
 use Rattle.program_text.specs.declared.reading.Reading.{Reading}
 use Rattle.program_text.specs.Words.{lines_of}
+use Rattle.program_text.specs.Labels.{defines}
 use Rattle.program_text.specs.Lines.{line_of}
 use Rattle.program_text.specs.Readings.{judged, unread, with_line}
 use Rattle.program_text.specs.Programs.{line_number}
@@ -38,9 +39,9 @@ pub record IsWithinLimits (program : Program) : Type 0 where
 pub record IsFirstBad (version : ℕ) (lines : List (List ℕ)) (n : ℕ) : Type 0 where
   pub before : Reading
   pub line : List ℕ
-  pub good : judged version lines 0 (Some unread) (take n lines) ≡ Ok before
+  pub good : judged version (defines lines) 0 (Some unread) (take n lines) ≡ Ok before
   pub there : slice_get lines n ≡ Some line
-  pub bad : option_and_then (with_line lines before) (line_of version line) ≡ None
+  pub bad : option_and_then (with_line (defines lines) before) (line_of version line) ≡ None
 
 -- the number of the first bad line of a text
 pub record IsItsNumber (version : ℕ) (text : List ℕ) (number : ℕ) : Type 0 where

@@ -2,7 +2,9 @@ pub mod Words
 pub mod Quoted
 pub mod Operands
 pub mod Calls
+pub mod Hashed
 pub mod Labels
+pub mod Names
 pub mod Steps
 pub mod Lines
 pub mod Readings

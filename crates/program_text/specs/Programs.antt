@@ -10,9 +10,9 @@ use Rattle.program_text.specs.declared.step.Jump.{Jump}
 use Rattle.program_text.specs.declared.step.Jump.TheVariants.{Always, Equal, Different, Less}
 use Rattle.program_text.specs.declared.step.Step.{Step}
 use Rattle.program_text.specs.declared.step.Step.TheVariants.{Plain, ToLabel}
-use Rattle.program_text.specs.declared.reading.Label.{Label}
 use Rattle.program_text.specs.declared.reading.Reading.{Reading}
 use Rattle.program_text.specs.Words.{lines_of}
+use Rattle.program_text.specs.Labels.{defines}
 use Rattle.program_text.specs.Readings.{place_of, judged, unread}
 
 -- the jump to a place
@@ -23,7 +23,7 @@ jump_to (Different a b) place = Jne a b place
 jump_to (Less a b) place = Jlt a b place
 
 -- the instruction of a step: a jump goes to the place of its label, which a program defines
-abbrev pub aimed : List Label → Step → Instruction
+abbrev pub aimed : List (List ℕ × ℕ) → Step → Instruction
 aimed labels (Plain instruction) = instruction
 aimed labels (ToLabel jump label) = jump_to jump (unwrap_or (place_of labels label) 0)
 
@@ -38,7 +38,7 @@ finished (Err n) = Err n
 
 -- what all lines of a text give, or the number of its first bad line
 abbrev pub verdict : ℕ → List ℕ → Result Reading ℕ
-verdict version text = judged version (lines_of text) 0 (Some unread) (lines_of text)
+verdict version text = judged version (defines (lines_of text)) 0 (Some unread) (lines_of text)
 
 -- the program that a text writes, or its first bad line's number from 1
 abbrev pub program_of : ℕ → List ℕ → Result Program ℕ

@@ -1,21 +1,19 @@
 -- The lines of a program in order, each judged by what stands before it.
 use Rattle.std.specs.Prelude.{ℕ, List, [], ◌∷◌, ◌++◌, ◌+◌, ◌*◌, ◌&&◌, ◌||◌, Bool, true, Result, Ok, Err, Option, Some, None, if◌then◌else◌, nat_le, nat_lt, length}
 use Rattle.std.specs.Option.{is_some, option_and_then}
+use Rattle.std.specs.Map.{lookup}
 use Rattle.process_machine.specs.declared.program.Text.{Text}
 use Rattle.program_text.specs.declared.line.Line.{Line}
 use Rattle.program_text.specs.declared.line.Line.TheVariants as line
 use Rattle.program_text.specs.declared.step.Step.{Step}
 use Rattle.program_text.specs.declared.step.Step.TheVariants.{Plain, ToLabel}
-use Rattle.program_text.specs.declared.reading.Label.{Label}
 use Rattle.program_text.specs.declared.reading.Reading.{Reading}
 use Rattle.program_text.specs.Words.{same}
-use Rattle.program_text.specs.Labels.{defines}
 use Rattle.program_text.specs.Lines.{line_of}
 
--- the place of the label of a name, among those that were defined
-abbrev pub place_of : List Label → List ℕ → Option ℕ
-place_of [] name = None
-place_of (label ∷ labels) name = if same label.name name then Some label.place else place_of labels name
+-- the place of the label of a name, among those that were defined, each with its place
+abbrev pub place_of : List (List ℕ × ℕ) → List ℕ → Option ℕ
+place_of labels name = lookup (same name) labels
 
 -- how many bytes the pages have; one page where no line gives their number
 abbrev pub bytes_of : Option ℕ → ℕ
@@ -26,17 +24,17 @@ bytes_of (Some pages) = pages * 4096
 abbrev pub is_inside : Text → ℕ → Bool
 is_inside text bytes = nat_le (text.address + length text.bytes) bytes
 
--- whether the label that the step uses is defined by one of the lines
-abbrev pub aims : List (List ℕ) → Step → Bool
-aims lines (Plain instruction) = true
-aims lines (ToLabel jump label) = defines lines label
+-- whether the label that the step uses, if it uses one, is one of those that are defined
+abbrev pub aims : (List ℕ → Bool) → Step → Bool
+aims defined (Plain instruction) = true
+aims defined (ToLabel jump label) = defined label
 
 -- one more label, which no line before defines; its place is the number of instructions before it
 abbrev pub with_label : Reading → List ℕ → Option Reading
 with_label r name =
     if is_some (place_of r.labels name)
     then None
-    else Some (record r { labels = r.labels ++ (record { name = name; place = length r.steps }) ∷ [] })
+    else Some (record r { labels = r.labels ++ (name, length r.steps) ∷ [] })
 
 -- the number of pages, once at most and before all texts
 abbrev pub with_pages : Reading → ℕ → Option Reading
@@ -50,24 +48,24 @@ with_text r text =
     else None
 
 -- one more instruction, of at most 512, whose label is defined somewhere
-abbrev pub with_step : List (List ℕ) → Reading → Step → Option Reading
-with_step all r step =
-    if nat_lt (length r.steps) 512 && aims all step then Some (record r { steps = r.steps ++ step ∷ [] }) else None
+abbrev pub with_step : (List ℕ → Bool) → Reading → Step → Option Reading
+with_step defined r step =
+    if nat_lt (length r.steps) 512 && aims defined step then Some (record r { steps = r.steps ++ step ∷ [] }) else None
 
--- what was read with one more line; none where the line may not stand there. `all` are the lines of the whole text
-abbrev pub with_line : List (List ℕ) → Reading → Line → Option Reading
-with_line all r line.Blank = Some r
-with_line all r (line.Label name) = with_label r name
-with_line all r (line.Pages pages) = with_pages r pages
-with_line all r (line.Data text) = with_text r text
-with_line all r (line.Code step) = with_step all r step
+-- what was read with one more line; none where the line may not stand there. `defined` tells the labels of the whole text
+abbrev pub with_line : (List ℕ → Bool) → Reading → Line → Option Reading
+with_line defined r line.Blank = Some r
+with_line defined r (line.Label name) = with_label r name
+with_line defined r (line.Pages pages) = with_pages r pages
+with_line defined r (line.Data text) = with_text r text
+with_line defined r (line.Code step) = with_step defined r step
 
 -- the lines one after another, behind n lines that gave a reading; the first bad line's number from 1, where one is bad
-abbrev pub judged : ℕ → List (List ℕ) → ℕ → Option Reading → List (List ℕ) → Result Reading ℕ
-judged version all n None lines = Err n
-judged version all n (Some r) [] = Ok r
-judged version all n (Some r) (line ∷ lines) =
-    judged version all (n + 1) (option_and_then (with_line all r) (line_of version line)) lines
+abbrev pub judged : ℕ → (List ℕ → Bool) → ℕ → Option Reading → List (List ℕ) → Result Reading ℕ
+judged version defined n None lines = Err n
+judged version defined n (Some r) [] = Ok r
+judged version defined n (Some r) (line ∷ lines) =
+    judged version defined (n + 1) (option_and_then (with_line defined r) (line_of version line)) lines
 
 -- before the first line
 abbrev pub unread : Reading

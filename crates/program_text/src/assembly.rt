@@ -1,9 +1,14 @@
-ghost use Rattle.std.specs.Prelude.{◌≡◌, ◌≤◌, IfOk, IfErr, Ok, length, map};
+ghost use Rattle.std.specs.Prelude.{◌≡◌, ◌≤◌, IfOk, IfErr, Ok, Some, length, map};
 ghost use Rattle.program_text.specs.Facts.{IsWithinLimits, TellsFirst};
+ghost use Rattle.program_text.specs.Names.{has};
+ghost use Rattle.program_text.specs.Readings.{judged, unread};
+ghost use Rattle.program_text.specs.Words.{lines_of};
 ghost use Rattle.program_text.specs.Programs.{line_number, aimed, jump_to, verdict, program_of, program_by, IsBadAt};
 
+use super::label::defined_in;
 use super::line::read_line;
-use super::reading::{Label, Reading, add_line, place_of};
+use super::names::{Names, Places};
+use super::reading::{Reading, add_line};
 use super::step::{Jump, Step};
 use super::words::first_line;
 use process_machine::{Code, Instruction, PageCount, Program};
@@ -53,21 +58,31 @@ pub fn assemble(alloc: Global, text: &str, version: u8) -> Result<Program, AsmEn
     ensures limits { IfOk result IsWithinLimits }
     ensures first { IfErr result (TellsFirst version text.now) }
 {
-    let reading = read_lines(alloc, version, text.as_bytes())?;
+    let reading = read_text(alloc, version, text.as_bytes())?;
     Ok(finish(alloc, reading)?)
 }
 
-/// All lines of the text.
-fn read_lines(alloc: Global, version: u8, text: &[u8]) -> Result<Reading, AsmEnd>
+/// All lines of the text, of which each label that is used must be one that a line defines.
+fn read_text(alloc: Global, version: u8, text: &[u8]) -> Result<Reading, AsmEnd>
     ensures reading { IfOk result (λ reading. verdict version text.now ≡ Ok reading) }
     ensures bad { IfErr result (IsBadAt (verdict version text.now)) }
+    ensures most { IfOk result (λ reading. length reading.steps ≤ 512) }
+{
+    let defined = defined_in(alloc, text)?;
+    read_lines(alloc, version, text, &defined)
+}
+
+/// All lines of the text, where `defined` are its labels.
+fn read_lines(alloc: Global, version: u8, text: &[u8], defined: &Names) -> Result<Reading, AsmEnd>
+    ensures reading { IfOk result (λ reading. judged version (has defined.now) 0 (Some unread) (lines_of text.now) ≡ Ok reading) }
+    ensures bad { IfErr result (IsBadAt (judged version (has defined.now) 0 (Some unread) (lines_of text.now))) }
     ensures most { IfOk result (λ reading. length reading.steps ≤ 512) }
 {
     let mut reading = Reading {
         pages: None,
         texts: Items::new(alloc),
         steps: Items::new(alloc),
-        labels: Items::new(alloc),
+        labels: Places::new(alloc),
     };
     let mut rest = text;
     let mut count = 0usize;
@@ -77,7 +92,7 @@ fn read_lines(alloc: Global, version: u8, text: &[u8]) -> Result<Reading, AsmEnd
         let Some(line) = read_line(alloc, version, bytes)? else {
             return Err(AsmEnd::Line(line_number(count)));
         };
-        let Some(longer) = add_line(reading, line, text)? else {
+        let Some(longer) = add_line(reading, line, defined)? else {
             return Err(AsmEnd::Line(line_number(count)));
         };
         reading = longer;
@@ -98,7 +113,7 @@ fn finish(alloc: Global, reading: Reading) -> Result<Program, NoMemory>
     requires { length reading.steps ≤ 512 }
     ensures { IfOk result (λ program. program ≡ program_by reading) }
 {
-    let code = code_of(alloc, reading.steps.as_slice(), reading.labels.as_slice())?;
+    let code = code_of(alloc, reading.steps.as_slice(), &reading.labels)?;
     Ok(Program {
         number: 1,
         pages: reading.pages.unwrap_or(PageCount::new(1).unwrap()),
@@ -108,7 +123,7 @@ fn finish(alloc: Global, reading: Reading) -> Result<Program, NoMemory>
 }
 
 /// The instructions, each jump to its label's place.
-fn code_of(alloc: Global, steps: &[Step], labels: &[Label]) -> Result<Code, NoMemory>
+fn code_of(alloc: Global, steps: &[Step], labels: &Places) -> Result<Code, NoMemory>
     requires { length steps.now ≤ 512 }
     ensures { IfOk result (λ code. code ≡ map (aimed labels.now) steps.now) }
 {
@@ -120,15 +135,12 @@ fn code_of(alloc: Global, steps: &[Step], labels: &[Label]) -> Result<Code, NoMe
 }
 
 /// The instruction of a step.
-fn aimed(step: &Step, labels: &[Label]) -> Instruction
+fn aimed(step: &Step, labels: &Places) -> Instruction
     ensures { result ≡ aimed labels.now step.now }
 {
     match step {
         Step::Plain(instruction) => *instruction,
-        Step::ToLabel { jump, label } => jump_to(
-            *jump,
-            place_of(labels, label.as_slice()).unwrap_or(0),
-        ),
+        Step::ToLabel { jump, label } => jump_to(*jump, labels.place_of(label).unwrap_or(0)),
     }
 }
 

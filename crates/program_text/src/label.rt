@@ -1,10 +1,14 @@
-ghost use Rattle.std.specs.Prelude.{◌≡◌};
+ghost use Rattle.std.specs.Prelude.{◌≡◌, ◌||◌, List, ℕ, IfOk, OnOk};
 ghost use Rattle.std.specs.Option.{option_copied};
 ghost use Rattle.program_text.specs.Words.{lines_of, words_of};
-ghost use Rattle.program_text.specs.Labels.{is_letter, is_label_byte, is_label, label_in, label_of, defines};
+ghost use Rattle.program_text.specs.Labels.{is_letter, is_label_byte, is_label, label_in, label_of, is_named, defines};
+ghost use Rattle.program_text.specs.Names.{has};
 
+use super::names::{Name, Names};
 use super::operand::register;
 use super::words::{first_line, is_blank, next_word, place_of};
+use sprite_ids::NoMemory;
+use std::alloc::Global;
 
 /// How many bytes a label may have.
 const LABEL_BYTES: usize = 16;
@@ -61,19 +65,26 @@ fn label_of(line: &[u8]) -> Option<&[u8]>
     if is_blank(rest) { label_in(word) } else { None }
 }
 
-/// Whether one of the text's lines defines the label.
-pub fn is_defined(text: &[u8], name: &[u8]) -> bool
-    ensures { result ≡ defines (lines_of text.now) name.now }
+/// The labels that the text's lines define. The one error is want of memory.
+pub fn defined_in(alloc: Global, text: &[u8]) -> Result<Names, NoMemory>
+    ensures { IfOk result (λ names. (name : List ℕ) → has names name ≡ defines (lines_of text.now) name) }
 {
+    let mut names = Names::new(alloc);
     let mut rest = text;
     while !rest.is_empty() {
         let (line, behind) = first_line(rest);
-        if let Some(label) = label_of(line) {
-            if label == name {
-                return true;
-            }
-        }
+        note_label(alloc, &mut names, line)?;
         rest = behind;
     }
-    false
+    Ok(names)
+}
+
+/// Notes the label that the line defines, where it defines one. The one error is want of memory.
+fn note_label(alloc: Global, names: &mut Names, line: &[u8]) -> Result<(), NoMemory>
+    ensures { OnOk result ((name : List ℕ) → has names.new name ≡ (is_named (label_of (words_of line.now)) name || has names.old name)) }
+{
+    match label_of(line) {
+        None => Ok(()),
+        Some(label) => names.note(Name::of_slice(alloc, label)?),
+    }
 }

@@ -8,6 +8,7 @@ mod assembly;
 mod calls;
 mod label;
 mod line;
+mod names;
 mod operand;
 mod quoted;
 mod reading;
@@ -15,6 +16,3 @@ mod step;
 mod words;
 
 pub use assembly::{AsmEnd, assemble};
-
-#[cfg(test)]
-mod tests;

@@ -3,6 +3,7 @@ ghost use Rattle.program_text.specs.Words.{words_of};
 ghost use Rattle.program_text.specs.Lines.{line_of, is_comment, label_line, pages_of, quoted_of, text_of};
 
 use super::label::label_in;
+use super::names::Name;
 use super::quoted::quoted;
 use super::step::{Step, read_step};
 use super::words::{is_blank, next_word, number, skip_spaces};
@@ -16,7 +17,7 @@ pub enum Line {
     /// Spaces alone, or a comment.
     Blank,
     /// The place of the next instruction, by a name.
-    Label(Bytes),
+    Label(Name),
     /// How many pages the program's images have.
     Pages(PageCount),
     /// What a fresh image holds.
@@ -65,7 +66,7 @@ fn read_label(alloc: Global, word: &[u8]) -> Result<Option<Line>, NoMemory>
     let Some(label) = label_in(word) else {
         return Ok(None);
     };
-    Ok(Some(Line::Label(Bytes::of_slice(alloc, label)?)))
+    Ok(Some(Line::Label(Name::of_slice(alloc, label)?)))
 }
 
 /// What stands behind the word `pages`: a number from 1 to 8.

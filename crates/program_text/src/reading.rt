@@ -1,12 +1,12 @@
 ghost use Rattle.std.specs.Prelude.{◌≡◌, ◌≤◌, IfOk, IfSome, length};
-ghost use Rattle.program_text.specs.Words.{lines_of};
-ghost use Rattle.program_text.specs.Readings.{place_of, bytes_of, is_inside, aims, with_label, with_pages, with_text, with_step, with_line};
+ghost use Rattle.program_text.specs.Names.{has};
+ghost use Rattle.program_text.specs.Readings.{bytes_of, is_inside, aims, with_label, with_pages, with_text, with_step, with_line};
 
-use super::label::is_defined;
 use super::line::Line;
+use super::names::{Name, Names, Places};
 use super::step::Step;
 use process_machine::{PageCount, Text};
-use sprite_ids::{Bytes, Items, NoMemory};
+use sprite_ids::{Items, NoMemory};
 use std::alloc::Global;
 
 /// How many instructions a program may have.
@@ -18,13 +18,6 @@ const MOST_TEXTS: usize = 64;
 /// The bytes of a page.
 const PAGE_BYTES: u64 = 4096;
 
-/// A label that was defined: the instruction behind it, counted from 0.
-#[derive(Debug, Drop)]
-pub struct Label {
-    pub name: Bytes,
-    pub place: u16,
-}
-
 /// The lines of a program that were read so far.
 #[derive(Debug, Drop)]
 pub struct Reading {
@@ -32,26 +25,14 @@ pub struct Reading {
     pub pages: Option<PageCount>,
     pub texts: Items<Text>,
     pub steps: Items<Step>,
-    pub labels: Items<Label>,
+    pub labels: Places,
 }
 
-/// The place of the label of that name; None exactly where there is none.
-pub fn place_of(labels: &[Label], name: &[u8]) -> Option<u16>
-    ensures { result ≡ place_of labels.now name.now }
-{
-    for label in labels {
-        if label.name.as_slice() == name {
-            return Some(label.place);
-        }
-    }
-    None
-}
-
-/// What was read with one more line; None exactly where the line may not stand there. `text` is the whole text, one of
-/// whose lines must define each label that is used. The one error is want of memory.
-pub fn add_line(reading: Reading, line: Line, text: &[u8]) -> Result<Option<Reading>, NoMemory>
+/// What was read with one more line; None exactly where the line may not stand there. `defined` are the labels of the
+/// whole text, of which each label that is used must be one. The one error is want of memory.
+pub fn add_line(reading: Reading, line: Line, defined: &Names) -> Result<Option<Reading>, NoMemory>
     requires { length reading.steps ≤ 512 }
-    ensures value { IfOk result (λ read. read ≡ with_line (lines_of text.now) reading line) }
+    ensures value { IfOk result (λ read. read ≡ with_line (has defined.now) reading line) }
     ensures most { IfOk result (λ read. IfSome read (λ r. length r.steps ≤ 512)) }
 {
     match line {
@@ -59,21 +40,21 @@ pub fn add_line(reading: Reading, line: Line, text: &[u8]) -> Result<Option<Read
         Line::Label(name) => add_label(reading, name),
         Line::Pages(pages) => Ok(add_pages(reading, pages)),
         Line::Data(data) => add_text(reading, data),
-        Line::Code(step) => add_step(reading, step, text),
+        Line::Code(step) => add_step(reading, step, defined),
     }
 }
 
 /// One more label, which no line before defines.
-fn add_label(mut reading: Reading, name: Bytes) -> Result<Option<Reading>, NoMemory>
+fn add_label(mut reading: Reading, name: Name) -> Result<Option<Reading>, NoMemory>
     requires { length reading.steps ≤ 512 }
     ensures { IfOk result (λ read. read ≡ with_label reading name) }
 {
-    if place_of(reading.labels.as_slice(), name.as_slice()).is_some() {
-        return Ok(None);
-    }
     let place = reading.steps.len() as u16;
-    reading.labels.push(Label { name, place })?;
-    Ok(Some(reading))
+    if reading.labels.define(name, place)? {
+        Ok(Some(reading))
+    } else {
+        Ok(None)
+    }
 }
 
 /// The number of pages, which is given once at most and before all texts.
@@ -118,21 +99,21 @@ fn add_text(mut reading: Reading, text: Text) -> Result<Option<Reading>, NoMemor
     Ok(Some(reading))
 }
 
-/// Whether the label that the step uses, if it uses one, is defined by one of the text's lines.
-fn is_aimed(step: &Step, text: &[u8]) -> bool
-    ensures { result ≡ aims (lines_of text.now) step.now }
+/// Whether the label that the step uses, if it uses one, is one of those that are defined.
+fn is_aimed(step: &Step, defined: &Names) -> bool
+    ensures { result ≡ aims (has defined.now) step.now }
 {
     match step {
         Step::Plain(_) => true,
-        Step::ToLabel { label, .. } => is_defined(text, label.as_slice()),
+        Step::ToLabel { label, .. } => defined.has(label),
     }
 }
 
 /// One more instruction.
-fn add_step(mut reading: Reading, step: Step, text: &[u8]) -> Result<Option<Reading>, NoMemory>
-    ensures value { IfOk result (λ read. read ≡ with_step (lines_of text.now) reading step) }
+fn add_step(mut reading: Reading, step: Step, defined: &Names) -> Result<Option<Reading>, NoMemory>
+    ensures value { IfOk result (λ read. read ≡ with_step (has defined.now) reading step) }
 {
-    if reading.steps.len() >= MOST_STEPS || !is_aimed(&step, text) {
+    if reading.steps.len() >= MOST_STEPS || !is_aimed(&step, defined) {
         return Ok(None);
     }
     reading.steps.push(step)?;

@@ -3,10 +3,11 @@ ghost use Rattle.program_text.specs.Words.{words_of};
 ghost use Rattle.program_text.specs.Steps.{sys_of, step_of, jump_of, of_registers, of_two, branch_named, branch_of};
 
 use super::calls::call_in;
+use super::names::Name;
 use super::operand::{operands, register};
 use super::words::{is_blank, next_word, number};
 use process_machine::{Instruction, Register};
-use sprite_ids::{Bytes, NoMemory};
+use sprite_ids::NoMemory;
 use std::alloc::Global;
 
 /// When a jump goes to its label.
@@ -26,7 +27,7 @@ pub enum Jump {
 pub enum Step {
     Plain(Instruction),
     /// A jump to the instruction behind the label.
-    ToLabel { jump: Jump, label: Bytes },
+    ToLabel { jump: Jump, label: Name },
 }
 
 /// The instruction that a line writes by its first word and what stands behind it; None exactly where it writes none.
@@ -76,7 +77,7 @@ fn jump_step(alloc: Global, name: &[u8], label: &[u8]) -> Result<Option<Step>, N
     }
     Ok(Some(Step::ToLabel {
         jump: Jump::Always,
-        label: Bytes::of_slice(alloc, label)?,
+        label: Name::of_slice(alloc, label)?,
     }))
 }
 
@@ -135,7 +136,7 @@ fn branch_step(
     };
     Ok(Some(Step::ToLabel {
         jump,
-        label: Bytes::of_slice(alloc, label)?,
+        label: Name::of_slice(alloc, label)?,
     }))
 }
 
