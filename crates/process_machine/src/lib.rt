@@ -25,6 +25,3 @@ pub use instruction::{Instruction, Operand, SyscallName};
 pub use program::{Code, PageCount, Program, Text};
 pub use register::Register;
 pub use running::{BurstEnd, burst};
-
-#[cfg(test)]
-mod tests;
