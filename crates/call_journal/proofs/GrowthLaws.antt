@@ -9,8 +9,13 @@ use Rattle.unix_calls.specs.declared.event.Rec.{Rec}
 use Rattle.unix_calls.specs.State.{Unix}
 use Rattle.unix_calls.specs.After.{state_from}
 use Rattle.call_journal.specs.Journal.{entered, journal_of}
-use Rattle.call_journal.specs.Past.{Past, state_by, past_with, past_from, no_past}
-use Rattle.call_journal.specs.Laws.{UnitsNeverFall, JournalsGrow, PastsAreTold}
+use Rattle.call_journal.specs.Past.{Past, folded_from, state_by, seen_at, seen_from, past_with, past_from, no_past}
+use Rattle.call_journal.specs.Files.{mode_step, held_step, opens_step}
+use Rattle.call_journal.specs.Formed.{issue_step}
+use Rattle.call_journal.specs.Once.{progress_step}
+use Rattle.call_journal.specs.Drops.{outdated_step, filled_step, stamp_step}
+use Rattle.call_journal.specs.Sharing.{watch_step, called_step}
+use Rattle.call_journal.specs.Laws.{UnitsNeverFall, JournalsGrow, PastsAreTold, LookBacksGrow}
 
 pub units_never_fall : UnitsNeverFall
 units_never_fall [] more = omega arith
@@ -40,5 +45,36 @@ pub records_of-past : (c : Description) (past : Past) (trace : List Rec) → (pa
 records_of-past c past [] = sym (append-nil past.records)
 records_of-past c past (rec ∷ rest) = records_of-past c (past_with c rec past) rest ∙ append_assoc past.records (rec ∷ []) rest
 
+pub seen_of-past : (c : Description) (past : Past) (trace : List Rec) → (past_from c past trace).seen ≡ past.seen ++ seen_from c past.unix trace
+seen_of-past c past [] = sym (append-nil past.seen)
+seen_of-past c past (rec ∷ rest) =
+    let later = state_by c rec.event past.unix in
+    seen_of-past c (past_with c rec past) rest ∙ append_assoc past.seen (seen_at past.unix rec later ∷ []) (seen_from c later rest)
+
 pub pasts_are_told : PastsAreTold
-pasts_are_told c trace = (records_of-past c (no_past c) trace, unix_of-past c (no_past c) trace)
+pasts_are_told c trace = record {
+  records = records_of-past c (no_past c) trace;
+  unix = unix_of-past c (no_past c) trace;
+  seen = seen_of-past c (no_past c) trace;
+}
+
+-- what a list of one item more leads to
+folded_grows : {A : Type 0} {S : Type 0} (step : List A → A → S → S) (before : List A) (s : S) (xs : List A) (x : A) → folded_from step before s (xs ++ x ∷ []) ≡ step (before ++ xs) x (folded_from step before s xs)
+folded_grows step before s [] x = ap (λ b. step b x s) (sym (append-nil before))
+folded_grows step before s (y ∷ ys) x =
+    folded_grows step (before ++ y ∷ []) (step before y s) ys x
+    ∙ ap (λ b. step b x (folded_from step (before ++ y ∷ []) (step before y s) ys)) (append_assoc before (y ∷ []) ys)
+
+pub look_backs_grow : LookBacksGrow
+look_backs_grow = record {
+  modes = λ kernel file rs r. folded_grows (mode_step kernel file) [] _ rs r;
+  stamps = λ kernel file rs r. folded_grows (stamp_step kernel file) [] _ rs r;
+  blocks = λ kernel rs r. folded_grows (held_step kernel) [] _ rs r;
+  opens = λ file rs r. folded_grows (opens_step file) [] _ rs r;
+  issues = λ pid rs r. folded_grows (issue_step pid) [] _ rs r;
+  calls = λ pid rs r. folded_grows (progress_step pid) [] _ rs r;
+  callbacks = λ file rs r. folded_grows (called_step file) [] _ rs r;
+  fills = λ kernel file block rs r. folded_grows (filled_step kernel file block) [] _ rs r;
+  versions = λ kernel file block ss s. folded_grows (outdated_step kernel file block) [] _ ss s;
+  licences = λ file ss s. folded_grows (watch_step file) [] _ ss s;
+}

@@ -67,17 +67,10 @@ abbrev pub is_unreachable_error : Option Errno → Bool
 is_unreachable_error (Some errno.Unreachable) = true
 is_unreachable_error _ = false
 
--- an open with a value, and one that truncates
-abbrev pub opens_with : Option Call → Option Reply → Bool
-opens_with (Some (call.OpenFile path flags)) (Some (Value first second bytes)) = true
-opens_with _ _ = false
-
+-- an open with a value that truncates
 abbrev pub truncates_with : Option Call → Option Reply → Bool
 truncates_with (Some (call.OpenFile path flags)) (Some (Value first second bytes)) = has_bit 8 flags
 truncates_with _ _ = false
-
-abbrev pub is_opening : Entry → Bool
-is_opening entry = opens_with entry.call entry.reply
 
 abbrev pub is_truncating : Entry → Bool
 is_truncating entry = truncates_with entry.call entry.reply

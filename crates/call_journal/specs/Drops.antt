@@ -1,6 +1,7 @@
 -- A block leaves a cache only for a cause: the cache is full, the file is cached no more, or its version is another one.
-use Rattle.std.specs.Prelude.{ℕ, ◌==◌, Bool, true, false, ◌&&◌, ◌||◌, not, if◌then◌else◌, List, [], ◌∷◌, ◌++◌, length, Option, Some, None}
+use Rattle.std.specs.Prelude.{ℕ, ◌==◌, Bool, true, false, ◌&&◌, ◌||◌, not, if◌then◌else◌, List, [], ◌∷◌, length, Option, Some, None}
 use Rattle.std.specs.List.{list_any}
+use Rattle.std.specs.Option.{is_some}
 use Rattle.sprite_ids.specs.declared.names.FileId.{FileId}
 use Rattle.sprite_ids.specs.declared.names.BlockNo.{BlockNo}
 use Rattle.unix_calls.specs.declared.description.Description.{Description}
@@ -9,11 +10,10 @@ use Rattle.unix_calls.specs.declared.event.DropCause.TheVariants as cause
 use Rattle.unix_calls.specs.declared.event.Event.{Event}
 use Rattle.unix_calls.specs.declared.event.Event.TheVariants as event
 use Rattle.unix_calls.specs.declared.event.Rec.{Rec}
-use Rattle.call_journal.specs.Past.{Past, each_record, some_then, since_last}
-use Rattle.call_journal.specs.Matching.{same_file, same_block, is_off, is_at, has_event, writes}
+use Rattle.call_journal.specs.Past.{Past, Seen, holds, folded, last_event, opening_of, each_record}
+use Rattle.call_journal.specs.Matching.{same_file, same_block, is_off, is_at, writes}
 use Rattle.call_journal.specs.Files.{mode_of, held_of}
 use Rattle.call_journal.specs.Calls.{is_truncating}
-use Rattle.call_journal.specs.Formed.{next_is}
 
 -- the block came in
 abbrev pub is_filled : FileId → BlockNo → Event → Bool
@@ -25,48 +25,52 @@ abbrev pub is_written_elsewhere : FileId → ℕ → Event → Bool
 is_written_elsewhere file kernel (event.Opened f stream k mode) = same_file f file && not (k == kernel) && writes mode
 is_written_elsewhere file kernel _ = false
 
--- the file was opened with truncation: its Opened, and directly behind it the entry of that open
-abbrev pub is_truncating_event : Event → Bool
-is_truncating_event (event.Enter entry) = is_truncating entry
-is_truncating_event _ = false
-
+-- the file was opened
 abbrev pub is_opened_of : FileId → Event → Bool
 is_opened_of file (event.Opened f stream kernel mode) = same_file f file
 is_opened_of file _ = false
 
-abbrev pub is_truncated : FileId → Rec → List Rec → Bool
-is_truncated file rec rest = is_opened_of file rec.event && next_is (has_event is_truncating_event) rest
+-- it was opened with truncation: directly behind its Opened, which is that event, the entry of that open makes a stream of a file,
+-- and truncates
+abbrev pub is_truncating_event : Event → Bool
+is_truncating_event (event.Enter entry) = is_truncating entry
+is_truncating_event _ = false
 
--- the records since the block came in at the kernel
-abbrev pub since_filled : ℕ → FileId → BlockNo → List Rec → List Rec
-since_filled kernel file block records = since_last (is_at kernel (is_filled file block)) records
+abbrev pub is_truncated : FileId → Option Event → Seen → Bool
+is_truncated file last seen = is_truncating_event seen.rec.event && is_some (opening_of seen) && holds (is_opened_of file) last
 
-abbrev pub is_outdated : ℕ → FileId → BlockNo → List Rec → Bool
-is_outdated kernel file block records =
-    some_then (λ (rec : Rec) rest. is_written_elsewhere file kernel rec.event || is_truncated file rec rest)
-    (since_filled kernel file block records)
+-- the event of the last of some records
+abbrev pub last_seen : List Seen → Option Event
+last_seen [] = None
+last_seen (seen ∷ []) = Some seen.rec.event
+last_seen (seen ∷ next ∷ rest) = last_seen (next ∷ rest)
 
--- the records before the block came in last at the kernel, from some before them on
-abbrev pub before_filled_from : ℕ → FileId → BlockNo → List Rec → List Rec → List Rec → List Rec
-before_filled_from kernel file block found before [] = found
-before_filled_from kernel file block found before (rec ∷ rest) =
-    before_filled_from kernel file block (if is_at kernel (is_filled file block) rec then before else found) (before ++ rec ∷ []) rest
+-- since the block came in at the kernel, another one opened the file for writing, or it was opened with truncation
+abbrev pub outdated_step : ℕ → FileId → BlockNo → List Seen → Seen → Bool → Bool
+outdated_step kernel file block before seen found =
+    not (is_at kernel (is_filled file block) seen.rec)
+    && (found || is_written_elsewhere file kernel seen.rec.event || is_truncated file (last_seen before) seen)
+
+abbrev pub is_outdated : ℕ → FileId → BlockNo → List Seen → Bool
+is_outdated kernel file block seen = folded (outdated_step kernel file block) false seen
+
+-- the records before the block came in last at the kernel
+abbrev pub filled_step : ℕ → FileId → BlockNo → List Rec → Rec → List Rec → List Rec
+filled_step kernel file block before rec found = if is_at kernel (is_filled file block) rec then before else found
 
 abbrev pub before_filled : ℕ → FileId → BlockNo → List Rec → List Rec
-before_filled kernel file block records = before_filled_from kernel file block [] [] records
+before_filled kernel file block records = folded (filled_step kernel file block) [] records
 
 -- the stamp of a file that a kernel took last
 abbrev pub stamp_by : FileId → Event → Option ℕ → Option ℕ
 stamp_by file (event.Mode f stamp mode) before = if same_file f file then Some stamp else before
 stamp_by file _ before = before
 
-abbrev pub stamp_from : ℕ → FileId → Option ℕ → List Rec → Option ℕ
-stamp_from kernel file stamp [] = stamp
-stamp_from kernel file stamp (rec ∷ rest) =
-    stamp_from kernel file (if rec.kernel == kernel then stamp_by file rec.event stamp else stamp) rest
+abbrev pub stamp_step : ℕ → FileId → List Rec → Rec → Option ℕ → Option ℕ
+stamp_step kernel file before rec stamp = if rec.kernel == kernel then stamp_by file rec.event stamp else stamp
 
 abbrev pub last_stamp : ℕ → FileId → List Rec → Option ℕ
-last_stamp kernel file records = stamp_from kernel file None records
+last_stamp kernel file records = folded (stamp_step kernel file) None records
 
 -- a grant or callback of the file with that stamp, to the kernel
 abbrev pub is_given : ℕ → FileId → ℕ → Event → Bool
@@ -83,39 +87,37 @@ is_taken file stamp _ = false
 abbrev pub is_never_taken : ℕ → FileId → ℕ → List Rec → Bool
 is_never_taken kernel file stamp trace = not (list_any (is_at kernel (is_taken file stamp)) trace)
 
--- the stamp of a grant of the file to the kernel
-abbrev pub granted_stamp : ℕ → FileId → Event → Option ℕ
-granted_stamp kernel file (event.Grant f to stamp mode) = if same_file f file && to == kernel then Some stamp else None
-granted_stamp kernel file _ = None
+-- a grant of the file to the kernel, which the kernel never took
+abbrev pub is_untaken : ℕ → FileId → List Rec → Event → Bool
+is_untaken kernel file trace (event.Grant f to stamp mode) = same_file f file && to == kernel && is_never_taken kernel file stamp trace
+is_untaken kernel file trace _ = false
 
+-- the kernel opened a stream of the file for writing
 abbrev pub is_opened_to_write : ℕ → FileId → Event → Bool
 is_opened_to_write kernel file (event.Opened f stream k mode) = same_file f file && k == kernel && writes mode
 is_opened_to_write kernel file _ = false
 
--- a grant that the kernel never took, and directly behind it the Opened of a stream for writing
-abbrev pub is_untaken : ℕ → FileId → List Rec → Option ℕ → List Rec → Bool
-is_untaken kernel file trace None rest = false
-is_untaken kernel file trace (Some stamp) rest =
-    next_is (has_event (is_opened_to_write kernel file)) rest && is_never_taken kernel file stamp trace
+-- since the grant or callback of a stamp, the kernel opened a stream for writing, directly behind a grant that it never took
+abbrev pub missed_step : ℕ → FileId → ℕ → List Rec → List Rec → Rec → Bool → Bool
+missed_step kernel file stamp trace before rec missed =
+    not (is_given kernel file stamp rec.event)
+    && (missed || is_opened_to_write kernel file rec.event && holds (is_untaken kernel file trace) (last_event before))
 
--- behind the grant or callback of a stamp
-abbrev pub behind_given : ℕ → FileId → Option ℕ → List Rec → List Rec
-behind_given kernel file None records = []
-behind_given kernel file (Some stamp) records = since_last (has_event (is_given kernel file stamp)) records
+abbrev pub has_missed : ℕ → FileId → Option ℕ → List Rec → List Rec → Bool
+has_missed kernel file None records trace = false
+has_missed kernel file (Some stamp) records trace = folded (missed_step kernel file stamp trace) false records
 
--- since the grant or callback of the last stamp that the kernel took before the block came in, it was granted a stream for
--- writing by a grant that it never took
+-- the stamp is the last one that the kernel took before the block came in
 abbrev pub missed_grant : ℕ → FileId → BlockNo → List Rec → List Rec → Bool
 missed_grant kernel file block records trace =
-    some_then (λ (rec : Rec) rest. is_untaken kernel file trace (granted_stamp kernel file rec.event) rest)
-    (behind_given kernel file (last_stamp kernel file (before_filled kernel file block records)) records)
+    has_missed kernel file (last_stamp kernel file (before_filled kernel file block records)) records trace
 
 -- a block is dropped for its cause: with a full cache, with the mode off, or with an old version
 abbrev pub is_cause : Description → Past → ℕ → FileId → BlockNo → List Rec → DropCause → Bool
 is_cause c past kernel file block trace cause.Full = length (held_of kernel past.records) == c.cache
 is_cause c past kernel file block trace cause.Stop = is_off (mode_of kernel file past.records)
 is_cause c past kernel file block trace cause.Version =
-    is_outdated kernel file block past.records || missed_grant kernel file block past.records trace
+    is_outdated kernel file block past.seen || missed_grant kernel file block past.records trace
 
 abbrev pub drops_well : Description → Past → ℕ → Event → List Rec → Bool
 drops_well c past kernel (event.Dropped file block cause) trace = is_cause c past kernel file block trace cause

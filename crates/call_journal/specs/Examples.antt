@@ -1,10 +1,13 @@
 -- Words for small clusters and traces.
-use Rattle.std.specs.Prelude.{ℕ, ◌+◌, true, false, List, [], ◌∷◌, ◌++◌, take, drop, Option, Some, None}
+use Rattle.std.specs.Prelude.{ℕ, ◌+◌, true, false, List, [], ◌∷◌, ◌++◌, take, drop, codes, Option, Some, None}
 use Rattle.sprite_ids.specs.declared.names.FileId.{FileId}
 use Rattle.sprite_ids.specs.declared.names.StreamNo.{StreamNo}
 use Rattle.sprite_ids.specs.declared.names.BlockNo.{BlockNo}
+use Rattle.process_machine.specs.declared.instruction.Instruction.{Instruction}
+use Rattle.process_machine.specs.declared.program.Text.{Text}
 use Rattle.process_machine.specs.declared.call.Call.{Call}
 use Rattle.process_machine.specs.declared.call.Reply.{Reply}
+use Rattle.unix_calls.specs.declared.description.Description.{Description}
 use Rattle.unix_calls.specs.declared.description.KernelLine.{KernelLine}
 use Rattle.unix_calls.specs.declared.entry.Part.TheVariants as part
 use Rattle.unix_calls.specs.declared.event.About.{About}
@@ -12,6 +15,7 @@ use Rattle.unix_calls.specs.declared.event.SendKind.{SendKind}
 use Rattle.unix_calls.specs.declared.event.Event.{Event}
 use Rattle.unix_calls.specs.declared.event.Event.TheVariants as event
 use Rattle.unix_calls.specs.declared.event.Rec.{Rec}
+use Rattle.unix_calls.specs.Examples.{program_of}
 
 -- a client of that name, and the server of the whole tree
 abbrev pub client : List ℕ → KernelLine
@@ -19,6 +23,21 @@ client name = record { name = name; serves = [] }
 
 abbrev pub server : List ℕ → KernelLine
 server name = record { name = name; serves = [] ∷ [] }
+
+-- two clients, a server that serves the whole tree with a file `/f` of two bytes, and a process of a program on the first client
+abbrev pub one_program : List Text → List Instruction → Description
+one_program texts code =
+    record {
+      version = 1;
+      budget = 1000000;
+      cache = 64;
+      kernels = client (codes "c1") ∷ client (codes "c2") ∷ server (codes "s1") ∷ [];
+      programs = record { name = codes "p"; program = program_of texts code } ∷ [];
+      starts = record { host = 1; program = 1; arg = 0 } ∷ [];
+      files = record { path = ((codes "f") ∷ []); bytes = (codes "hi"); append = false } ∷ [];
+      plan = record { entries = [] };
+      evicts = [];
+    }
 
 -- what a kernel did
 abbrev pub at : ℕ → Event → Rec

@@ -1,5 +1,5 @@
 -- What the records before a place tell of files: modes, cached blocks and opens.
-use Rattle.std.specs.Prelude.{ℕ, ◌==◌, Bool, true, false, ◌&&◌, not, if◌then◌else◌, List, [], ◌∷◌, ◌++◌, filter, map}
+use Rattle.std.specs.Prelude.{ℕ, ◌==◌, Bool, true, false, ◌&&◌, not, if◌then◌else◌, List, [], ◌∷◌, filter, map}
 use Rattle.std.specs.List.{list_any}
 use Rattle.sprite_ids.specs.declared.names.FileId.{FileId}
 use Rattle.sprite_ids.specs.declared.names.StreamNo.{StreamNo}
@@ -10,20 +10,19 @@ use Rattle.sprite_ids.specs.declared.caching.CacheMode.TheVariants as cache
 use Rattle.unix_calls.specs.declared.event.Event.{Event}
 use Rattle.unix_calls.specs.declared.event.Event.TheVariants as event
 use Rattle.unix_calls.specs.declared.event.Rec.{Rec}
-use Rattle.call_journal.specs.Matching.{same_file, same_stream, same_block, is_recall, has_event}
+use Rattle.call_journal.specs.Past.{folded}
+use Rattle.call_journal.specs.Matching.{same_file, same_stream, same_block, same_mode, is_recall, has_event}
 
 -- the mode of a file at a kernel: the one that it took last
 abbrev pub mode_by : FileId → Event → CacheMode → CacheMode
 mode_by file (event.Mode f stamp mode) before = if same_file f file then mode else before
 mode_by file _ before = before
 
-abbrev pub mode_from : ℕ → FileId → CacheMode → List Rec → CacheMode
-mode_from kernel file mode [] = mode
-mode_from kernel file mode (rec ∷ rest) =
-    mode_from kernel file (if rec.kernel == kernel then mode_by file rec.event mode else mode) rest
+abbrev pub mode_step : ℕ → FileId → List Rec → Rec → CacheMode → CacheMode
+mode_step kernel file before rec mode = if rec.kernel == kernel then mode_by file rec.event mode else mode
 
 abbrev pub mode_of : ℕ → FileId → List Rec → CacheMode
-mode_of kernel file records = mode_from kernel file cache.None records
+mode_of kernel file records = folded (mode_step kernel file) cache.None records
 
 -- a block that a kernel holds, clean or dirty
 pub record HeldBlock : Type 0 where
@@ -65,14 +64,12 @@ blocks_by kernel before (event.Mode file stamp mode) blocks =
     if list_any (has_event (is_recall_to kernel file stamp)) before then all_clean file blocks else blocks
 blocks_by kernel before _ blocks = blocks
 
-abbrev pub held_from : ℕ → List Rec → List HeldBlock → List Rec → List HeldBlock
-held_from kernel before blocks [] = blocks
-held_from kernel before blocks (rec ∷ rest) =
-    held_from kernel (before ++ rec ∷ []) (if rec.kernel == kernel then blocks_by kernel before rec.event blocks else blocks) rest
+abbrev pub held_step : ℕ → List Rec → Rec → List HeldBlock → List HeldBlock
+held_step kernel before rec blocks = if rec.kernel == kernel then blocks_by kernel before rec.event blocks else blocks
 
 -- the blocks that a kernel holds: those that came in and were not dropped since
 abbrev pub held_of : ℕ → List Rec → List HeldBlock
-held_of kernel records = held_from kernel [] [] records
+held_of kernel records = folded (held_step kernel) [] records
 
 -- whether it holds a block
 abbrev pub holds_block : ℕ → FileId → BlockNo → List Rec → Bool
@@ -84,25 +81,26 @@ pub record OpenStream : Type 0 where
   pub kernel : ℕ
   pub mode : Mode
 
--- whether it is that stream at that kernel
-abbrev pub is_opened_at : StreamNo → ℕ → OpenStream → Bool
-is_opened_at stream kernel opened = same_stream opened.stream stream && opened.kernel == kernel
+-- whether it is that stream at that kernel, with that mode
+abbrev pub is_opened_at : StreamNo → ℕ → Mode → OpenStream → Bool
+is_opened_at stream kernel mode opened = same_stream opened.stream stream && opened.kernel == kernel && same_mode opened.mode mode
 
-abbrev pub without_open : StreamNo → ℕ → List OpenStream → List OpenStream
-without_open stream kernel opens = filter (λ opened. not (is_opened_at stream kernel opened)) opens
+abbrev pub without_open : StreamNo → ℕ → Mode → List OpenStream → List OpenStream
+without_open stream kernel mode opens = filter (λ opened. not (is_opened_at stream kernel mode opened)) opens
 
--- the opens of a file after an event
+-- the opens of a file after an event: of a stream, a kernel and a mode each is there once, and is closed by its own record
 abbrev pub opens_by : FileId → Event → List OpenStream → List OpenStream
 opens_by file (event.Opened f stream kernel mode) opens =
-    if same_file f file then record { stream = stream; kernel = kernel; mode = mode } ∷ without_open stream kernel opens else opens
+    if same_file f file
+    then record { stream = stream; kernel = kernel; mode = mode } ∷ without_open stream kernel mode opens
+    else opens
 opens_by file (event.Closed f stream kernel mode) opens =
-    if same_file f file then without_open stream kernel opens else opens
+    if same_file f file then without_open stream kernel mode opens else opens
 opens_by file _ opens = opens
 
-abbrev pub opens_from : FileId → List OpenStream → List Rec → List OpenStream
-opens_from file opens [] = opens
-opens_from file opens (rec ∷ rest) = opens_from file (opens_by file rec.event opens) rest
+abbrev pub opens_step : FileId → List Rec → Rec → List OpenStream → List OpenStream
+opens_step file before rec opens = opens_by file rec.event opens
 
 -- where a file is open: what was opened and not closed since
 abbrev pub opens_of : FileId → List Rec → List OpenStream
-opens_of file records = opens_from file [] records
+opens_of file records = folded (opens_step file) [] records

@@ -33,3 +33,8 @@ pub mod SharedExample
 pub mod UnreachedExample
 pub mod KilledExample
 pub mod EvictedExample
+pub mod MovedExample
+pub mod PartedExample
+pub mod TruncatedExample
+pub mod DeviceExample
+pub mod LimitedExample

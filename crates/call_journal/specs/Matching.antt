@@ -28,6 +28,19 @@ same_stream a b = a.kernel == b.kernel && a.number == b.number
 abbrev pub same_block : FileId → BlockNo → FileId → BlockNo → Bool
 same_block file block other_file other_block = same_file file other_file && block.0 == other_block.0
 
+-- the same mode of a stream
+abbrev pub same_mode : Mode → Mode → Bool
+same_mode mode.Read mode.Read = true
+same_mode mode.Write mode.Write = true
+same_mode mode.Both mode.Both = true
+same_mode _ _ = false
+
+-- the same call, or none
+abbrev pub same_about : Option About → Option About → Bool
+same_about None None = true
+same_about (Some a) (Some b) = a.pid == b.pid && a.number == b.number
+same_about _ _ = false
+
 -- a packet goes for the sake of that call of that process
 abbrev pub is_about : ℕ → ℕ → Option About → Bool
 is_about pid number None = false

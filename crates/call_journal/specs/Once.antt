@@ -1,5 +1,5 @@
 -- Each finished call stands in the journal once, between its issue and its return, with its reply.
-use Rattle.std.specs.Prelude.{ℕ, ◌+◌, ◌==◌, Bool, true, false, ◌&&◌, List, [], ◌∷◌, Option, Some, None, map, filter, IsTrue}
+use Rattle.std.specs.Prelude.{ℕ, ◌+◌, ◌==◌, Bool, true, false, ◌&&◌, if◌then◌else◌, List, Option, Some, None, IsTrue}
 use Rattle.process_machine.specs.declared.call.Call.{Call}
 use Rattle.process_machine.specs.declared.call.Call.TheVariants as call
 use Rattle.process_machine.specs.declared.call.Reply.{Reply}
@@ -9,6 +9,7 @@ use Rattle.unix_calls.specs.declared.event.Event.{Event}
 use Rattle.unix_calls.specs.declared.event.Event.TheVariants as event
 use Rattle.unix_calls.specs.declared.event.Rec.{Rec}
 use Rattle.unix_calls.specs.Same.{same_call, same_reply}
+use Rattle.call_journal.specs.Past.{folded}
 
 -- how far a process is with its calls
 pub data Progress : Type 0 where
@@ -76,17 +77,17 @@ is_call_event pid (event.Enter entry) = entry.pid == pid
 is_call_event pid (event.Return p number reply) = p == pid
 is_call_event pid _ = false
 
-abbrev pub call_events : ℕ → List Rec → List Event
-call_events pid trace = filter (is_call_event pid) (map (λ (rec : Rec). rec.event) trace)
+-- how far a process is after such an event, where it was that far; none stays none
+abbrev pub progress_on : Option Progress → Event → Option Progress
+progress_on None event = None
+progress_on (Some progress) event = progress_after progress event
 
--- how far a process is after some events; none where one isn't in its turn
-abbrev pub progress_from : Option Progress → List Event → Option Progress
-progress_from progress [] = progress
-progress_from None (event ∷ events) = None
-progress_from (Some progress) (event ∷ events) = progress_from (progress_after progress event) events
+abbrev pub progress_step : ℕ → List Rec → Rec → Option Progress → Option Progress
+progress_step pid before rec progress = if is_call_event pid rec.event then progress_on progress rec.event else progress
 
+-- how far a process is after a trace; none where one of its events isn't in its turn
 abbrev pub progress_of : ℕ → List Rec → Option Progress
-progress_of pid trace = progress_from (Some (Between 0)) (call_events pid trace)
+progress_of pid trace = folded (progress_step pid) (Some (Between 0)) trace
 
 -- the calls of a process come in their turns
 abbrev pub is_in_turn : Option Progress → Bool

@@ -42,14 +42,28 @@ pub record Served : Type 0 where
   pub place : ℕ
   pub kernel : ℕ
 
--- what the records before a place tell: themselves, the state of the one-kernel Unix after their journal (none where it
--- is no history), where each process is, which streams are tied to which, and who serves the devices
+-- a record, and the stream that its entry makes in the one-kernel Unix, if it makes one
+pub record Seen : Type 0 where
+  pub rec : Rec
+  pub made : Option Stream
+
+-- what the records before a place tell: themselves, what each of them made, the state of the one-kernel Unix after their
+-- journal (none where it is no history), where each process is, which streams are tied to which, and who serves the devices
 pub record Past : Type 0 where
   pub records : List Rec
+  pub seen : List Seen
   pub unix : Option Unix
   pub processes : List Whereabouts
   pub ties : List Tie
   pub devices : List Served
+
+-- what a list leads to, item by item: each step sees the items before it, the first of which are those given
+abbrev pub folded_from : {A : Type 0} → {S : Type 0} → (List A → A → S → S) → List A → S → List A → S
+folded_from step before s [] = s
+folded_from step before s (x ∷ rest) = folded_from step (before ++ x ∷ []) (step before x s) rest
+
+abbrev pub folded : {A : Type 0} → {S : Type 0} → (List A → A → S → S) → S → List A → S
+folded step s xs = folded_from step [] s xs
 
 -- the whereabouts of a process among those of all
 abbrev pub whereabouts_of : List Whereabouts → ℕ → Option Whereabouts
@@ -87,11 +101,17 @@ abbrev pub state_by : Description → Event → Option Unix → Option Unix
 state_by c (event.Enter entry) u = option_and_then (λ v. after c v entry) u
 state_by c _ u = u
 
--- the event of the last of some records
+-- the event of the last of some records, and of the last but one
 abbrev pub last_event : List Rec → Option Event
 last_event [] = None
 last_event (rec ∷ []) = Some rec.event
 last_event (rec ∷ next ∷ rest) = last_event (next ∷ rest)
+
+abbrev pub event_before_last : List Rec → Option Event
+event_before_last [] = None
+event_before_last (rec ∷ []) = None
+event_before_last (rec ∷ next ∷ []) = Some rec.event
+event_before_last (rec ∷ next ∷ third ∷ rest) = event_before_last (next ∷ third ∷ rest)
 
 -- the tie of a stream that an entry made, by the event directly before it
 abbrev pub tie_to : ℕ → Object → Option Event → List Tie
@@ -111,6 +131,40 @@ ties_to place (Some stream) before = tie_to place stream.object before
 abbrev pub entry_count : Option Unix → ℕ
 entry_count None = 0
 entry_count (Some u) = u.entries
+
+-- the stream that an event makes, in the state that it leads to
+abbrev pub made_by : ℕ → Event → Option Unix → Option Stream
+made_by place (event.Enter entry) later = stream_made place later
+made_by place _ later = None
+
+abbrev pub seen_at : Option Unix → Rec → Option Unix → Seen
+seen_at u rec later = record { rec = rec; made = made_by (entry_count u) rec.event later }
+
+-- some records with what each of them makes, from a state on; all of a trace
+abbrev pub seen_from : Description → Option Unix → List Rec → List Seen
+seen_from c u [] = []
+seen_from c u (rec ∷ rest) = seen_at u rec (state_by c rec.event u) ∷ seen_from c (state_by c rec.event u) rest
+
+abbrev pub seen_of : Description → List Rec → List Seen
+seen_of c trace = seen_from c (Some (boot_of c)) trace
+
+-- whether a stream is one of a file
+abbrev pub is_of_file : Object → Bool
+is_of_file (OfFile name) = true
+is_of_file object = false
+
+-- the stream of a file that a record makes, if it makes one
+abbrev pub file_stream : Option Stream → Option Stream
+file_stream None = None
+file_stream (Some stream) = if is_of_file stream.object then Some stream else None
+
+abbrev pub opening_of : Seen → Option Stream
+opening_of seen = file_stream seen.made
+
+-- the stream of a file that the first of some records makes, which stand behind a state
+abbrev pub opening_behind : Description → Option Unix → List Rec → Option Stream
+opening_behind c u [] = None
+opening_behind c u (rec ∷ rest) = opening_of (seen_at u rec (state_by c rec.event u))
 
 abbrev pub ties_by : Past → Option Unix → Event → List Tie
 ties_by past later (event.Enter entry) =
@@ -134,13 +188,14 @@ at_homes ps = map (λ (p : Process). record { pid = p.pid; kernel = home_of p.pi
 
 abbrev pub no_past : Description → Past
 no_past c =
-    record { records = []; unix = Some (boot_of c); processes = at_homes (boot_of c).processes; ties = []; devices = [] }
+    record { records = []; seen = []; unix = Some (boot_of c); processes = at_homes (boot_of c).processes; ties = []; devices = [] }
 
 -- one record later
 abbrev pub past_at : Rec → Past → Option Unix → Past
 past_at rec past later =
     record {
       records = past.records ++ rec ∷ [];
+      seen = past.seen ++ seen_at past.unix rec later ∷ [];
       unix = later;
       processes = moved_by rec.kernel rec.event past.processes;
       ties = ties_by past later rec.event;

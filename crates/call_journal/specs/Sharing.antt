@@ -1,8 +1,7 @@
 -- A kernel stops caching a file only where the file is shared for writing, or truncated while it is open.
-use Rattle.std.specs.Prelude.{ℕ, ◌==◌, Bool, true, false, ◌&&◌, ◌||◌, not, if◌then◌else◌, List, [], ◌∷◌, ◌++◌, nat_lt, length, Option, Some, None}
+use Rattle.std.specs.Prelude.{ℕ, ◌==◌, Bool, true, false, ◌&&◌, ◌||◌, not, if◌then◌else◌, List, [], ◌∷◌, nat_lt, length, Option, Some, None}
 use Rattle.std.specs.List.{list_any}
 use Rattle.sprite_ids.specs.declared.names.FileId.{FileId}
-use Rattle.sprite_ids.specs.declared.names.StreamNo.{StreamNo}
 use Rattle.process_machine.specs.declared.call.Call.{Call}
 use Rattle.process_machine.specs.declared.call.Call.TheVariants as call
 use Rattle.unix_calls.specs.declared.description.Description.{Description}
@@ -10,10 +9,10 @@ use Rattle.unix_calls.specs.declared.entry.Entry.{Entry}
 use Rattle.unix_calls.specs.declared.event.Event.{Event}
 use Rattle.unix_calls.specs.declared.event.Event.TheVariants as event
 use Rattle.unix_calls.specs.declared.event.Rec.{Rec}
-use Rattle.call_journal.specs.Past.{Past, Tie, tied, each_record}
-use Rattle.call_journal.specs.Matching.{same_file, same_stream, is_off, is_stop, has_event, writes}
+use Rattle.call_journal.specs.Past.{Past, Seen, Tie, folded, seen_from, tied, each_record}
+use Rattle.call_journal.specs.Matching.{same_file, is_off, is_stop, has_event, writes}
 use Rattle.call_journal.specs.Files.{OpenStream, opens_by}
-use Rattle.call_journal.specs.Formed.{next_is}
+use Rattle.call_journal.specs.Formed.{is_closed_of}
 use Rattle.call_journal.specs.Drops.{is_opened_of, is_truncated}
 
 -- a grant Off, or a stop, of that file and stamp to the kernel
@@ -32,64 +31,80 @@ is_written_beside opens a = writes a.mode && list_any (is_other_kernel a) opens
 abbrev pub is_write_shared : List OpenStream → Bool
 is_write_shared opens = list_any (is_written_beside opens) opens
 
--- an Opened of the file, and directly behind it a Closed of the same stream: a move
-abbrev pub is_closed_of : FileId → StreamNo → Event → Bool
-is_closed_of file stream (event.Closed f s kernel mode) = same_file f file && same_stream s stream
-is_closed_of file stream _ = false
+-- a Closed of an Opened's stream directly behind it: the move is done there
+abbrev pub is_leaving : FileId → Option Event → Event → Bool
+is_leaving file (Some (event.Opened f stream kernel mode)) event = same_file f file && is_closed_of file stream event
+is_leaving file _ event = false
 
-abbrev pub is_moving_open : FileId → Event → List Rec → Bool
-is_moving_open file (event.Opened f stream kernel mode) rest = same_file f file && next_is (has_event (is_closed_of file stream)) rest
-is_moving_open file _ rest = false
-
--- a stream of the file is shared
+-- a stream of the file became shared
 abbrev pub is_sharing : FileId → Event → Bool
 is_sharing file (event.Shared f stream) = same_file f file
 is_sharing file _ = false
 
--- a record is a licence to stop: behind it the file is shared for writing, and it is no move on its way; or a stream is shared; or
--- the file is opened with truncation while it is open
-abbrev pub is_licence : FileId → List OpenStream → List OpenStream → Rec → List Rec → Bool
-is_licence file opens later rec rest =
-    (is_write_shared later && not (is_moving_open file rec.event rest)) || is_sharing file rec.event
-    || (nat_lt 0 (length opens) && is_truncated file rec rest)
+-- what is known of a file at a place: where it is open, whether it was open before the last record, that record's event, and
+-- whether a licence to stop its caching stands since it was open nowhere
+pub record Watch : Type 0 where
+  pub opens : List OpenStream
+  pub was_open : Bool
+  pub last : Option Event
+  pub is_licensed : Bool
 
--- some record of a stretch is, where the file is open so before it
-abbrev pub is_licensed : FileId → List OpenStream → List Rec → Bool
-is_licensed file opens [] = false
-is_licensed file opens (rec ∷ rest) =
-    is_licence file opens (opens_by file rec.event opens) rec rest || is_licensed file (opens_by file rec.event opens) rest
+-- before a record the file is shared for writing, and it isn't a move on its way
+abbrev pub is_shared_before : FileId → Watch → Event → Bool
+is_shared_before file s event = is_write_shared s.opens && not (is_leaving file s.last event)
 
--- the records since the file was last open nowhere
-abbrev pub since_closed_from : FileId → List OpenStream → List Rec → List Rec → List Rec
-since_closed_from file opens kept [] = kept
-since_closed_from file opens kept (rec ∷ rest) =
-    since_closed_from file (opens_by file rec.event opens)
-    (if length (opens_by file rec.event opens) == 0 then [] else kept ++ rec ∷ []) rest
+-- a record is the entry of an open that truncates the file, which was open before its Opened
+abbrev pub is_truncated_open : FileId → Watch → Seen → Bool
+is_truncated_open file s seen = s.was_open && is_truncated file s.last seen
 
-abbrev pub since_closed : FileId → List Rec → List Rec
-since_closed file records = since_closed_from file [] [] records
+-- a record is a licence: a stream becomes shared, or the file is truncated while it is open; or the file was shared for writing
+-- before it
+abbrev pub is_licence : FileId → Watch → Seen → Bool
+is_licence file s seen =
+    is_shared_before file s seen.rec.event || is_sharing file seen.rec.event || is_truncated_open file s seen
 
--- behind an Opened: the Closed of a move, or the entry of an open
-abbrev pub belongs_to_open : Event → Bool
-belongs_to_open (event.Closed file stream kernel mode) = true
-belongs_to_open (event.Enter entry) = true
-belongs_to_open _ = false
+-- the same, one record later; where the file is open nowhere no licence stands
+abbrev pub watch_by : FileId → Watch → Seen → List OpenStream → Watch
+watch_by file s seen opens =
+    record {
+      opens = opens;
+      was_open = nat_lt 0 (length s.opens);
+      last = Some seen.rec.event;
+      is_licensed = nat_lt 0 (length opens) && (s.is_licensed || is_licence file s seen);
+    }
 
-abbrev pub with_next : List Rec → List Rec
-with_next [] = []
-with_next (rec ∷ rest) = if belongs_to_open rec.event then rec ∷ [] else []
+abbrev pub watch_step : FileId → List Seen → Seen → Watch → Watch
+watch_step file before seen s = watch_by file s seen (opens_by file seen.rec.event s.opens)
 
--- the records up to the next Opened of the file, and what belongs to it
-abbrev pub up_to_opened : FileId → List Rec → List Rec
-up_to_opened file [] = []
-up_to_opened file (rec ∷ rest) = if is_opened_of file rec.event then rec ∷ with_next rest else rec ∷ up_to_opened file rest
+abbrev pub no_watch : Watch
+no_watch = record { opens = []; was_open = false; last = None; is_licensed = false }
 
--- the stretch about a place: from where the file was last open nowhere, to the next Opened of it
-abbrev pub stretch : FileId → List Rec → Rec → List Rec → List Rec
-stretch file before rec rest = since_closed file before ++ rec ∷ up_to_opened file rest
+abbrev pub watch_of : FileId → List Seen → Watch
+watch_of file seen = folded (watch_step file) no_watch seen
 
-abbrev pub has_licence : Description → FileId → List Rec → Rec → List Rec → Bool
-has_licence c file before rec rest = c.cache == 0 || is_licensed file [] (stretch file before rec rest)
+-- a licence stands at the next Opened of the file: behind it the file is shared for writing; where a move's Closed stands directly
+-- behind it, behind that; or the entry of that open truncates
+abbrev pub is_licensed_behind : FileId → Watch → List Seen → Bool
+is_licensed_behind file s [] = is_write_shared s.opens
+is_licensed_behind file s (seen ∷ rest) =
+    if is_leaving file s.last seen.rec.event
+    then is_write_shared (opens_by file seen.rec.event s.opens)
+    else is_write_shared s.opens || is_truncated_open file s seen
+
+-- a licence stands up to the next Opened of the file, or the end
+abbrev pub is_licensed_on : FileId → Watch → List Seen → Bool
+is_licensed_on file s [] = is_write_shared s.opens
+is_licensed_on file s (seen ∷ rest) =
+    is_licence file s seen
+    || (if is_opened_of file seen.rec.event
+    then is_licensed_behind file (watch_step file [] seen s) rest
+    else is_licensed_on file (watch_step file [] seen s) rest)
+
+-- a licence stands between where the file was last open nowhere and the next Opened of it
+abbrev pub has_licence : Description → Past → FileId → Rec → List Rec → Bool
+has_licence c past file rec rest =
+    c.cache == 0 || (watch_of file past.seen).is_licensed
+    || is_licensed_on file (watch_of file past.seen) (seen_from c past.unix (rec ∷ rest))
 
 -- a stop that no open of the file follows needs none
 abbrev pub is_opened_later : FileId → List Rec → Bool
@@ -101,12 +116,11 @@ called_by file (event.Callback f to stamp kind) before = same_file f file || bef
 called_by file (event.Opened f stream kernel mode) before = not (same_file f file) && before
 called_by file _ before = before
 
-abbrev pub called_from : FileId → Bool → List Rec → Bool
-called_from file called [] = called
-called_from file called (rec ∷ rest) = called_from file (called_by file rec.event called) rest
+abbrev pub called_step : FileId → List Rec → Rec → Bool → Bool
+called_step file before rec called = called_by file rec.event called
 
 abbrev pub is_called_back : FileId → List Rec → Bool
-is_called_back file records = called_from file false records
+is_called_back file records = folded (called_step file) false records
 
 -- the descriptor of an operation that may enter at a file's server
 abbrev pub operation_on : Option Call → Option ℕ
@@ -129,9 +143,9 @@ abbrev pub stops_well : Description → Past → Rec → ℕ → Event → List 
 stops_well c past rec kernel (event.Mode file stamp mode) rest =
     if is_off mode then list_any (has_event (turns_off file kernel stamp)) past.records else true
 stops_well c past rec kernel (event.Grant file to stamp mode) rest =
-    if is_off mode then has_licence c file past.records rec rest else true
+    if is_off mode then has_licence c past file rec rest else true
 stops_well c past rec kernel (event.Callback file to stamp kind) rest =
-    if is_stop kind && is_opened_later file rest then has_licence c file past.records rec rest else true
+    if is_stop kind && is_opened_later file rest then has_licence c past file rec rest else true
 stops_well c past rec kernel (event.Enter entry) rest =
     is_waited_for past kernel (tie_of_operation past entry (operation_on entry.call))
 stops_well c past rec kernel _ rest = true

@@ -42,9 +42,11 @@ kills_well past entry None rest = true
 kills_well past entry (Some pid) rest =
     if is_first_kill past.records pid then is_told_at entry pid (place_of past pid) rest else true
 
--- at that kernel a request with that number is taken, where the process is
+-- at that kernel a request with that number is taken for the first time, where the process is
 abbrev pub is_met : Past → ℕ → ℕ → ℕ → Rec → Bool
-is_met past pid kernel tx rec = is_at kernel (is_request tx) rec && holds (λ at. at == kernel) (place_of past pid)
+is_met past pid kernel tx rec =
+    is_at kernel (is_request tx) rec && holds (λ at. at == kernel) (place_of past pid)
+    && not (list_any (is_at kernel (is_request tx)) past.records)
 
 -- a send of the home about that kill to the kernel, which was taken where the process was
 abbrev pub is_met_send : Description → Past → ℕ → ℕ → Entry → Rec → Event → List Rec → Bool

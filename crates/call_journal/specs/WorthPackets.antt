@@ -1,8 +1,9 @@
 -- Packets go and come for a cause: few deliveries a sending, a resend only behind a loss, no more faults than packets, and an end of
 -- the tries.
-use Rattle.std.specs.Prelude.{ℕ, ◌+◌, ◌*◌, ◌==◌, Bool, true, false, ◌&&◌, not, if◌then◌else◌, List, [], ◌∷◌, nat_le, count_by, Option, Some, None}
+use Rattle.std.specs.Prelude.{ℕ, ◌+◌, ◌-◌, ◌*◌, ◌==◌, Bool, true, false, ◌&&◌, not, if◌then◌else◌, List, [], ◌∷◌, nat_le, length, slice_get, count_by, Option, Some, None}
 use Rattle.std.specs.List.{list_any, list_all}
 use Rattle.unix_calls.specs.declared.description.Description.{Description}
+use Rattle.unix_calls.specs.declared.description.KernelLine.{KernelLine}
 use Rattle.unix_calls.specs.declared.event.About.{About}
 use Rattle.unix_calls.specs.declared.event.SendKind.{SendKind}
 use Rattle.unix_calls.specs.declared.event.SendKind.TheVariants as send
@@ -81,27 +82,35 @@ abbrev pub is_other_send_about : About → ℕ → Event → Bool
 is_other_send_about call to (event.Send t s about kind) = is_about call.pid call.number about && s == to && is_other_kind kind
 is_other_send_about call to _ = false
 
--- the first send of a name call to that server, from the kernel of its process: an echo; no send about the call went there before
-abbrev pub is_echo_for : Past → ℕ → ℕ → Option About → Bool
-is_echo_for past kernel to None = false
-is_echo_for past kernel to (Some about) =
-    holds is_name_call (issued_call about.pid about.number past.records)
+-- whether a kernel is a server: one that serves a domain
+abbrev pub is_server_line : KernelLine → Bool
+is_server_line line = not (length line.serves == 0)
+
+abbrev pub is_server : Description → ℕ → Bool
+is_server c kernel = nat_le 1 kernel && holds is_server_line (slice_get c.kernels (kernel - 1))
+
+-- the first send of a name call to that server, from the kernel of its process: an echo; that kernel sent none about the call there
+-- before. To a client no echo goes
+abbrev pub is_echo_for : Description → Past → ℕ → ℕ → Option About → Bool
+is_echo_for c past kernel to None = false
+is_echo_for c past kernel to (Some about) =
+    is_server c to && holds is_name_call (issued_call about.pid about.number past.records)
     && holds (λ at. at == kernel) (kernel_of past about.pid)
     && not (list_any (is_at kernel (is_other_send_about about to)) past.records)
 
-abbrev pub is_limited_kind : Past → ℕ → ℕ → Option About → SendKind → Bool
-is_limited_kind past kernel to about (send.Broadcast prefix) = true
-is_limited_kind past kernel to about send.Other = is_echo_for past kernel to about
-is_limited_kind past kernel to about _ = false
+abbrev pub is_limited_kind : Description → Past → ℕ → ℕ → Option About → SendKind → Bool
+is_limited_kind c past kernel to about (send.Broadcast prefix) = true
+is_limited_kind c past kernel to about send.Other = is_echo_for c past kernel to about
+is_limited_kind c past kernel to about _ = false
 
-abbrev pub is_limited_send : Past → ℕ → ℕ → Event → Bool
-is_limited_send past kernel tx (event.Send t to about kind) = t.0 == tx && is_limited_kind past kernel to about kind
-is_limited_send past kernel tx _ = false
+abbrev pub is_limited_send : Description → Past → ℕ → ℕ → Event → Bool
+is_limited_send c past kernel tx (event.Send t to about kind) = t.0 == tx && is_limited_kind c past kernel to about kind
+is_limited_send c past kernel tx _ = false
 
 -- a number whose tries are eight: an echo or a broadcast
 abbrev pub is_limited : Description → Past → ℕ → ℕ → Bool
 is_limited c past kernel tx =
-    some_record c (λ earlier r rest. r.kernel == kernel && is_limited_send earlier kernel tx r.event) past.records
+    some_record c (λ earlier r rest. r.kernel == kernel && is_limited_send c earlier kernel tx r.event) past.records
 
 -- of these the eighth is the last
 abbrev pub ends_at_eight : ℕ → Bool → Bool
@@ -113,17 +122,17 @@ expires_well c past kernel tx last =
     && (if is_limited c past kernel tx then ends_at_eight (count_by (is_at kernel (is_expire tx)) past.records + 1) last else true)
 
 -- an echo to that server for the sake of the call was given up
-abbrev pub is_given_up_echo : Past → ℕ → About → ℕ → Event → List Rec → Bool
-is_given_up_echo earlier kernel call to (event.Send t s about send.Other) rest =
-    is_about call.pid call.number about && s == to && is_echo_for earlier kernel to about
+abbrev pub is_given_up_echo : Description → Past → ℕ → About → ℕ → Event → List Rec → Bool
+is_given_up_echo c earlier kernel call to (event.Send t s about send.Other) rest =
+    is_about call.pid call.number about && s == to && is_echo_for c earlier kernel to about
     && list_any (is_at kernel (is_last_expire t.0)) rest
-is_given_up_echo earlier kernel call to _ rest = false
+is_given_up_echo c earlier kernel call to _ rest = false
 
 -- then nothing goes there any more for its sake
 abbrev pub is_sent_well : Description → Past → ℕ → Option About → Bool
 is_sent_well c past to None = true
 is_sent_well c past to (Some call) =
-    not (some_record c (λ earlier r rest. is_given_up_echo earlier r.kernel call to r.event rest) past.records)
+    not (some_record c (λ earlier r rest. is_given_up_echo c earlier r.kernel call to r.event rest) past.records)
 
 abbrev pub packets_well : Description → Past → ℕ → Event → Bool
 packets_well c past kernel (event.Expire tx last) = expires_well c past kernel tx.0 last

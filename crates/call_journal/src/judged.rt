@@ -31,6 +31,11 @@ ghost use Rattle.call_journal.specs.SharedExample.{shared_cluster, shared_trace,
 ghost use Rattle.call_journal.specs.UnreachedExample.{unreached_cluster, unreached_trace, seven_lost_trace, nothing_lost_trace, four_tries_trace};
 ghost use Rattle.call_journal.specs.KilledExample.{killed_cluster, killed_trace, unheeded_kill_trace, unkilled_trace, early_death_trace};
 ghost use Rattle.call_journal.specs.EvictedExample.{evicted_cluster, evicted_trace, stays_trace, frozen_trace, strayed_trace, frozen_twice_trace};
+ghost use Rattle.call_journal.specs.MovedExample.{moved_cluster, moved_trace, unleft_trace, target_closed_trace, other_source_trace, other_mode_trace, unopened_move_trace, open_mode_trace, strange_number_trace, open_elsewhere_trace, fetch_about_trace, broadcast_about_trace, split_broadcast_trace, other_mode_closed_trace};
+ghost use Rattle.call_journal.specs.PartedExample.{parted_cluster, parted_trace, parent_closed_trace, unparted_trace, shared_by_open_trace, other_shared_trace, operation_about_trace};
+ghost use Rattle.call_journal.specs.TruncatedExample.{truncated_cluster, truncated_trace, untruncated_trace, dropped_late_trace, undropped_trace};
+ghost use Rattle.call_journal.specs.DeviceExample.{device_cluster, device_trace, device_opened_trace, device_dropped_trace};
+ghost use Rattle.call_journal.specs.LimitedExample.{limited_cluster, tries_to_client, tries_to_server, sent_on_to_client, killed_away, killed_there};
 
 /// A file is read twice, the second time from the cache.
 pub fn reads_from_the_cache()
@@ -91,6 +96,44 @@ pub fn heeds_an_eviction()
     ensures worth { Worth evicted_cluster evicted_trace }
 {}
 
+/// A process moves to another client, and takes its open stream along.
+pub fn moves_with_a_stream()
+    ensures legal { legal moved_cluster (journal_of moved_trace) ≡ true }
+    ensures formed { formed moved_cluster moved_trace ≡ true }
+    ensures once { once_of 1001 moved_trace ≡ true }
+    ensures rules { KeepsRules moved_cluster moved_trace }
+    ensures worth { Worth moved_cluster moved_trace }
+{}
+
+/// A child moves to another client, and shares a stream with its parent, which stays.
+pub fn parts_from_its_parent()
+    ensures legal { legal parted_cluster (journal_of parted_trace) ≡ true }
+    ensures formed { formed parted_cluster parted_trace ≡ true }
+    ensures parent { once_of 1001 parted_trace ≡ true }
+    ensures child { once_of 1002 parted_trace ≡ true }
+    ensures rules { KeepsRules parted_cluster parted_trace }
+    ensures worth { Worth parted_cluster parted_trace }
+{}
+
+/// A file that is open is opened again with truncation: nobody caches it any more, and its blocks may go.
+pub fn stops_for_a_truncation()
+    ensures legal { legal truncated_cluster (journal_of truncated_trace) ≡ true }
+    ensures formed { formed truncated_cluster truncated_trace ≡ true }
+    ensures once { once_of 1001 truncated_trace ≡ true }
+    ensures rules { KeepsRules truncated_cluster truncated_trace }
+    ensures worth { Worth truncated_cluster truncated_trace }
+    ensures dropped { blocks_are_dropped_for_a_cause truncated_cluster dropped_late_trace ≡ true }
+{}
+
+/// A process makes a device and opens it.
+pub fn opens_a_device()
+    ensures legal { legal device_cluster (journal_of device_trace) ≡ true }
+    ensures formed { formed device_cluster device_trace ≡ true }
+    ensures once { once_of 1001 device_trace ≡ true }
+    ensures rules { KeepsRules device_cluster device_trace }
+    ensures worth { Worth device_cluster device_trace }
+{}
+
 /// A read that sees a byte which isn't in the file is no history.
 pub fn no_wrong_byte()
     ensures { legal cached_cluster (journal_of wrong_byte_trace) ≡ false }
@@ -104,6 +147,60 @@ pub fn no_death_without_kill()
 /// A stream is not opened without a grant.
 pub fn no_open_without_grant()
     ensures { formed cached_cluster ungranted_trace ≡ false }
+{}
+
+/// An open of a device is none of the file whose Opened stands before it: no stream of the file is opened by it, no file is
+/// truncated by it, no caching stops and no block goes for it.
+pub fn no_file_opened_by_a_device()
+    ensures formed { formed device_cluster device_opened_trace ≡ false }
+    ensures moved { records_are_worth device_cluster device_opened_trace ≡ false }
+    ensures licence { caching_stops_only_for_sharing device_cluster device_opened_trace ≡ false }
+    ensures version { blocks_are_dropped_for_a_cause device_cluster device_dropped_trace ≡ false }
+{}
+
+/// A file that is opened without truncation isn't truncated.
+pub fn no_truncation_without_its_flag()
+    ensures licence { caching_stops_only_for_sharing truncated_cluster untruncated_trace ≡ false }
+    ensures version { blocks_are_dropped_for_a_cause truncated_cluster undropped_trace ≡ false }
+{}
+
+/// A stream that moves is closed at its source, and nowhere else; it was opened before, and keeps its mode.
+pub fn no_move_without_its_source()
+    ensures unleft { formed moved_cluster unleft_trace ≡ false }
+    ensures target { formed moved_cluster target_closed_trace ≡ false }
+    ensures source { formed moved_cluster other_source_trace ≡ false }
+    ensures mode { formed moved_cluster other_mode_trace ≡ false }
+    ensures unopened { formed moved_cluster unopened_move_trace ≡ false }
+{}
+
+/// An open gives a stream of its call's mode with a number of its own kernel, and enters at the file's server.
+pub fn no_open_of_another_stream()
+    ensures mode { formed moved_cluster open_mode_trace ≡ false }
+    ensures number { formed moved_cluster strange_number_trace ≡ false }
+    ensures server { formed moved_cluster open_elsewhere_trace ≡ false }
+{}
+
+/// A stream becomes shared for the move of that very stream, and its source isn't closed then.
+pub fn no_sharing_without_a_move()
+    ensures closed { formed parted_cluster parent_closed_trace ≡ false }
+    ensures unparted { formed parted_cluster unparted_trace ≡ false }
+    ensures opened { formed parted_cluster shared_by_open_trace ≡ false }
+    ensures other { formed parted_cluster other_shared_trace ≡ false }
+{}
+
+/// A request for a block and a broadcast carry no call, an operation carries its own; a number goes for one call.
+pub fn no_packet_about_another_call()
+    ensures fetch { formed moved_cluster fetch_about_trace ≡ false }
+    ensures broadcast { formed moved_cluster broadcast_about_trace ≡ false }
+    ensures operation { formed parted_cluster operation_about_trace ≡ false }
+    ensures split { formed moved_cluster split_broadcast_trace ≡ false }
+{}
+
+/// Tries end at eight where they go to a server, and there alone.
+pub fn limits_tries_to_servers()
+    ensures server { expires_are_worth limited_cluster tries_to_server ≡ false }
+    ensures client { expires_are_worth limited_cluster tries_to_client ≡ true }
+    ensures sent { expires_are_worth limited_cluster sent_on_to_client ≡ true }
 {}
 
 /// A call is not entered before its issue, nor twice; it returns with the reply that was entered; no process dies inside a call.
@@ -184,8 +281,9 @@ pub fn no_made_up_packets()
     ensures early { sends_are_worth cached_cluster early_send_trace ≡ false }
 {}
 
-/// Stamps rise, and what is frozen is not frozen again.
+/// Stamps rise, what is frozen is not frozen again, and a stream is closed with the mode that it was opened with.
 pub fn no_made_up_records()
+    ensures mode { records_are_worth moved_cluster other_mode_closed_trace ≡ false }
     ensures stamp { records_are_worth cached_cluster same_stamp_trace ≡ false }
     ensures frozen { records_are_worth evicted_cluster frozen_twice_trace ≡ false }
 {}
@@ -195,7 +293,9 @@ pub fn no_made_up_write_back()
     ensures { caches_are_worth synced_cluster unsent_trace ≡ false }
 {}
 
-/// A killed process issues no call at its home.
+/// A killed process issues no call at its home, nor where it was when its kernel first took word of the kill.
 pub fn no_kill_ignored()
-    ensures { kills_are_heeded killed_cluster unheeded_kill_trace ≡ false }
+    ensures there { kills_are_heeded limited_cluster killed_there ≡ false }
+    ensures later { kills_are_heeded limited_cluster killed_away ≡ true }
+    ensures home { kills_are_heeded killed_cluster unheeded_kill_trace ≡ false }
 {}

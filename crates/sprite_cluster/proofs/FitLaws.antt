@@ -43,7 +43,7 @@ fits_more_from c (x ∷ xs) ys past h k =
 -- what a process has before its next call, where a trace leaves it
 due_is : (c : Description) (trace : List Rec) (u : Unix) (k : Kept) (base : Machine) (p : Program) → state_of c (journal_of trace) ≡ Some u → process_at u.processes k.pid ≡ Some (process_of k base) → program_at c.programs base.number ≡ Some p → due_in c (past_of c trace) k.pid ≡ distance p base
 due_is c trace u k base p state there found =
-    ap (λ o. option_and_then (distance_of c) (option_and_then (λ (v : Unix). process_at v.processes k.pid) o)) ((pasts_are_told c trace).1 ∙ state)
+    ap (λ o. option_and_then (distance_of c) (option_and_then (λ (v : Unix). process_at v.processes k.pid) o)) ((pasts_are_told c trace).unix ∙ state)
     ∙ ap (option_and_then (distance_of c)) there
     ∙ ap (option_and_then (λ program. distance program base)) found
 
@@ -51,7 +51,7 @@ due_is c trace u k base p state there found =
 pub burst_fits : (c : Description) (trace : List Rec) (u : Unix) (k : Kept) (base image : Machine) (p : Program) (ran count : ℕ) → state_of c (journal_of trace) ≡ Some u → process_at u.processes k.pid ≡ Some (process_of k base) → program_at c.programs base.number ≡ Some p → done_since_entry k.pid trace ≡ ran → ahead p base (ran + count) ≡ Some image → IsTrue (each_record c (λ past rec rest. count_fits c past rec.event) trace) → IsTrue (each_record c (λ past rec rest. count_fits c past rec.event) (trace ++ at_home k.pid (Burst k.pid count) ∷ []))
 burst_fits c trace u k base image p ran count state there found done leads h =
     let past = past_of c trace in
-    let before : done_since_entry k.pid past.records ≡ ran = ap (done_since_entry k.pid) (pasts_are_told c trace).0 ∙ done in
+    let before : done_since_entry k.pid past.records ≡ ran = ap (done_since_entry k.pid) (pasts_are_told c trace).records ∙ done in
     let fits : count_fits c past (Burst k.pid count) ≡ true = ap₂ (λ n due. is_at_most (n + count) due) before (due_is c trace u k base p state there found) ∙ at_most_within p call_bound (ran + count) base image leads in
     fits_more_from c trace (at_home k.pid (Burst k.pid count) ∷ []) (no_past c) h (and_from (count_fits c past (Burst k.pid count)) true fits refl)
 
@@ -63,7 +63,7 @@ returned_fits c (Some end) past pid number called reply h = and_from (count_fits
 pub call_fits : (c : Description) (trace : List Rec) (u : Unix) (k : Kept) (base : Machine) (p : Program) (ran number : ℕ) (called : Call) (reply : Reply) (end : Option Ending) → state_of c (journal_of trace) ≡ Some u → process_at u.processes k.pid ≡ Some (process_of k base) → program_at c.programs base.number ≡ Some p → done_since_entry k.pid trace ≡ ran → ahead p base ran ≡ Some k.image → Stops p k.image → IsTrue (each_record c (λ past rec rest. count_fits c past rec.event) trace) → IsTrue (each_record c (λ past rec rest. count_fits c past rec.event) (trace ++ (entered_records k.pid number called reply ++ returned_records end k.pid number reply)))
 call_fits c trace u k base p ran number called reply end state there found done leads stops h =
     let past = past_of c trace in
-    let before : done_since_entry k.pid past.records ≡ ran = ap (done_since_entry k.pid) (pasts_are_told c trace).0 ∙ done in
+    let before : done_since_entry k.pid past.records ≡ ran = ap (done_since_entry k.pid) (pasts_are_told c trace).records ∙ done in
     let fits : count_fits c past (Issue k.pid number called) ≡ true = ap₂ is_exactly before (due_is c trace u k base p state there found) ∙ exactly_within p call_bound ran base k.image leads stops in
     fits_more_from c trace (entered_records k.pid number called reply ++ returned_records end k.pid number reply) (no_past c) h (returned_fits c end past k.pid number called reply fits)
 

@@ -1,5 +1,5 @@
 -- Turns of a trace that grows.
-use Rattle.std.proofs.Common.{◌≡◌, ℕ, ◌+◌, ◌==◌, ◌&&◌, Bool, true, false, IsTrue, List, [], ◌∷◌, ◌++◌, Option, Some, None, map, filter, refl, ap, sym, subst, ◌∙◌, arith}
+use Rattle.std.proofs.Common.{◌≡◌, ℕ, ◌+◌, ◌==◌, ◌&&◌, Bool, true, false, cond, IsTrue, List, [], ◌∷◌, ◌++◌, Option, Some, None, map, filter, refl, ap, sym, subst, ◌∙◌, arith}
 use Rattle.std.proofs.lemmas.Bool.Decides.{nat_tests}
 use Rattle.std.proofs.lemmas.List.{map-append}
 use Rattle.std.proofs.lemmas.List.Elements.{filter-append}
@@ -12,13 +12,24 @@ use Rattle.unix_calls.specs.declared.event.Event.TheVariants.{Burst, Issue, Ente
 use Rattle.unix_calls.specs.declared.event.Rec.{Rec}
 use Rattle.unix_calls.specs.Same.{same_call, same_reply}
 use Rattle.unix_calls.proofs.SameLaws.{call_same, reply_same}
-use Rattle.call_journal.specs.Once.{Progress, Between, Issued, Entered, if_so, over_after, progress_after, is_in_turn, is_call_event, call_events, progress_from, progress_of, once_of, Once}
+use Rattle.call_journal.specs.Once.{Progress, Between, Issued, Entered, if_so, over_after, progress_after, is_in_turn, is_call_event, progress_on, progress_step, progress_of, once_of, Once}
+use Rattle.call_journal.specs.Past.{folded_from}
 use Rattle.call_journal.specs.Units.{units_of}
 use Rattle.sprite_cluster.specs.Answers.{ending_of}
 use Rattle.sprite_cluster.specs.Turns.{at_home, whole_entry, entered_records, returned_records, call_records}
 
 pub same_number : (n : ℕ) → n == n ≡ true
 same_number n = grind (arith, nat_tests)
+
+-- the events of a process's calls, one after another
+abbrev pub call_events : ℕ → List Rec → List Event
+call_events pid trace = filter (is_call_event pid) (map (λ (rec : Rec). rec.event) trace)
+
+-- how far a process is after some of these; none where one isn't in its turn
+abbrev pub progress_from : Option Progress → List Event → Option Progress
+progress_from progress [] = progress
+progress_from None (event ∷ events) = None
+progress_from (Some progress) (event ∷ events) = progress_from (progress_after progress event) events
 
 progress_from-none : (xs : List Event) → progress_from None xs ≡ None
 progress_from-none [] = refl
@@ -33,11 +44,28 @@ call_events-append : (pid : ℕ) (t u : List Rec) → call_events pid (t ++ u) �
 call_events-append pid t u =
     ap (filter (is_call_event pid)) (map-append (λ (rec : Rec). rec.event) t u) ∙ filter-append (is_call_event pid) (map (λ (rec : Rec). rec.event) t) (map (λ (rec : Rec). rec.event) u)
 
+-- it is told by these alone
+told_by : (b : Bool) (s : Option Progress) (e : Event) (es : List Event) → progress_from (cond b (progress_on s e) s) es ≡ progress_from s (cond b (e ∷ es) es)
+told_by true None e es = progress_from-none es
+told_by true (Some s) e es = refl
+told_by false s e es = refl
+
+told_from : (pid : ℕ) (earlier : List Rec) (s : Option Progress) (trace : List Rec) → folded_from (progress_step pid) earlier s trace ≡ progress_from s (call_events pid trace)
+told_from pid earlier s [] = refl
+told_from pid earlier s (rec ∷ rest) =
+    let own = is_call_event pid rec.event in
+    told_from pid (earlier ++ rec ∷ []) (cond own (progress_on s rec.event) s) rest ∙ told_by own s rec.event (call_events pid rest)
+
+progress_is : (pid : ℕ) (trace : List Rec) → progress_of pid trace ≡ progress_from (Some (Between 0)) (call_events pid trace)
+progress_is pid trace = told_from pid [] (Some (Between 0)) trace
+
 -- how far a process is, after a trace with more records
 pub progress_more : (pid : ℕ) (trace more : List Rec) → progress_of pid (trace ++ more) ≡ progress_from (progress_of pid trace) (call_events pid more)
 progress_more pid trace more =
-    ap (progress_from (Some (Between 0))) (call_events-append pid trace more)
+    progress_is pid (trace ++ more)
+    ∙ ap (progress_from (Some (Between 0))) (call_events-append pid trace more)
     ∙ progress_from-append (Some (Between 0)) (call_events pid trace) (call_events pid more)
+    ∙ ap (λ s. progress_from s (call_events pid more)) (sym (progress_is pid trace))
 
 -- it is as far as it was, where none of them is about its calls
 pub progress_stays : (pid : ℕ) (trace more : List Rec) → call_events pid more ≡ [] → progress_of pid (trace ++ more) ≡ progress_of pid trace

@@ -43,7 +43,7 @@ written_at : (c : Description) (past : Past) (kernel : ℕ) (e : Event) (rest : 
 written_at c past kernel (event.Burst pid count) rest q local = refl
 written_at c past kernel (event.Issue pid number called) rest q local = refl
 written_at c past kernel (event.Enter entry) rest q local =
-    ap (opens_well c past entry) (no_stream (entry_count past.unix) (state_by c (event.Enter entry) past.unix) (event_bare c kernel (event.Enter entry) past.unix local q.bare))
+    ap (opens_well c past kernel entry) (no_stream (entry_count past.unix) (state_by c (event.Enter entry) past.unix) (event_bare c kernel (event.Enter entry) past.unix local q.bare))
 written_at c past kernel (event.Return pid number reply) rest q local = refl
 written_at c past kernel _ rest q local = absurd local
 

@@ -25,7 +25,6 @@ use Rattle.unix_calls.specs.Boot.{boot_of}
 use Rattle.unix_calls.specs.After.{after, state_from, state_of}
 use Rattle.unix_calls.proofs.HistoryLaws.{state_from-append}
 use Rattle.call_journal.specs.Journal.{journal_of}
-use Rattle.call_journal.specs.Once.{progress_from, call_events}
 use Rattle.call_journal.specs.Units.{units_of}
 use Rattle.call_journal.specs.WorthBursts.{done_since_entry}
 use Rattle.call_journal.specs.Calls.{error_in, is_unreachable_error}
@@ -43,7 +42,7 @@ use Rattle.sprite_cluster.proofs.AnswerLaws.{answer_reached}
 use Rattle.sprite_cluster.proofs.EntryLaws.{after_is}
 use Rattle.sprite_cluster.proofs.BurstLaws.{own_burst, other_burst, own_call, other_call}
 use Rattle.sprite_cluster.proofs.FitLaws.{burst_fits, call_fits, whole_more, full_whole, called_whole}
-use Rattle.sprite_cluster.proofs.HistoryLaws.{progress_more, progress_stays, no_events, own_progress, once_called, once_ran, differ, units_more}
+use Rattle.sprite_cluster.proofs.HistoryLaws.{call_events, progress_from, progress_more, progress_stays, no_events, own_progress, once_called, once_ran, differ, units_more}
 use Rattle.sprite_cluster.proofs.KeptLaws.{kept_at, Stay, carried_set, rises_set, set_again}
 
 -- the cluster with another process at a place, other counts and a longer trace

@@ -1,5 +1,5 @@
 -- A trace of local records has no packets, no blocks, no opens and no kills, so all of it is worth its units but for its bursts.
-use Rattle.std.proofs.Common.{◌≡◌, ℕ, ◌+◌, ◌*◌, ◌==◌, ◌&&◌, nat_le, not, Bool, true, false, cond, IsTrue, List, [], ◌∷◌, Some, None, count_by, refl, ap, ap₂, ◌∙◌, arith}
+use Rattle.std.proofs.Common.{◌≡◌, ℕ, ◌+◌, ◌*◌, ◌==◌, ◌&&◌, nat_le, not, Bool, true, false, cond, IsTrue, List, [], ◌∷◌, Option, Some, None, count_by, refl, ap, ap₂, ◌∙◌, arith}
 use Rattle.std.specs.List.{AllByRecursion, list_any, list_all}
 use Rattle.std.proofs.lemmas.Bool.{and_from, and_right, or_from, le-leb}
 use Rattle.std.proofs.lemmas.List.Sums.{sum_by-cons}
@@ -10,13 +10,14 @@ use Rattle.unix_calls.specs.declared.description.Description.{Description}
 use Rattle.unix_calls.specs.declared.event.Event.{Event}
 use Rattle.unix_calls.specs.declared.event.Event.TheVariants as event
 use Rattle.unix_calls.specs.declared.event.Rec.{Rec}
-use Rattle.call_journal.specs.Past.{Past, each_record}
+use Rattle.unix_calls.specs.State.{Unix}
+use Rattle.unix_calls.specs.Boot.{boot_of}
+use Rattle.call_journal.specs.Past.{Past, state_by, seen_from, seen_of, each_record}
 use Rattle.call_journal.specs.Matching.{is_at, has_event, is_any_fetch}
 use Rattle.call_journal.specs.Calls.{kills_with, is_kill_of}
-use Rattle.call_journal.specs.Formed.{next_is}
 use Rattle.call_journal.specs.WorthPackets.{delivers_few, deliveries_are_few, packets_well, expires_are_worth}
 use Rattle.call_journal.specs.WorthSends.{sends_well, is_free_send, is_occasion, sends_are_worth}
-use Rattle.call_journal.specs.WorthRecords.{is_made_of, is_open_entry, is_any_opened, is_any_freeze, moved_opens, records_are_worth}
+use Rattle.call_journal.specs.WorthRecords.{is_made_of, is_opening_next, is_any_opened, is_any_freeze, moved_opens, records_are_worth}
 use Rattle.call_journal.specs.WorthCaches.{caches_well, is_any_filled, is_any_dirtied, is_motive, are_few_at, is_moderate, caches_are_worth}
 use Rattle.call_journal.specs.WorthKills.{killed_by, kills_well, knows_kill, heeds_kills, kills_are_heeded}
 use Rattle.sprite_cluster.specs.Answers.{IsBuilt}
@@ -105,15 +106,17 @@ no_opened c kernel (event.Enter entry) local = refl
 no_opened c kernel (event.Return pid number reply) local = refl
 no_opened c kernel _ local = absurd local
 
-no_moved_opens : (c : Description) (trace : List Rec) → AllByRecursion (IsLocal c) trace → moved_opens trace ≡ 0
-no_moved_opens c [] local = refl
-no_moved_opens c (rec ∷ rest) local =
-    ap₂ (λ b n. cond (b && not (next_is (has_event is_open_entry) rest)) 1 0 + n) (no_opened c rec.kernel rec.event local.0) (no_moved_opens c rest local.1)
+no_moved_opens : (c : Description) (u : Option Unix) (trace : List Rec) → AllByRecursion (IsLocal c) trace → moved_opens (seen_from c u trace) ≡ 0
+no_moved_opens c u [] local = refl
+no_moved_opens c u (rec ∷ rest) local =
+    let later = state_by c rec.event u in
+    ap₂ (λ b n. cond (b && not (is_opening_next (seen_from c later rest))) 1 0 + n) (no_opened c rec.kernel rec.event local.0) (no_moved_opens c later rest local.1)
 
 pub local_records : (c : Description) (trace : List Rec) → AllByRecursion (IsLocal c) trace → IsTrue (records_are_worth c trace)
 local_records c trace local =
+    let few = moved_opens (seen_of c trace) in
     let most = 16 * count_by (has_event is_any_freeze) trace in
-    and_from (each_record c (λ past rec rest. is_made_of c past rec.kernel rec.event) trace) (nat_le (moved_opens trace) most) (each_local c (λ past rec rest. is_made_of c past rec.kernel rec.event) trace (λ past rec rest q t. made_at c past rec.kernel rec.event t) local) (none_few (moved_opens trace) most (no_moved_opens c trace local))
+    and_from (each_record c (λ past rec rest. is_made_of c past rec.kernel rec.event) trace) (nat_le few most) (each_local c (λ past rec rest. is_made_of c past rec.kernel rec.event) trace (λ past rec rest q t. made_at c past rec.kernel rec.event t) local) (none_few few most (no_moved_opens c (Some (boot_of c)) trace local))
 
 -- ---- caches
 
