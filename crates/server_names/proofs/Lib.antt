@@ -1,2 +1,4 @@
+pub mod DirectoryLaws
 pub mod ListingLaws
 pub mod WalkLaws
+pub mod WayLaws

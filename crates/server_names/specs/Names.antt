@@ -1,9 +1,10 @@
 -- The names of one domain, below its root.
-use Rattle.std.specs.Prelude.{◌≡◌, ℕ, ◌+◌, ◌-◌, ◌==◌, nat_lt, nat_eq, Bool, true, false, ◌&&◌, if◌then◌else◌, List, [], ◌∷◌, ◌++◌, length, take, fold, slice_get, Option, Some, None, Result, Ok, Err}
-use Rattle.std.specs.List.{count_by, flat_map, starts_with}
+use Rattle.std.specs.Prelude.{◌≡◌, ℕ, ◌+◌, ◌-◌, ◌==◌, nat_lt, nat_eq, Bool, true, false, if◌then◌else◌, List, [], ◌∷◌, ◌++◌, length, take, slice_get, Option, Some, None, Result, Ok, Err}
+use Rattle.std.specs.List.{flat_map}
 use Rattle.std.specs.List.Sorted.{IsPermutation, IsSorted}
 use Rattle.std.specs.Ordering.{nat_cmp}
-use Rattle.std.specs.Map.{keys_of, lookup, remove_entry}
+use Rattle.std.specs.Map.{keys_of, lookup, remove_entry, set_value}
+use Rattle.indexmap.specs.IndexMap.{insert_entry}
 use Rattle.std.specs.Cmp.Lexicographic.{pointwise, slice_cmp}
 use Rattle.sprite_ids.specs.declared.Errno.TheVariants.{NoEntry, Exists, NotDir, IsDir, NotEmpty, TooMany, Busy}
 use Rattle.server_names.specs.declared.end.NameEnd.{NameEnd}
@@ -13,33 +14,76 @@ use Rattle.server_names.specs.declared.name.Node.TheVariants.{Dir, File, Device}
 use Rattle.server_names.specs.declared.name.Entry.{Entry}
 use Rattle.server_names.specs.declared.name.Entry.TheVariants.{Node as Named, Link}
 
--- the names in the order in which they were made, each with its entry
+-- the entries of a directory in the order in which they were made, each with its name
+abbrev pub Listed : Type 0
+Listed = List (List ℕ × Entry)
+
+-- the directories that had entries, each by its path, in the order of their first ones
 abbrev pub Tree : Type 0
-Tree = List (List (List ℕ) × Entry)
+Tree = List (List (List ℕ) × Listed)
 
 -- whether the two are one path
 abbrev pub is_at : List (List ℕ) → List (List ℕ) → Bool
 is_at path other = pointwise (pointwise nat_eq) path other
 
--- the entry of that name
-abbrev pub entry_at : Tree → List (List ℕ) → Option Entry
-entry_at tree path = lookup (is_at path) tree
+-- whether the two are one name
+abbrev pub is_part : List ℕ → List ℕ → Bool
+is_part part other = pointwise nat_eq part other
+
+-- looked-up entries, or none
+abbrev pub or_empty : Option Listed → Listed
+or_empty (Some entries) = entries
+or_empty None = []
+
+-- the entries of a directory
+abbrev pub entries_in : Tree → List (List ℕ) → Listed
+entries_in tree directory = or_empty (lookup (is_at directory) tree)
+
+-- the entry of that name in a directory
+abbrev pub entry_in : Tree → List (List ℕ) → List ℕ → Option Entry
+entry_in tree directory part = lookup (is_part part) (entries_in tree directory)
 
 -- the directory that has the path's last part
 abbrev pub parent : List (List ℕ) → List (List ℕ)
 parent path = take (length path - 1) path
 
--- whether the path is one of an entry of that directory
-abbrev pub is_child : List (List ℕ) → List (List ℕ) → Bool
-is_child directory path = (length path == length directory + 1) && starts_with (pointwise nat_eq) path directory
+-- a looked-up part, or no bytes
+abbrev pub or_none : Option (List ℕ) → List ℕ
+or_none (Some part) = part
+or_none None = []
 
--- the paths of all names
-abbrev pub paths : Tree → List (List (List ℕ))
-paths tree = keys_of tree
+-- the last part of a path
+abbrev pub last_of : List (List ℕ) → List ℕ
+last_of parts = or_none (slice_get parts (length parts - 1))
+
+-- the entry of that path
+abbrev pub entry_at : Tree → List (List ℕ) → Option Entry
+entry_at tree path = entry_in tree (parent path) (last_of path)
+
+-- whether the entry has that name
+abbrev pub is_listed : List ℕ → List ℕ × Entry → Bool
+is_listed part listed = is_part part listed.0
+
+-- the entries of a looked-up directory, or none
+abbrev pub or_first : Option (List (List ℕ) × Listed) → Listed
+or_first (Some directory) = directory.1
+or_first None = []
+
+-- the entries of the directory at a place
+abbrev pub listed_at : Tree → ℕ → Listed
+listed_at tree at = or_first (slice_get tree at)
 
 -- how many entries a directory has
 abbrev pub count : Tree → List (List ℕ) → ℕ
-count tree directory = count_by (is_child directory) (paths tree)
+count tree directory = length (entries_in tree directory)
+
+-- the directories with one more entry in one of them, behind its others
+abbrev pub listed : Tree → List (List ℕ) → List ℕ → Entry → Tree
+listed tree directory part entry = insert_entry is_at tree directory (entries_in tree directory ++ (part, entry) ∷ [])
+
+-- the directories without that entry of one of them
+abbrev pub unlisted : Tree → List (List ℕ) → List ℕ → Tree
+unlisted tree directory part = set_value (is_at directory) tree (remove_entry (is_part part) (entries_in tree directory))
 
 -- the first of two, and the second where it is Ok
 abbrev pub goes_on : {A : Type 0} → Result (Unit {0}) NameEnd → Result A NameEnd → Result A NameEnd
@@ -57,29 +101,7 @@ passed (Some (Link path)) = Err (Redirect path)
 -- a walk from there on by these parts
 abbrev pub walked : Tree → List (List ℕ) → List (List ℕ) → Result (Unit {0}) NameEnd
 walked tree here [] = Ok tt
-walked tree here (part ∷ rest) = goes_on (passed (entry_at tree (here ++ part ∷ []))) (walked tree (here ++ part ∷ []) rest)
-
--- the names with one more behind them, where a looked-up one isn't there
-abbrev pub adding : Tree → List (List ℕ) → Entry → Option Entry → Tree
-adding tree path entry None = tree ++ (path, entry) ∷ []
-adding tree path entry (Some known) = tree
-
--- the names with one more behind them, where it isn't there
-abbrev pub added : Tree → List (List ℕ) → Entry → Tree
-added tree path entry = adding tree path entry (entry_at tree path)
-
--- the names with the directories on a way from there on
-abbrev pub with_way : Tree → List (List ℕ) → List (List ℕ) → Tree
-with_way tree here [] = tree
-with_way tree here (part ∷ rest) = with_way (added tree (here ++ part ∷ []) (Named Dir)) (here ++ part ∷ []) rest
-
--- the names with a remote link, and the directories above it
-abbrev pub hung : Tree → List (List ℕ) → Tree
-hung tree path = if length path == 0 then with_way tree [] (parent path) else added (with_way tree [] (parent path)) path (Link path)
-
--- the names with these remote links
-abbrev pub hung_all : Tree → List (List (List ℕ)) → Tree
-hung_all tree links = fold hung tree links
+walked tree here (part ∷ rest) = goes_on (passed (entry_in tree here part)) (walked tree (here ++ part ∷ []) rest)
 
 -- what a looked-up entry names
 abbrev pub named : Option Entry → Result Node NameEnd
@@ -105,9 +127,13 @@ roomy tree directory = if nat_lt (count tree directory) 256 then Ok tt else Err 
 abbrev pub make_answer : Tree → List (List ℕ) → Result (Unit {0}) NameEnd
 make_answer tree path = if length path == 0 then Err (Refused Exists) else goes_on (walked tree [] (parent path)) (goes_on (freed (entry_at tree path)) (roomy tree (parent path)))
 
+-- the names with one more entry
+abbrev pub put : Tree → List (List ℕ) → Entry → Tree
+put tree path entry = listed tree (parent path) (last_of path) entry
+
 -- the names after one was made
 abbrev pub made : Tree → List (List ℕ) → Node → Tree
-made tree path node = tree ++ (path, Named node) ∷ []
+made tree path node = put tree path (Named node)
 
 -- whether a node can be taken away: a directory only as one and without entries, any other node only as none
 abbrev pub removable : Tree → List (List ℕ) → Bool → Node → Result Node NameEnd
@@ -129,7 +155,7 @@ remove_answer tree path directory = if length path == 0 then Err (Refused (if di
 
 -- the names without that one
 abbrev pub removed : Tree → List (List ℕ) → Tree
-removed tree path = remove_entry (is_at path) tree
+removed tree path = unlisted (remove_entry (is_at path) tree) (parent path) (last_of path)
 
 -- whether a node can be renamed
 abbrev pub renamable : Node → Result (Unit {0}) NameEnd
@@ -161,7 +187,7 @@ rename_answer tree old new = done (renamed_node tree old new)
 
 -- the names after one was renamed
 abbrev pub renamed : Tree → List (List ℕ) → List (List ℕ) → Node → Tree
-renamed tree old new node = removed (made tree new node) old
+renamed tree old new node = unlisted (made tree new node) (parent old) (last_of old)
 
 -- a name was renamed: the node that the old one named has the new one
 pub record IsRenamed (before after : Tree) (old new : List (List ℕ)) : Type 0 where
@@ -187,19 +213,9 @@ Answers (Err (Refused errno)) wanted = wanted ≡ Err (Refused errno)
 Answers (Err (Redirect path)) wanted = wanted ≡ Err (Redirect path)
 Answers (Err NoMemory) wanted = Unit {0}
 
--- a looked-up part, or no bytes
-abbrev pub or_none : Option (List ℕ) → List ℕ
-or_none (Some part) = part
-or_none None = []
-
--- the last part of a name
-abbrev pub last_of : List (List ℕ) → List ℕ
-last_of parts = or_none (slice_get parts (length parts - 1))
-
 -- the names of a directory's entries, in the order in which they were made
 abbrev pub names_in : Tree → List (List ℕ) → List (List ℕ)
-names_in [] directory = []
-names_in (first ∷ rest) directory = if is_child directory first.0 then last_of first.0 ∷ names_in rest directory else names_in rest directory
+names_in tree directory = keys_of (entries_in tree directory)
 
 -- each of the names, with a byte 10 behind it
 abbrev pub lines : List (List ℕ) → List ℕ
@@ -211,3 +227,34 @@ pub record IsListing (tree : Tree) (directory : List (List ℕ)) (text : List �
   pub same : IsPermutation (names_in tree directory) names
   pub sorted : IsSorted (slice_cmp nat_cmp) names
   pub text_is : text ≡ lines names
+
+-- what a step gave, and then what the next one makes of it
+abbrev pub and_then : Result Tree NameEnd → (Tree → Result Tree NameEnd) → Result Tree NameEnd
+and_then (Ok tree) next = next tree
+and_then (Err end) next = Err end
+
+-- the names after an entry was made, where it can be
+abbrev pub entry_made : Tree → List (List ℕ) → Entry → Result Tree NameEnd
+entry_made tree path entry = goes_on (make_answer tree path) (Ok (put tree path entry))
+
+-- what making a directory on a way gave: one that is there serves
+abbrev pub on_way : Tree → Result Tree NameEnd → Result Tree NameEnd
+on_way tree (Ok next) = Ok next
+on_way tree (Err NoMemory) = Err NoMemory
+on_way tree (Err (Redirect path)) = Err (Redirect path)
+on_way tree (Err (Refused Exists)) = Ok tree
+on_way tree (Err (Refused errno)) = Err (Refused errno)
+
+-- the names with the directories on a way from there on
+abbrev pub with_way : Tree → List (List ℕ) → List (List ℕ) → Result Tree NameEnd
+with_way tree here [] = Ok tree
+with_way tree here (part ∷ rest) = and_then (on_way tree (entry_made tree (here ++ part ∷ []) (Named Dir))) (λ next. with_way next (here ++ part ∷ []) rest)
+
+-- the names with an entry, and with the directories above it
+abbrev pub booted : Tree → List (List ℕ) → Entry → Result Tree NameEnd
+booted tree path entry = and_then (with_way tree [] (parent path)) (λ next. entry_made next path entry)
+
+-- the names with these remote links, and with the directories above them
+abbrev pub hung_all : Tree → List (List (List ℕ)) → Result Tree NameEnd
+hung_all tree [] = Ok tree
+hung_all tree (link ∷ links) = and_then (booted tree link (Link link)) (λ next. hung_all next links)

@@ -1,7 +1,9 @@
-//! The names of one domain at its server: a map from paths to directories, files and devices, with a remote link where
-//! another domain hangs (Welch and Ousterhout 1986).
+//! The names of one domain at its server: directories with their entries, which name directories, files and devices, with a
+//! remote link where another domain hangs (Welch and Ousterhout 1986).
 #![tactic(auto)]
 
+mod answers;
+mod directories;
 mod end;
 mod name;
 mod names;
@@ -9,6 +11,3 @@ mod names;
 pub use end::NameEnd;
 pub use name::{Entry, Name, Node};
 pub use names::Names;
-
-#[cfg(test)]
-mod tests;

@@ -1,24 +1,21 @@
-ghost use Rattle.std.specs.Prelude.{◌≡◌, ◌≤◌, ◌<◌, ◌++◌, ◌∷◌, [], map, None, Option, IfOk, IfErr, OnOk, OnErr, IsTrue, length, option_map};
-ghost use Rattle.server_names.specs.Names.{parent, is_child, count, count_answer, entry_at, passed, walked, named, freed, found, roomy, make_answer, made, remove_answer, removed, rename_answer, rename_target, renamed_node, done, names_in, last_of, lines, hung, hung_all, with_way, added, Answers, IsRenamed, IsListing};
+ghost use Rattle.std.specs.Prelude.{◌≡◌, [], map, Ok, IfOk, OnOk, OnErr};
+ghost use Rattle.server_names.specs.Names.{count_answer, found, make_answer, made, remove_answer, removed, rename_answer, done, lines, booted, with_way, entry_made, on_way, hung_all, Answers, IsRenamed, IsListing};
 
+use crate::directories::{Directories, last_of, parent};
 use crate::end::NameEnd;
 use crate::name::{Entry, Name, Node};
-use indexmap::IndexMap;
 use sprite_ids::{Bytes, Copying, Errno, NoMemory};
 use sprite_paths::Path;
 use std::alloc::Global;
 use std::marker::Model;
 
-/// The most entries of a directory (this project).
-const ENTRIES: usize = 256;
-
 /// The names of one domain. Paths are those below its root, so the root of the domain is the path with no parts, which is
-/// a directory and no entry. Contracts see the other names, in the order in which they were made, with what each of them
-/// names.
+/// a directory and no entry. Contracts see the directories that had entries, each with its entries in the order in which
+/// they were made.
 #[derive(Debug, Drop)]
 pub struct Names {
     alloc: Global,
-    nodes: IndexMap<Name, Entry>,
+    tree: Directories,
 }
 
 impl Model for Names {
@@ -26,24 +23,42 @@ impl Model for Names {
 
     ghost Value = { Tree };
 
-    ghost view = { λ names. names.nodes.entries };
+    ghost view = { λ names. names.tree };
 }
 
 impl Names {
     /// The names of a domain in which others hang at these paths below its root: a remote link at each of them, and the
-    /// directories above it. A link whose path is the root, or is there already, is left out. The one error is want of
-    /// memory.
-    pub fn new(alloc: Global, links: Vec<Path>) -> Result<Names, NoMemory>
-        ensures { IfOk result (λ names. names ≡ hung_all [] links.items) }
+    /// directories above it.
+    ///
+    /// A remote link hangs directly in a directory. So Exists comes where a link's path is the root, is there twice or is
+    /// one above another link, Redirect where it lies below another link, and TooMany where a directory would have more
+    /// than 256 entries (this project).
+    pub fn new(alloc: Global, links: &[Path]) -> Result<Names, NameEnd>
+        ensures answer { Answers (done result) (done (hung_all [] links.now)) }
+        ensures ok { IfOk result (λ names. hung_all [] links.now ≡ Ok names) }
     {
         let mut names = Names {
             alloc,
-            nodes: IndexMap::new(alloc),
+            tree: Directories::new(alloc),
         };
-        for link in &links {
-            names.hang(link)?;
+        for link in links {
+            if let Err(end) = names.hang(link) {
+                return Err(end);
+            }
         }
         Ok(names)
+    }
+
+    /// Makes the name with the directories above it that aren't there, as at boot.
+    ///
+    /// The error is the first of those that `make` has for a directory at each path above the name, Exists left out, and
+    /// for the name. After an error the directories that were made stay.
+    pub fn boot(&mut self, path: &Path, node: Node) -> Result<(), NameEnd>
+        ensures answer { Answers result (done (booted self.old path.now (Entry.Node node))) }
+        ensures ok { OnOk result (booted self.old path.now (Entry.Node node) ≡ Ok self.new) }
+    {
+        self.make_way(parent(path.parts()))?;
+        self.enter(path.parts(), Entry::Node(node))
     }
 
     /// What the path names. NoEntry comes exactly where a part of it is missing, NotDir where a part before the last is no
@@ -51,12 +66,7 @@ impl Names {
     pub fn find(&self, path: &Path) -> Result<Node, NameEnd>
         ensures { Answers result (found self.now path.now) }
     {
-        if path.len() == 0 {
-            return Ok(Node::Dir);
-        }
-        self.walk(path)?;
-        let name = Name::of(self.alloc, path.parts())?;
-        named(self.alloc, self.entry(&name))
+        self.tree.find(path.parts())
     }
 
     /// Makes the name. Exists comes where it is there, or is the root; NoEntry, NotDir and Redirect come as in `find`, and
@@ -67,9 +77,9 @@ impl Names {
         ensures ok { OnOk result (self.new ≡ made self.old path.now node) }
         ensures err { OnErr result (self.new ≡ self.old) }
     {
-        self.makeable(path)?;
-        let name = Name::of(self.alloc, path.parts())?;
-        self.put(name, Entry::Node(node))?;
+        let path = path.parts();
+        self.tree.makeable(path)?;
+        self.tree.put(path, Entry::Node(node))?;
         Ok(())
     }
 
@@ -83,9 +93,12 @@ impl Names {
         ensures ok { OnOk result (self.new ≡ removed self.old path.now) }
         ensures err { OnErr result (self.new ≡ self.old) }
     {
-        let node = self.removable(path, directory)?;
-        let name = Name::of(self.alloc, path.parts())?;
-        self.nodes.shift_remove(&name);
+        let path = path.parts();
+        let node = self.tree.removable(path, directory)?;
+        let name = Name::of(self.alloc, path)?;
+        let above = Name::of(self.alloc, parent(path))?;
+        self.tree.forget(&name);
+        self.tree.take(&above, last_of(path));
         Ok(node)
     }
 
@@ -99,11 +112,12 @@ impl Names {
         ensures ok { OnOk result (IsRenamed self.old self.new old.now new.now) }
         ensures err { OnErr result (self.new ≡ self.old) }
     {
-        let node = self.renamable(old, new)?;
-        let from = Name::of(self.alloc, old.parts())?;
-        let to = Name::of(self.alloc, new.parts())?;
-        self.put(to, Entry::Node(node))?;
-        self.nodes.shift_remove(&from);
+        let old = old.parts();
+        let new = new.parts();
+        let node = self.tree.renamable(old, new)?;
+        let above = Name::of(self.alloc, parent(old))?;
+        self.tree.put(new, Entry::Node(node))?;
+        self.tree.take(&above, last_of(old));
         Ok(())
     }
 
@@ -113,8 +127,9 @@ impl Names {
         ensures refused { Answers (done result) (done (count_answer self.now path.now)) }
         ensures text { IfOk result (λ text. IsListing self.now path.now text.items) }
     {
-        self.count(path)?;
-        let mut names = self.names_in(path.parts())?;
+        self.tree.count(path.parts())?;
+        let directory = Name::of(self.alloc, path.parts())?;
+        let mut names = self.tree.names_in(&directory)?;
         names.sort()?;
         Ok(lines(self.alloc, names.as_slice())?)
     }
@@ -123,238 +138,53 @@ impl Names {
     pub fn count(&self, path: &Path) -> Result<usize, NameEnd>
         ensures { Answers result (count_answer self.now path.now) }
     {
-        match self.find(path)? {
-            Node::Dir => Ok(self.count_in(path.parts())),
-            Node::File(_) | Node::Device(_) => Err(NameEnd::Errno(Errno::NotDir)),
-        }
+        self.tree.count(path.parts())
     }
 
-    // Whether the name can be made.
-    fn makeable(&self, path: &Path) -> Result<(), NameEnd>
-        ensures { Answers result (make_answer self.now path.now) }
+    // Makes a remote link with the directories above it.
+    fn hang(&mut self, link: &Path) -> Result<(), NameEnd>
+        ensures answer { Answers result (done (booted self.old link.now (Entry.Link link.now))) }
+        ensures ok { OnOk result (booted self.old link.now (Entry.Link link.now) ≡ Ok self.new) }
     {
-        if path.len() == 0 {
-            return Err(NameEnd::Errno(Errno::Exists));
-        }
-        self.walk(path)?;
-        self.free(path)?;
-        self.roomy(parent(path))
+        self.make_way(parent(link.parts()))?;
+        self.enter(link.parts(), Entry::Link(link.copy(self.alloc)?))
     }
 
-    // Whether the name is free.
-    fn free(&self, path: &Path) -> Result<(), NameEnd>
-        ensures { Answers result (freed (entry_at self.now path.now)) }
-    {
-        let name = Name::of(self.alloc, path.parts())?;
-        freed(self.alloc, self.entry(&name))
-    }
-
-    // Whether the directory takes one more entry.
-    fn roomy(&self, directory: &[Bytes]) -> Result<(), NameEnd>
-        ensures { Answers result (roomy self.now directory.now) }
-    {
-        if self.count_in(directory) < ENTRIES {
-            Ok(())
-        } else {
-            Err(NameEnd::Errno(Errno::TooMany))
-        }
-    }
-
-    // How many entries the directory has.
-    fn count_in(&self, directory: &[Bytes]) -> usize
-        ensures { result ≡ count self.now directory.now }
-    {
-        self.nodes
-            .keys()
-            .filter(|name| is_child(name, directory))
-            .count()
-    }
-
-    // The names of the directory's entries.
-    fn names_in(&self, directory: &[Bytes]) -> Result<Vec<Vec<u8>>, NoMemory>
-        ensures { IfOk result (λ names. map (λ name. name.items) names.items ≡ names_in self.now directory.now) }
-    {
-        let mut names = Vec::new(self.alloc);
-        for at in 0..self.nodes.len() {
-            if let Some((name, _)) = self.nodes.get_index(at) {
-                if is_child(name, directory) {
-                    names.push(last_of(self.alloc, name)?)?;
-                }
-            }
-        }
-        Ok(names)
-    }
-
-    // What can be taken away.
-    fn removable(&self, path: &Path, directory: bool) -> Result<Node, NameEnd>
-        ensures { Answers result (remove_answer self.now path.now directory) }
-    {
-        if path.len() == 0 {
-            let errno = if directory { Errno::Busy } else { Errno::IsDir };
-            return Err(NameEnd::Errno(errno));
-        }
-        let node = self.find(path)?;
-        match (node, directory) {
-            (Node::Dir, true) if self.count_in(path.parts()) == 0 => Ok(node),
-            (Node::Dir, true) => Err(NameEnd::Errno(Errno::NotEmpty)),
-            (_, true) => Err(NameEnd::Errno(Errno::NotDir)),
-            (Node::Dir, false) => Err(NameEnd::Errno(Errno::IsDir)),
-            (_, false) => Ok(node),
-        }
-    }
-
-    // What can be given the new name.
-    fn renamable(&self, old: &Path, new: &Path) -> Result<Node, NameEnd>
-        ensures { Answers result (renamed_node self.now old.now new.now) }
-    {
-        let node = self.find(old)?;
-        if node == Node::Dir {
-            return Err(NameEnd::Errno(Errno::IsDir));
-        }
-        self.target(old, new)?;
-        Ok(node)
-    }
-
-    // Whether the new name can be made.
-    fn target(&self, old: &Path, new: &Path) -> Result<(), NameEnd>
-        ensures { Answers result (rename_target self.now old.now new.now) }
-    {
-        if new.len() == 0 {
-            return Err(NameEnd::Errno(Errno::Exists));
-        }
-        self.walk(new)?;
-        self.free(new)?;
-        if parent(old) == parent(new) {
-            return Ok(());
-        }
-        self.roomy(parent(new))
-    }
-
-    // Puts a name that isn't there behind the others.
-    fn put(&mut self, name: Name, entry: Entry) -> Result<(), NoMemory>
-        requires { entry_at self.old name ≡ None }
-        ensures ok { OnOk result (self.new ≡ self.old ++ (name, entry) ∷ []) }
-        ensures err { OnErr result (self.new ≡ self.old) }
-    {
-        self.nodes.insert(name, entry)?;
-        Ok(())
-    }
-
-    // Makes the directories above the link, and the link.
-    fn hang(&mut self, link: &Path) -> Result<(), NoMemory>
-        ensures { OnOk result (self.new ≡ hung self.old link.now) }
-    {
-        self.make_way(parent(link))?;
-        if link.len() == 0 {
-            return Ok(());
-        }
-        let name = Name::of(self.alloc, link.parts())?;
-        self.add(name, Entry::Link(link.copy(self.alloc)?))
-    }
-
-    // Makes the directories on the way from the root.
-    fn make_way(&mut self, parts: &[Bytes]) -> Result<(), NoMemory>
-        ensures { OnOk result (self.new ≡ with_way self.old [] parts.now) }
+    // Makes the directories on the way from the root that aren't there.
+    fn make_way(&mut self, parts: &[Bytes]) -> Result<(), NameEnd>
+        ensures answer { Answers result (done (with_way self.old [] parts.now)) }
+        ensures ok { OnOk result (with_way self.old [] parts.now ≡ Ok self.new) }
     {
         let mut here = Name::root(self.alloc);
         for part in parts {
             here.push(part.copy(self.alloc)?)?;
-            let name = Name::of(self.alloc, here.parts())?;
-            self.add(name, Entry::Node(Node::Dir))?;
-        }
-        Ok(())
-    }
-
-    // Puts a name behind the others where it isn't there.
-    fn add(&mut self, name: Name, entry: Entry) -> Result<(), NoMemory>
-        ensures { OnOk result (self.new ≡ added self.old name entry) }
-    {
-        if self.entry(&name).is_some() {
-            return Ok(());
-        }
-        self.put(name, entry)
-    }
-
-    // The entry of that name.
-    fn entry(&self, name: &Name) -> Option<&Entry>
-        ensures { option_map (λ entry. entry.now) result ≡ entry_at self.now name.now }
-    {
-        self.nodes.get(name)
-    }
-
-    // Goes to the directory of the path's last part.
-    fn walk(&self, path: &Path) -> Result<(), NameEnd>
-        ensures { Answers result (walked self.now [] (parent path.now)) }
-    {
-        let mut here = Name::root(self.alloc);
-        for part in parent(path) {
-            here.push(part.copy(self.alloc)?)?;
-            if let Err(end) = passed(self.alloc, self.entry(&here)) {
+            if let Err(end) = self.pass(here.parts()) {
                 return Err(end);
             }
         }
         Ok(())
     }
-}
 
-// The parts of the directory that has the path's last part.
-fn parent(path: &Path) -> &[Bytes]
-    ensures { result.now ≡ parent path.now }
-{
-    let parts = path.parts();
-    let (parent, _) = parts.split_at(parts.len().saturating_sub(1));
-    parent
-}
-
-// Whether a walk goes on at that entry.
-fn passed(alloc: Global, entry: Option<&Entry>) -> Result<(), NameEnd>
-    ensures { Answers result (passed (option_map (λ entry. entry.now) entry.entry)) }
-{
-    match entry {
-        None => Err(NameEnd::Errno(Errno::NoEntry)),
-        Some(Entry::Node(Node::Dir)) => Ok(()),
-        Some(Entry::Node(_)) => Err(NameEnd::Errno(Errno::NotDir)),
-        Some(Entry::Link(path)) => Err(NameEnd::Redirect(path.copy(alloc)?)),
+    // Makes the directory of these parts, where nothing is there.
+    fn pass(&mut self, parts: &[Bytes]) -> Result<(), NameEnd>
+        ensures answer { Answers result (done (on_way self.old (entry_made self.old parts.now (Entry.Node Node.Dir)))) }
+        ensures ok { OnOk result (on_way self.old (entry_made self.old parts.now (Entry.Node Node.Dir)) ≡ Ok self.new) }
+    {
+        match self.enter(parts, Entry::Node(Node::Dir)) {
+            Err(NameEnd::Errno(Errno::Exists)) => Ok(()),
+            other => other,
+        }
     }
-}
 
-// What that entry names.
-fn named(alloc: Global, entry: Option<&Entry>) -> Result<Node, NameEnd>
-    ensures { Answers result (named (option_map (λ entry. entry.now) entry.entry)) }
-{
-    match entry {
-        None => Err(NameEnd::Errno(Errno::NoEntry)),
-        Some(Entry::Node(node)) => Ok(*node),
-        Some(Entry::Link(path)) => Err(NameEnd::Redirect(path.copy(alloc)?)),
-    }
-}
-
-// Whether a name is free.
-fn freed(alloc: Global, entry: Option<&Entry>) -> Result<(), NameEnd>
-    ensures { Answers result (freed (option_map (λ entry. entry.now) entry.entry)) }
-{
-    match entry {
-        None => Ok(()),
-        Some(Entry::Node(_)) => Err(NameEnd::Errno(Errno::Exists)),
-        Some(Entry::Link(path)) => Err(NameEnd::Redirect(path.copy(alloc)?)),
-    }
-}
-
-// Whether the name is one of an entry of the directory.
-fn is_child(name: &Name, directory: &[Bytes]) -> bool
-    ensures { result ≡ is_child directory.now name.now }
-{
-    let parts = name.parts();
-    parts.len() == directory.len() + 1 && parts.starts_with(directory)
-}
-
-// The last part of the name.
-fn last_of(alloc: Global, name: &Name) -> Result<Vec<u8>, NoMemory>
-    ensures { IfOk result (λ last. last.items ≡ last_of name.now) }
-{
-    match name.parts().last() {
-        Some(part) => Ok(Vec::from_slice(alloc, part.as_slice())?),
-        None => Ok(Vec::new(alloc)),
+    // Makes the entry of these parts.
+    fn enter(&mut self, path: &[Bytes], entry: Entry) -> Result<(), NameEnd>
+        ensures answer { Answers result (done (entry_made self.old path.now entry)) }
+        ensures ok { OnOk result (entry_made self.old path.now entry ≡ Ok self.new) }
+        ensures err { OnErr result (self.new ≡ self.old) }
+    {
+        self.tree.makeable(path)?;
+        self.tree.put(path, entry)?;
+        Ok(())
     }
 }
 

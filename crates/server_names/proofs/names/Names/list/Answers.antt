@@ -3,7 +3,7 @@ use Rattle.std.specs.List.Sorted.{IsPermutation}
 use Rattle.std.specs.Ordering.{nat_cmp, is_lt}
 use Rattle.std.specs.Cmp.Lexicographic.{slice_cmp}
 use Rattle.std.proofs.lemmas.List.Sorted.{IsPermutation-map}
-use Rattle.server_names.specs.Names.{names_in, lines}
+use Rattle.server_names.specs.Names.{Tree, names_in, lines}
 use Rattle.server_names.proofs.ListingLaws.{sorted_map}
 use Rattle.server_names.proofs.names.Names.list.Goals as goal
 
@@ -11,7 +11,7 @@ pub returns-clause-text : goal.returns-clause-text
 returns-clause-text c =
     let old = c.in_ok-names.names.items in
     let new = c.sort.new.self.items in
-    let made = c.in_ok-names.ensures ∙ ap (names_in c.args.self.now) c.parts.ensures.parts in
+    let made = c.in_ok-names.ensures ∙ ap (names_in c.self.inside.tree) (c.in_ok-directory.ensures ∙ c.parts-2.ensures.parts) ∙ ap (λ (t : Tree). names_in t c.args.path.now) c.self.view_is in
     record {
       names = map (λ name. name.items) new;
       same = subst (λ (names : List (List ℕ)). IsPermutation names (map (λ name. name.items) new)) made (IsPermutation-map (λ name. name.items) old new c.sort.ensures.permutation);
