@@ -19,7 +19,7 @@ use Rattle.version_table.specs.declared.versioned.Versioned.{Versioned}
 use Rattle.version_table.specs.Lists.{is_any}
 use Rattle.version_table.specs.Modes.{writes, mode_of_grant}
 use Rattle.version_table.specs.Opens.{opened, sharing, receiver, truncates, is_writing, taken_off, has_open, is_written, is_write_shared}
-use Rattle.version_table.specs.Files.{fresh, is_busy, is_kernel, is_holder, is_on_in, is_on, is_uncached, is_stopped, with_call, calls_to, calls_of, called, granted, told, waiting, deciding, decided, answered, settling, settled, closing, closed, IsReadyFor, IsReady}
+use Rattle.version_table.specs.Files.{fresh, is_busy, is_kernel, is_holder, is_on_in, is_on, is_uncached, is_stopped, with_call, calls_to, calls_of, called, granted, told, waiting, deciding, decided, answered, settling, settled, closing, closed, IsPreparedFor, IsPrepared}
 use Rattle.version_table.specs.Coherence.{has_open_for_writing, WaitsAlone, IsCoherent}
 use Rattle.version_table.proofs.SharingLaws.{test_of, taken_within, receiver_has_open, no_new_writer, writer_writes, writer_opens, some_writer, writer_is_alone, apart_within}
 
@@ -62,7 +62,7 @@ fold_push file [] call = refl
 fold_push file (first ∷ calls) call = fold_push (called file first) calls call
 
 -- callbacks change no part that one callback doesn't change
-fold_same : {F : Type 0} (part : Versioned → F) → ((file : Versioned) (call : Callback) → part (called file call) ≡ part file) → (file : Versioned) (calls : List Callback) → part (fold called file calls) ≡ part file
+pub fold_same : {F : Type 0} (part : Versioned → F) → ((file : Versioned) (call : Callback) → part (called file call) ≡ part file) → (file : Versioned) (calls : List Callback) → part (fold called file calls) ≡ part file
 fold_same part same file [] = refl
 fold_same part same file (call ∷ calls) = fold_same part same (called file call) calls ∙ same file call
 
@@ -217,7 +217,7 @@ decided_coherent cached file action free h = decided_by cached file action (is_u
 pub answered_coherent : (file : Versioned) (kernel : ℕ) → is_busy file ≡ true → IsCoherent file → IsCoherent (answered file kernel)
 answered_coherent file kernel busy h = record { alone = h.alone; waits = h.waits; stopped = h.stopped; holds = λ e free. absurd (true≢false (sym busy ∙ free)) }
 
-settled_by : (file : Versioned) (o : Option Asking) → o ≡ file.asking → IsReadyFor file o → IsCoherent file → IsCoherent (settling file o)
+settled_by : (file : Versioned) (o : Option Asking) → o ≡ file.asking → IsPreparedFor file o → IsCoherent file → IsCoherent (settling file o)
 settled_by file None same ready h = h
 settled_by file (Some asking) same ready h =
     let action = asking.action in
@@ -230,7 +230,7 @@ settled_by file (Some asking) same ready h =
       holds = λ e done kernel writing. ap (λ b. is_kernel kernel (if is_writing file.opens action && not b then Some (receiver action) else file.holder)) e ∙ holds_by file action asking.opens kernel (is_writing file.opens action) refl (waits e).0 there writing (λ reads. absurd (true≢false (sym ((waits e).1 (writer_writes asking.opens kernel writing)) ∙ reads)));
     }
 
-pub settled_coherent : (file : Versioned) → IsReady file → IsCoherent file → IsCoherent (settled file)
+pub settled_coherent : (file : Versioned) → IsPrepared file → IsCoherent file → IsCoherent (settled file)
 settled_coherent file ready h = settled_by file file.asking refl ready h
 
 closed_waits : (opens : List Open) (o : Option Asking) → is_some o ≡ false → WaitsAlone opens o

@@ -7,3 +7,4 @@ pub mod SharingLaws
 pub mod CoherenceLaws
 pub mod SharedLaws
 pub mod StampLaws
+pub mod AloneLaws

@@ -1,21 +1,18 @@
 -- Each file of the table is coherent, and what that says of those that have it open.
-use Rattle.std.proofs.Common.{◌≡◌, ℕ, ◌≤◌, Bool, true, false, cond, List, [], ◌∷◌, Some, true≢false, refl, sym, ◌∙◌}
-use Rattle.std.specs.List.{AllByRecursion, find}
+use Rattle.std.proofs.Common.{◌≡◌, ℕ, ◌≤◌, Bool, true, false, true≢false, refl, sym, ◌∙◌}
 use Rattle.std.proofs.lemmas.Bool.{eqb-true}
 use Rattle.sprite_ids.specs.declared.FileId.{FileId}
 use Rattle.version_table.specs.declared.versioned.Versioned.{Versioned}
 use Rattle.version_table.specs.Files.{is_on}
-use Rattle.version_table.specs.Coherence.{IsCoherent, IsKept}
-use Rattle.version_table.specs.Versions.{is_of, or_fresh, file_of}
+use Rattle.version_table.specs.Coherence.{IsCoherent}
+use Rattle.version_table.specs.Versions.{Files, file_of, AreKept}
 use Rattle.version_table.specs.Laws.{CachedIsUnshared, CachingIsUnshared, CachingIsHolder}
 use Rattle.version_table.proofs.SharingLaws.{writer_is_alone}
-use Rattle.version_table.proofs.CoherenceLaws.{fresh_coherent}
+use Rattle.version_table.proofs.FileLaws.{its_own}
 
 -- what is kept of a file is coherent
-pub file_coherent : (files : List Versioned) (file : FileId) → AllByRecursion IsKept files → IsCoherent (file_of files file)
-file_coherent [] file h = fresh_coherent file
-file_coherent (x ∷ xs) file h =
-    elim (is_of file x) as (λ b. IsCoherent (or_fresh file (cond b (Some x) (find (is_of file) xs)))) [ true ↦ h.0.coherent | false ↦ file_coherent xs file h.1 ]
+pub file_coherent : (files : Files) (file : FileId) → AreKept files → IsCoherent (file_of files file)
+file_coherent files file h = (its_own files file h).kept.coherent
 
 pub cached_unshared : (file : Versioned) → IsCoherent file → CachedIsUnshared file
 cached_unshared file h e writer writing other there = eqb-true other writer (writer_is_alone file.opens writer other (h.alone e) writing there)

@@ -6,7 +6,7 @@ use Rattle.version_table.specs.declared.versioned.Asking.{Asking}
 use Rattle.version_table.specs.declared.versioned.Versioned.{Versioned}
 use Rattle.version_table.specs.Modes.{writes}
 use Rattle.version_table.specs.Opens.{is_writing, is_written, is_write_shared}
-use Rattle.version_table.specs.Files.{is_busy, is_holder, is_on, IsReady}
+use Rattle.version_table.specs.Files.{is_busy, is_holder, is_on, IsPrepared}
 
 -- whether the kernel has the file open for writing
 abbrev pub has_open_for_writing : List Open → ℕ → Bool
@@ -27,5 +27,5 @@ pub record IsCoherent (file : Versioned) : Type 0 where
 
 -- what holds of each file of the table
 pub record IsKept (file : Versioned) : Type 0 where
-  pub ready : IsReady file
+  pub ready : IsPrepared file
   pub coherent : IsCoherent file

@@ -144,6 +144,10 @@ is_out file kernel = is_set (slice_get file.out (kernel - 1))
 abbrev pub is_any_out : Versioned → Bool
 is_any_out file = list_any (λ mark. mark) file.out
 
+-- whether what waits may be granted: the file is busy, and no callback is out
+abbrev pub is_ready : Versioned → Bool
+is_ready file = is_busy file && not (is_any_out file)
+
 -- the file after a callback's answer came: a kernel that answers holds no dirty blocks
 abbrev pub answered : Versioned → ℕ → Versioned
 answered file kernel = record file { out = slice_set file.out (kernel - 1) false; holder = if is_holder file kernel then None else file.holder }
@@ -205,9 +209,9 @@ abbrev pub is_roomy : Versioned → Bool
 is_roomy file = nat_le file.stamp 2000000000 && (nat_le file.version 2000000000 && are_roomy file.opens)
 
 -- what an open or a move that waits has ready: its opens and shared streams, and room for one more stamp and version
-abbrev pub IsReadyFor : Versioned → Option Asking → Type 0
-IsReadyFor file (Some asking) = (asking.opens ≡ opened file.opens asking.action) × (asking.shared ≡ sharing file.shared asking.action) × (file.stamp ≤ 2000000016) × (file.version ≤ 2000000000)
-IsReadyFor file None = Unit {0}
+abbrev pub IsPreparedFor : Versioned → Option Asking → Type 0
+IsPreparedFor file (Some asking) = (asking.opens ≡ opened file.opens asking.action) × (asking.shared ≡ sharing file.shared asking.action) × (file.stamp ≤ 2000000016) × (file.version ≤ 2000000000)
+IsPreparedFor file None = Unit {0}
 
-abbrev pub IsReady : Versioned → Type 0
-IsReady file = IsReadyFor file file.asking
+abbrev pub IsPrepared : Versioned → Type 0
+IsPrepared file = IsPreparedFor file file.asking

@@ -9,9 +9,10 @@ use Rattle.version_table.specs.declared.action.Decision.{Decision}
 use Rattle.version_table.specs.declared.action.Decision.TheVariants.{Grant as Grants, CallFirst}
 use Rattle.version_table.specs.declared.versioned.Versioned.{Versioned}
 use Rattle.version_table.specs.Opens.{has_open}
-use Rattle.version_table.specs.Files.{fresh, is_busy, is_holder, is_on, is_uncached, call_of, calls_of, decided, answered, settled, settled_grant, closed}
+use Rattle.version_table.specs.Files.{fresh, is_busy, is_holder, is_on, is_ready, is_any_out, is_uncached, call_of, calls_of, decided, answered, settled, settled_grant, closed}
 use Rattle.version_table.specs.Coherence.{has_open_for_writing}
 use Rattle.version_table.specs.Decisions.{decision_of}
+use Rattle.version_table.specs.Versions.{Table, file_of, with_file, with_closed, forgotten}
 
 -- a kernel that has the file open for writing is the only kernel that has it open
 abbrev pub IsAlone : Versioned → ℕ → Type 0
@@ -110,3 +111,58 @@ Rise least (first ∷ rest) = (least < first) × Rise first rest
 -- the stamp of each grant and of each callback of a file is greater than all before
 abbrev pub StampsRise : Type 0
 StampsRise = (cached : Bool) (file : FileId) (steps : List Step) → Rise 0 (stamps_given cached (fresh file) steps)
+
+-- a call that changes the table
+pub data Call : Type 0 where
+  Decides : FileId → Action → Call
+  Answers : FileId → (kernel : ℕ) → Call
+  Settles : FileId → Call
+  Closes : FileId → (kernel : ℕ) (stream : StreamNo) (grants : ℕ) → Call
+  Forgets : FileId → Call
+
+-- whether the call may be made: an open, a move or a close where the file isn't busy, an answer where it is, and what waits
+-- is granted where it is and no callback is out
+abbrev pub MayBe : Table → Call → Type 0
+MayBe table (Decides file action) = is_busy (file_of table.files file) ≡ false
+MayBe table (Answers file kernel) = is_busy (file_of table.files file) ≡ true
+MayBe table (Settles file) = is_ready (file_of table.files file) ≡ true
+MayBe table (Closes file kernel stream grants) = is_busy (file_of table.files file) ≡ false
+MayBe table (Forgets file) = Unit {0}
+
+-- the files after the call
+abbrev pub files_after : Table → Call → List (FileId × Versioned)
+files_after table (Decides file action) = with_file table.files file (decided table.cached (file_of table.files file) action)
+files_after table (Answers file kernel) = with_file table.files file (answered (file_of table.files file) kernel)
+files_after table (Settles file) = with_file table.files file (settled (file_of table.files file))
+files_after table (Closes file kernel stream grants) = with_closed table.files file kernel stream grants
+files_after table (Forgets file) = forgotten table.files file
+
+-- the table after the call
+abbrev pub table_after : Table → Call → Table
+table_after table call = record table { files = files_after table call }
+
+-- no callback of the file is out
+abbrev pub NoneOut : Table → FileId → Type 0
+NoneOut table file = is_any_out (file_of table.files file) ≡ false
+
+-- whether a decision is a grant
+abbrev pub is_grant : Decision → Bool
+is_grant (Grants grant) = true
+is_grant (CallFirst calls) = false
+
+-- where the call gives a grant of a file, no callback of that file is out, before the call and after it
+abbrev pub GrantsAlone : Table → Call → Type 0
+GrantsAlone table (Decides file action) = is_grant (decision_of table.cached (file_of table.files file) action) ≡ true → NoneOut table file × NoneOut (table_after table (Decides file action)) file
+GrantsAlone table (Answers file kernel) = Unit {0}
+GrantsAlone table (Settles file) = NoneOut table file × NoneOut (table_after table (Settles file)) file
+GrantsAlone table (Closes file kernel stream grants) = Unit {0}
+GrantsAlone table (Forgets file) = Unit {0}
+
+-- that holds of each of the calls, one after the other, as far as they may be made
+abbrev pub EachGrantsAlone : Table → List Call → Type 0
+EachGrantsAlone table [] = Unit {0}
+EachGrantsAlone table (call ∷ calls) = MayBe table call → GrantsAlone table call × EachGrantsAlone (table_after table call) calls
+
+-- a grant of a file is made only with no callback of it out, whatever calls come
+abbrev pub GrantsComeAlone : Type 0
+GrantsComeAlone = (cached : Bool) (calls : List Call) → EachGrantsAlone (record { cached = cached; files = [] }) calls

@@ -1,25 +1,26 @@
 -- The files of one server.
-use Rattle.std.specs.Prelude.{ℕ, ◌==◌, Bool, ◌&&◌, List, Option, Some, None}
-use Rattle.std.specs.List.{AllByRecursion, find, list_all}
+use Rattle.std.specs.Prelude.{◌≡◌, ℕ, ◌==◌, Bool, ◌&&◌, List, Option, Some, None}
+use Rattle.std.specs.List.{AllByRecursion}
+use Rattle.std.specs.Map.{lookup, remove_entry}
+use Rattle.indexmap.specs.IndexMap.{insert_entry}
 use Rattle.sprite_ids.specs.declared.FileId.{FileId}
 use Rattle.sprite_ids.specs.declared.StreamNo.{StreamNo}
 use Rattle.version_table.specs.declared.versioned.Versioned.{Versioned}
-use Rattle.sprite_ids.specs.Lists.{put, EachOnce}
-use Rattle.version_table.specs.Files.{fresh, closed, is_roomy}
+use Rattle.version_table.specs.Files.{fresh, closed}
 use Rattle.version_table.specs.Coherence.{IsKept}
 
--- whether clients have a cache, and the files that anybody opened
+-- the files that anybody opened, in the order of their first opens, each with what is kept of it
+abbrev pub Files : Type 0
+Files = List (FileId × Versioned)
+
+-- whether clients have a cache, and the files
 pub record Table : Type 0 where
   pub cached : Bool
-  pub files : List Versioned
-
--- whether it is that file
-abbrev pub is_of : FileId → Versioned → Bool
-is_of file versioned = (versioned.file.server == file.server) && (versioned.file.number == file.number)
+  pub files : Files
 
 -- whether the two are one file
-abbrev pub same_file : Versioned → Versioned → Bool
-same_file versioned other = is_of versioned.file other
+abbrev pub is_file : FileId → FileId → Bool
+is_file file other = (file.server == other.server) && (file.number == other.number)
 
 -- a looked-up file, or one that nobody opened so far
 abbrev pub or_fresh : FileId → Option Versioned → Versioned
@@ -27,26 +28,30 @@ or_fresh file (Some versioned) = versioned
 or_fresh file None = fresh file
 
 -- what is kept of the file
-abbrev pub file_of : List Versioned → FileId → Versioned
-file_of files file = or_fresh file (find (is_of file) files)
+abbrev pub file_of : Files → FileId → Versioned
+file_of files file = or_fresh file (lookup (is_file file) files)
 
 -- the files after one of them changed
-abbrev pub with_file : List Versioned → FileId → Versioned → List Versioned
-with_file files file versioned = put (is_of file) versioned files
+abbrev pub with_file : Files → FileId → Versioned → Files
+with_file files file versioned = insert_entry is_file files file versioned
 
 -- the files after a close of a looked-up file
-abbrev pub closing_in : List Versioned → FileId → ℕ → StreamNo → ℕ → Option Versioned → List Versioned
+abbrev pub closing_in : Files → FileId → ℕ → StreamNo → ℕ → Option Versioned → Files
 closing_in files file kernel stream grants (Some versioned) = with_file files file (closed versioned kernel stream grants)
 closing_in files file kernel stream grants None = files
 
 -- the files after a close: one that nobody opened stays so
-abbrev pub with_closed : List Versioned → FileId → ℕ → StreamNo → ℕ → List Versioned
-with_closed files file kernel stream grants = closing_in files file kernel stream grants (find (is_of file) files)
+abbrev pub with_closed : Files → FileId → ℕ → StreamNo → ℕ → Files
+with_closed files file kernel stream grants = closing_in files file kernel stream grants (lookup (is_file file) files)
 
--- whether every counter may be raised
-abbrev pub has_room : List Versioned → Bool
-has_room files = list_all is_roomy files
+-- the files after what is kept of one was dropped
+abbrev pub forgotten : Files → FileId → Files
+forgotten files file = remove_entry (is_file file) files
 
--- each file once, and each coherent and with what waits ready
-abbrev pub AreKept : List Versioned → Type 0
-AreKept files = EachOnce same_file files × AllByRecursion IsKept files
+-- what holds of each file of the table: what is kept under its name is its own, and it is coherent, with what waits prepared
+pub record IsFile (entry : FileId × Versioned) : Type 0 where
+  pub own : entry.1.file ≡ entry.0
+  pub kept : IsKept entry.1
+
+abbrev pub AreKept : Files → Type 0
+AreKept files = AllByRecursion IsFile files

@@ -1,4 +1,4 @@
-ghost use Rattle.version_table.specs.Laws.{CallbacksGoOnce, GrantsSay, StampsRise};
+ghost use Rattle.version_table.specs.Laws.{CallbacksGoOnce, GrantsComeAlone, GrantsSay, StampsRise};
 
 /// A law: a decision that must call kernels first sends exactly one callback to each kernel that it names, and none to
 /// another.
@@ -15,4 +15,10 @@ pub fn stamps_rise()
 /// A law: a grant has mode On exactly where the file isn't uncached after it.
 pub fn grants_say_whether_cached()
     ensures { GrantsSay }
+{}
+
+/// A law: whatever calls come on a new table, as far as they may be made, a decision or `settle` gives a grant of a file only
+/// with no callback of that file out.
+pub fn grants_come_alone()
+    ensures { GrantsComeAlone }
 {}

@@ -4,13 +4,14 @@
 #![tactic(auto)]
 
 mod action;
+mod files;
 mod laws;
 mod opens;
 mod versioned;
 mod versions;
 
 pub use action::{Action, Decision};
-pub use laws::{callbacks_go_once, grants_say_whether_cached, stamps_rise};
+pub use laws::{callbacks_go_once, grants_come_alone, grants_say_whether_cached, stamps_rise};
 pub use opens::Open;
 pub use versioned::{Asking, Versioned};
 pub use versions::Versions;

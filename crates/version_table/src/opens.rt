@@ -244,7 +244,10 @@ fn is_elsewhere(opens: &[Open], kernel: Kernel) -> bool
 fn is_spread(opens: &[Open]) -> bool
     ensures { result ≡ is_spread opens.now }
 {
-    opens.iter().any(|open| is_elsewhere(opens, open.kernel))
+    match opens.first() {
+        Some(first) => is_elsewhere(opens, first.kernel),
+        None => false,
+    }
 }
 
 // Whether any kernel has the file open for writing.

@@ -114,7 +114,7 @@ fn open(
     truncate: bool,
 ) -> Result<Seen, Fail> {
     let file = the_file()?;
-    if !versions.room() || versions.busy(file) {
+    if !versions.room(file) || versions.busy(file) {
         return Err("the file is busy")?;
     }
     let decision = versions.decide(
@@ -137,7 +137,7 @@ fn migrate(
     kept: bool,
 ) -> Result<Seen, Fail> {
     let file = the_file()?;
-    if !versions.room() || versions.busy(file) {
+    if !versions.room(file) || versions.busy(file) {
         return Err("the file is busy")?;
     }
     let decision = versions.decide(
@@ -173,7 +173,10 @@ fn answer(versions: &mut Versions, number: u8) -> Result<Seen, Fail> {
 
 fn settle(versions: &mut Versions, number: u8) -> Result<Seen, Fail> {
     let file = the_file()?;
-    if !versions.busy(file) || !versions.answered(file, kernel(number)?) || !versions.busy(file) {
+    if !versions.busy(file)
+        || !versions.answered(file, kernel(number)?)
+        || !versions.is_ready(file)
+    {
         return Err("a callback is out")?;
     }
     Ok(granted(&versions.settle(file)))

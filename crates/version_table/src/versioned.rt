@@ -1,6 +1,6 @@
 ghost use Rattle.std.specs.Prelude.{◌≡◌, ◌≤◌, ◌<◌, ◌+◌, IsTrue, IfOk, OnOk, OnErr, Some, true, false, suc, fold, length, not};
 ghost use Rattle.version_table.specs.Lists.{is_any};
-ghost use Rattle.version_table.specs.Files.{fresh, is_busy, is_holder, is_on, is_uncached, is_stopped, is_recalled, call_of, calls_to, called, new_version, grant_of, given_to, granted, told, waiting, decided, deciding, calls_of, is_out, is_any_out, answered, is_last, settled, settled_grant, closed, is_closed, plain, current, is_roomy, IsReady};
+ghost use Rattle.version_table.specs.Files.{fresh, is_busy, is_ready, is_holder, is_on, is_uncached, is_stopped, is_recalled, call_of, calls_to, called, new_version, grant_of, given_to, granted, told, waiting, decided, deciding, calls_of, is_out, is_any_out, answered, is_last, settled, settled_grant, closed, is_closed, plain, current, is_roomy, IsPrepared};
 ghost use Rattle.version_table.specs.Decisions.{decision_of};
 ghost use Rattle.version_table.specs.Modes.{mode_of_grant};
 ghost use Rattle.version_table.specs.Opens.{opened, sharing, count_in, open_at, stream_mode};
@@ -318,10 +318,17 @@ impl Versioned {
     }
 
     // Whether any callback is out.
-    pub(crate) fn is_any_out(&self) -> bool
+    fn is_any_out(&self) -> bool
         ensures { result ≡ is_any_out self.now }
     {
         self.out.iter().any(|mark| *mark)
+    }
+
+    // Whether what waits may be granted.
+    pub(crate) fn is_ready(&self) -> bool
+        ensures { result ≡ is_ready self.now }
+    {
+        self.is_busy() && !self.is_any_out()
     }
 
     // The kernel's answer came.
@@ -340,7 +347,7 @@ impl Versioned {
     // Grants what waits.
     pub(crate) fn settle(&mut self) -> Grant
         requires busy { IsTrue (is_busy self.old) }
-        requires ready { IsReady self.old }
+        requires ready { IsPrepared self.old }
         ensures file { self.new ≡ settled self.old }
         ensures grant { settled_grant self.old ≡ Some result }
     {

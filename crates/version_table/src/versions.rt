@@ -1,26 +1,27 @@
-ghost use Rattle.std.specs.Prelude.{◌≡◌, IsTrue, IfOk, OnOk, OnErr, Some, None, [], false, not, option_map, length, ◌<◌, ◌++◌, ◌∷◌, remove};
-ghost use Rattle.std.specs.List.{find, position};
-ghost use Rattle.sprite_ids.specs.Lists.{without};
+ghost use Rattle.std.specs.Prelude.{◌≡◌, IsTrue, IfOk, OnOk, OnErr, Some, [], false};
 ghost use Rattle.version_table.specs.Lists.{is_any};
 ghost use Rattle.version_table.specs.Opens.{count_in, open_at, stream_mode};
-ghost use Rattle.version_table.specs.Files.{fresh, is_busy, is_any_out, is_roomy, decided, answered, is_last, settled, settled_grant, closed, is_closed, current, IsReady};
+ghost use Rattle.version_table.specs.Files.{is_busy, is_ready, is_roomy, decided, answered, is_last, settled, settled_grant, is_closed, current, IsPrepared};
 ghost use Rattle.version_table.specs.Decisions.{decision_of};
 ghost use Rattle.version_table.specs.Laws.{CachedIsUnshared, CachingIsUnshared, CachingIsHolder, UncachedIsStopped};
-ghost use Rattle.version_table.specs.Versions.{is_of, file_of, with_file, has_room, with_closed};
+ghost use Rattle.version_table.specs.Versions.{file_of, with_file, with_closed, forgotten};
 
 use crate::action::{Action, Decision};
+use crate::files;
 use crate::versioned::Versioned;
+use indexmap::IndexMap;
 use sprite_ids::{FileId, Grant, Kernel, Mode, NoMemory, StreamNo};
 use std::alloc::Global;
 use std::marker::Model;
 
 /// Who has the files of one server open, with their versions and stamps. Contracts see whether clients have a cache, and
-/// the files that anybody opened since they were last forgotten, each once.
+/// the files that anybody opened since they were last forgotten, in the order of their first opens, each with what is kept
+/// of it.
 #[derive(Debug, Drop)]
 pub struct Versions {
     alloc: Global,
     cached: bool,
-    files: Vec<Versioned>,
+    files: IndexMap<FileId, Versioned>,
 }
 
 impl Model for Versions {
@@ -28,9 +29,9 @@ impl Model for Versions {
 
     ghost Value = { Table };
 
-    ghost view = { λ versions. record { cached = versions.cached; files = versions.files.items } };
+    ghost view = { λ versions. record { cached = versions.cached; files = versions.files.entries } };
 
-    ghost invariant = { λ versions. AreKept versions.files.items };
+    ghost invariant = { λ versions. AreKept versions.files.entries };
 }
 
 impl Versions {
@@ -42,33 +43,33 @@ impl Versions {
         Versions {
             alloc,
             cached,
-            files: Vec::new(alloc),
+            files: IndexMap::new(alloc),
         }
     }
 
-    /// Whether stamps, versions and counts of grants may be raised: each is at most 2,000,000,000.
-    pub fn room(&self) -> bool
-        ensures { result ≡ has_room self.now.files }
+    /// Whether the stamp, the version and the counts of grants of the file may be raised: each is at most 2,000,000,000.
+    pub fn room(&self, file: FileId) -> bool
+        ensures { result ≡ is_roomy (file_of self.now.files file) }
     {
-        self.files.iter().all(|versioned| versioned.is_roomy())
+        match self.files.get(&file) {
+            Some(versioned) => versioned.is_roomy(),
+            None => true,
+        }
     }
 
-    /// Decides on an open or a move of a stream of the file, which isn't busy: it is granted exactly where no kernel is to
-    /// be called first. Else the file is busy, until each of the callbacks is answered and the file is settled.
+    /// Decides on an open or a move of a stream of the file, which isn't busy and has room: it is granted exactly where no
+    /// kernel is to be called first. Else the file is busy, until each of the callbacks is answered and the file is settled.
     ///
     /// A stream that moves and that no kernel has open counts as one for reading. After want of memory, the one error,
     /// all is as before.
     pub fn decide(&mut self, file: FileId, action: Action) -> Result<Decision, NoMemory>
-        requires room { IsTrue (has_room self.old.files) }
+        requires room { IsTrue (is_roomy (file_of self.old.files file)) }
         requires free { is_busy (file_of self.old.files file) ≡ false }
         ensures ok { OnOk result (self.new ≡ record self.old { files = with_file self.old.files file (decided self.old.cached (file_of self.old.files file) action) }) }
         ensures decision { IfOk result (λ decision. decision ≡ decision_of self.old.cached (file_of self.old.files file) action) }
         ensures err { OnErr result (self.new ≡ self.old) }
     {
-        match place_of(self.files.as_slice(), &file) {
-            Some(at) => self.files[at].decide(self.alloc, self.cached, &action),
-            None => decide_first(&mut self.files, self.alloc, self.cached, &file, &action),
-        }
+        files::decide(&mut self.files, self.alloc, self.cached, &file, &action)
     }
 
     /// Notes that the kernel's answer to a callback came: it is out no more, and holds no dirty blocks. True exactly where
@@ -78,24 +79,27 @@ impl Versions {
         ensures table { self.new ≡ record self.old { files = with_file self.old.files file (answered (file_of self.old.files file) kernel) } }
         ensures last { result ≡ is_last (file_of self.old.files file) kernel }
     {
-        match place_of(self.files.as_slice(), &file) {
-            Some(at) => self.files[at].answer(kernel),
+        files::answer(&mut self.files, &file, kernel)
+    }
+
+    /// Whether what waits may be granted by `settle`: the file is busy, and no callback is out.
+    pub fn is_ready(&self, file: FileId) -> bool
+        ensures { result ≡ is_ready (file_of self.now.files file) }
+    {
+        match self.files.get(&file) {
+            Some(versioned) => versioned.is_ready(),
             None => false,
         }
     }
 
     /// Grants the open or move that waited, once no callback is out. It takes no memory.
     pub fn settle(&mut self, file: FileId) -> Grant
-        requires busy { IsTrue (is_busy (file_of self.old.files file)) }
-        requires answered { is_any_out (file_of self.old.files file) ≡ false }
-        ensures ready { IsReady (file_of self.old.files file) }
+        requires { IsTrue (is_ready (file_of self.old.files file)) }
+        ensures prepared { IsPrepared (file_of self.old.files file) }
         ensures table { self.new ≡ record self.old { files = with_file self.old.files file (settled (file_of self.old.files file)) } }
         ensures grant { settled_grant (file_of self.old.files file) ≡ Some result }
     {
-        match place_of(self.files.as_slice(), &file) {
-            Some(at) => self.files[at].settle(),
-            None => unreachable!(),
-        }
+        files::settle(&mut self.files, &file)
     }
 
     /// Takes that many grants of the stream off the kernel, or all where it has fewer; the file isn't busy. True exactly
@@ -106,10 +110,7 @@ impl Versions {
         ensures table { self.new ≡ record self.old { files = with_closed self.old.files file kernel stream grants } }
         ensures last { result ≡ is_closed (file_of self.old.files file) kernel stream grants }
     {
-        match place_of(self.files.as_slice(), &file) {
-            Some(at) => self.files[at].close(kernel, &stream, grants),
-            None => true,
-        }
+        files::close(&mut self.files, &file, kernel, &stream, grants)
     }
 
     /// The grant that answers a request of the kernel whose stamp isn't the current one: the one given last where its stamp
@@ -117,7 +118,7 @@ impl Versions {
     pub fn current(&self, file: FileId, kernel: Kernel) -> Grant
         ensures { result ≡ current (file_of self.now.files file) kernel }
     {
-        match found(self.files.as_slice(), &file) {
+        match self.files.get(&file) {
             Some(versioned) => versioned.current(kernel),
             None => Versioned::fresh(self.alloc, &file).current(kernel),
         }
@@ -127,7 +128,7 @@ impl Versions {
     pub fn busy(&self, file: FileId) -> bool
         ensures { result ≡ is_busy (file_of self.now.files file) }
     {
-        match found(self.files.as_slice(), &file) {
+        match self.files.get(&file) {
             Some(versioned) => versioned.is_busy(),
             None => false,
         }
@@ -137,7 +138,7 @@ impl Versions {
     pub fn is_open(&self, file: FileId) -> bool
         ensures { result ≡ is_any (file_of self.now.files file).opens }
     {
-        match found(self.files.as_slice(), &file) {
+        match self.files.get(&file) {
             Some(versioned) => versioned.is_open(),
             None => false,
         }
@@ -147,7 +148,7 @@ impl Versions {
     pub fn count(&self, file: FileId, stream: StreamNo, kernel: Kernel) -> u32
         ensures { result ≡ count_in (open_at (file_of self.now.files file).opens stream kernel) }
     {
-        match found(self.files.as_slice(), &file) {
+        match self.files.get(&file) {
             Some(versioned) => versioned.count(&stream, kernel),
             None => 0,
         }
@@ -157,7 +158,7 @@ impl Versions {
     pub fn mode(&self, file: FileId, stream: StreamNo) -> Option<Mode>
         ensures { result ≡ stream_mode (file_of self.now.files file).opens stream }
     {
-        match found(self.files.as_slice(), &file) {
+        match self.files.get(&file) {
             Some(versioned) => versioned.mode(&stream),
             None => None,
         }
@@ -178,50 +179,8 @@ impl Versions {
 
     /// Drops what is kept of the file. Its number is never used again.
     pub fn forget(&mut self, file: FileId)
-        ensures { self.new ≡ record self.old { files = without (is_of file) self.old.files } }
+        ensures { self.new ≡ record self.old { files = forgotten self.old.files file } }
     {
-        if let Some(at) = place_of(self.files.as_slice(), &file) {
-            take_out(&mut self.files, at);
-        }
+        self.files.shift_remove(&file);
     }
-}
-
-// Where the file stands.
-fn place_of(files: &[Versioned], file: &FileId) -> Option<usize>
-    ensures { result ≡ position (is_of file.now) files.now }
-{
-    files.iter().position(|versioned| versioned.file == *file)
-}
-
-// Decides on the first open of a file.
-fn decide_first(
-    files: &mut Vec<Versioned>,
-    alloc: Global,
-    cached: bool,
-    file: &FileId,
-    action: &Action,
-) -> Result<Decision, NoMemory>
-    ensures ok { OnOk result (files.new.items ≡ files.old.items ++ decided cached (fresh file.now) action.now ∷ []) }
-    ensures decision { IfOk result (λ decision. decision ≡ decision_of cached (fresh file.now) action.now) }
-    ensures err { OnErr result (files.new.items ≡ files.old.items) }
-{
-    let mut first = Versioned::fresh(alloc, file);
-    let decision = first.decide(alloc, cached, action)?;
-    files.push(first)?;
-    Ok(decision)
-}
-
-// Drops the file that stands there.
-fn take_out(files: &mut Vec<Versioned>, at: usize)
-    requires { at < length files.old.items }
-    ensures { files.new.items ≡ remove files.old.items at }
-{
-    files.remove(at);
-}
-
-// What is kept of the file.
-fn found<'a>(files: &'a [Versioned], file: &FileId) -> Option<&'a Versioned>
-    ensures { option_map (λ versioned. versioned.now) result ≡ find (is_of file.now) files.now }
-{
-    files.iter().find(|versioned| versioned.file == *file)
 }

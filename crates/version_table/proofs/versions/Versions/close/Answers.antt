@@ -1,51 +1,10 @@
 use Rattle.std.proofs.Common.{sym, ap, subst, ◌∙◌}
-use Rattle.std.specs.List.{position}
-use Rattle.version_table.specs.Files.{is_busy, is_closed}
-use Rattle.version_table.specs.Coherence.{IsKept}
-use Rattle.version_table.specs.Versions.{is_of, file_of, Table}
-use Rattle.version_table.proofs.FileLaws.{file_there, file_absent, changed_kept, kept_there, closed_kept, closed_there, closed_absent}
+use Rattle.version_table.specs.Files.{is_busy}
+use Rattle.version_table.specs.Versions.{Table, file_of, AreKept}
+use Rattle.version_table.proofs.FileLaws.{closed_files}
 use Rattle.version_table.proofs.versions.Versions.close.Goals as goal
 
 pub invariant_of-self : goal.invariant_of-self
 invariant_of-self c =
-    let xs = c.self.inside.files.items in
-    let at = c.in-Some.at in
-    let d = c.index_mut.result.now in
-    let place = ap (position (is_of c.args.file)) (sym c.as_slice.ensures.value) ∙ sym c.place_of.ensures ∙ c.in-Some.is in
-    let is = c.index_mut.ensures.value in
-    let here = ap (λ (t : Table). file_of t.files c.args.file) (sym c.self.view_is) ∙ file_there xs c.args.file at d place is in
-    let kept = subst IsKept (sym c.close.ensures.file) (closed_kept d c.args.kernel c.args.stream c.args.grants (sym (ap is_busy here) ∙ c.requires) (kept_there xs c.args.file at d place is c.self.invariant.1)) in
-    changed_kept xs c.args.file at d c.close.new.self place is (ap (λ v. v.file) c.close.ensures.file) kept c.self.invariant
-
-pub returns-in-Some-clause-table : goal.returns-in-Some-clause-table
-returns-in-Some-clause-table c =
-    let xs = c.self.inside.files.items in
-    let at = c.in-Some.at in
-    let d = c.index_mut.result.now in
-    let place = ap (position (is_of c.args.file)) (sym c.as_slice.ensures.value) ∙ sym c.place_of.ensures ∙ c.in-Some.is in
-    let is = c.index_mut.ensures.value in
-    closed_there c.args.self.now c.self.inside.cached xs c.args.file at d c.close.new.self c.args.kernel c.args.stream c.args.grants c.self.view_is place is c.close.ensures.file
-
-pub returns-in-Some-clause-last : goal.returns-in-Some-clause-last
-returns-in-Some-clause-last c =
-    let xs = c.self.inside.files.items in
-    let at = c.in-Some.at in
-    let d = c.index_mut.result.now in
-    let place = ap (position (is_of c.args.file)) (sym c.as_slice.ensures.value) ∙ sym c.place_of.ensures ∙ c.in-Some.is in
-    let is = c.index_mut.ensures.value in
-    let here = ap (λ (t : Table). file_of t.files c.args.file) (sym c.self.view_is) ∙ file_there xs c.args.file at d place is in
-    c.close.ensures.last ∙ sym (ap (λ v. is_closed v c.args.kernel c.args.stream c.args.grants) here)
-
-pub returns-in-None-clause-table : goal.returns-in-None-clause-table
-returns-in-None-clause-table c =
-    let xs = c.self.inside.files.items in
-    let place = ap (position (is_of c.args.file)) (sym c.as_slice.ensures.value) ∙ sym c.place_of.ensures ∙ c.in-None.is in
-    let absent = ap (λ (t : Table). file_of t.files c.args.file) (sym c.self.view_is) ∙ file_absent xs c.args.file place in
-    closed_absent c.args.self.now c.self.inside.cached xs c.args.file c.args.kernel c.args.stream c.args.grants c.self.view_is place
-
-pub returns-in-None-clause-last : goal.returns-in-None-clause-last
-returns-in-None-clause-last c =
-    let xs = c.self.inside.files.items in
-    let place = ap (position (is_of c.args.file)) (sym c.as_slice.ensures.value) ∙ sym c.place_of.ensures ∙ c.in-None.is in
-    let absent = ap (λ (t : Table). file_of t.files c.args.file) (sym c.self.view_is) ∙ file_absent xs c.args.file place in
-    sym (ap (λ v. is_closed v c.args.kernel c.args.stream c.args.grants) absent)
+    let free = ap (λ (t : Table). is_busy (file_of t.files c.args.file)) c.self.view_is ∙ c.requires in
+    subst AreKept (sym c.close.ensures.files) (closed_files c.self.inside.files.entries c.args.file c.args.kernel c.args.stream c.args.grants free c.self.invariant)

@@ -6,20 +6,20 @@ use Rattle.version_table.proofs.versions.Versions.writers_are_alone.Goals as goa
 
 pub returns-clause-cached : goal.returns-clause-cached
 returns-clause-cached c =
-    let xs = c.self.inside.files.items in
-    subst (λ (t : Table). CachedIsUnshared (file_of t.files c.args.file)) c.self.view_is (cached_unshared (file_of xs c.args.file) (file_coherent xs c.args.file c.self.invariant.1))
+    let xs = c.self.inside.files.entries in
+    subst (λ (t : Table). CachedIsUnshared (file_of t.files c.args.file)) c.self.view_is (cached_unshared (file_of xs c.args.file) (file_coherent xs c.args.file c.self.invariant))
 
 pub returns-clause-caching : goal.returns-clause-caching
 returns-clause-caching c =
-    let xs = c.self.inside.files.items in
-    subst (λ (t : Table). CachingIsUnshared (file_of t.files c.args.file)) c.self.view_is (caching_unshared (file_of xs c.args.file) (file_coherent xs c.args.file c.self.invariant.1))
+    let xs = c.self.inside.files.entries in
+    subst (λ (t : Table). CachingIsUnshared (file_of t.files c.args.file)) c.self.view_is (caching_unshared (file_of xs c.args.file) (file_coherent xs c.args.file c.self.invariant))
 
 pub returns-clause-holder : goal.returns-clause-holder
 returns-clause-holder c =
-    let xs = c.self.inside.files.items in
-    subst (λ (t : Table). CachingIsHolder (file_of t.files c.args.file)) c.self.view_is (caching_holder (file_of xs c.args.file) (file_coherent xs c.args.file c.self.invariant.1))
+    let xs = c.self.inside.files.entries in
+    subst (λ (t : Table). CachingIsHolder (file_of t.files c.args.file)) c.self.view_is (caching_holder (file_of xs c.args.file) (file_coherent xs c.args.file c.self.invariant))
 
 pub returns-clause-stopped : goal.returns-clause-stopped
 returns-clause-stopped c =
-    let xs = c.self.inside.files.items in
-    subst (λ (t : Table). UncachedIsStopped (file_of t.files c.args.file)) c.self.view_is (file_coherent xs c.args.file c.self.invariant.1).stopped
+    let xs = c.self.inside.files.entries in
+    subst (λ (t : Table). UncachedIsStopped (file_of t.files c.args.file)) c.self.view_is (file_coherent xs c.args.file c.self.invariant).stopped
