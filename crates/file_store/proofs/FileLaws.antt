@@ -1,185 +1,136 @@
--- Each file is kept once, and is found and changed at one place.
-use Rattle.std.proofs.Common.{rules, tests, ◌≡◌, ℕ, zero, suc, ◌+◌, ◌*◌, ◌<◌, ◌≤◌, ◌==◌, Bool, true, false, ◌||◌, not, cond, List, [], ◌∷◌, length, Option, Some, None, Result, Ok, Err, OnOk, OnErr, refl, sym, ap, subst, ◌∙◌, arith, slice_set, get_or, is_some, option_map}
-use Rattle.std.specs.List.{find, list_any, position}
-use Rattle.std.proofs.lemmas.List.{length-append, length-replicate, length-take, length-drop}
-use Rattle.std.proofs.lemmas.List.Quantifiers.{position-Some}
+-- What is looked up after an edit of the files.
+use Rattle.std.proofs.Common.{rules, tests, ◌≡◌, ℕ, ◌==◌, Bool, true, false, not, cond, List, [], ◌∷◌, ◌++◌, Some, None, is_some, refl, sym, ap, ◌∙◌}
+use Rattle.std.specs.List.{filter}
+use Rattle.std.specs.Map.{lookup, remove_entry, set_value}
 use Rattle.std.proofs.lemmas.Bool.{and_parts, eqb-true}
 use Rattle.std.proofs.lemmas.Bool.Decides.{eqb_tells}
 use Rattle.sprite_ids.specs.declared.FileId.{FileId}
-use Rattle.sprite_ids.proofs.ListLaws.{each_filter, each_push, each_set}
-use Rattle.sprite_ids.specs.Lists.{without, EachOnce}
-use Rattle.sprite_ids.proofs.OnceLaws.{IsSameness, AtMostOne, at_most_one, filtered_once, pushed_once, found_is_any, found_there, changed_here, dropped, stays}
-use Rattle.file_store.specs.declared.store.Stored.{Stored}
-use Rattle.file_store.specs.Content.{grown, over, written, block_put}
-use Rattle.file_store.specs.Files.{is_of, is_there, bytes_of, held, or_none, with_bytes, with_new, same_file, AreWithin}
-
--- entries of one file
-joined : (x y : Stored) → same_file x y ≡ true → (z : Stored) → same_file x z ≡ same_file y z
-joined x y h z =
-    let parts = and_parts (y.file.server == x.file.server) (y.file.number == x.file.number) h in
-    let server = eqb-true y.file.server x.file.server parts.0 in
-    let number = eqb-true y.file.number x.file.number parts.1 in
-    rw (server, number) refl
-
-eq_turned : (a b : ℕ) → (a == b) ≡ (b == a)
-eq_turned a b = search (rules, tests, eqb_tells a b, eqb_tells b a)
-
-files_same : IsSameness same_file
-files_same = record { joined = joined; turned = λ x y. rw (eq_turned x.file.server y.file.server, eq_turned x.file.number y.file.number) refl }
-
--- each file once is at most one entry of a file
-pub one_entry : (file : FileId) (xs : List Stored) → EachOnce same_file xs → AtMostOne (is_of file) xs
-one_entry file xs h = at_most_one same_file files_same (record { file = file; bytes = [] }) xs h
-
--- without a file the others are each there once, and within the limit
-pub without_kept : (limit : ℕ) (file : FileId) (xs : List Stored) → EachOnce same_file xs × AreWithin limit xs → EachOnce same_file (without (is_of file) xs) × AreWithin limit (without (is_of file) xs)
-without_kept limit file xs h =
-    (filtered_once same_file (λ stored. not (is_of file stored)) xs h.0, each_filter (λ (stored : Stored). length stored.bytes ≤ limit) (λ stored. not (is_of file stored)) xs h.1)
-
--- with a new file too
-pub new_kept : (limit : ℕ) (file : FileId) (xs : List Stored) → is_there xs file ≡ false → EachOnce same_file xs × AreWithin limit xs → EachOnce same_file (with_new xs file) × AreWithin limit (with_new xs file)
-new_kept limit file xs k h =
-    let e : Stored = record { file = file; bytes = [] } in
-    (pushed_once same_file files_same e xs k h.0, each_push (λ (stored : Stored). length stored.bytes ≤ limit) xs e h.1 (omega arith))
-
--- the bytes that are put at the file's place are the file's
-pub put_there : (file : FileId) (bytes : List ℕ) (xs : List Stored) (i : ℕ) (d : Stored) → position (is_of file) xs ≡ Some i → d ≡ get_or xs i d → slice_set xs i (record { file = d.file; bytes = bytes }) ≡ with_bytes xs file bytes
-put_there file bytes xs i d e is = changed_here (is_of file) (λ (s : Stored). record s { bytes = bytes }) xs i d e is
-
--- the bytes at the file's place are those that it holds
-pub held_there : (file : FileId) (xs : List Stored) (i : ℕ) (d : Stored) → position (is_of file) xs ≡ Some i → d ≡ get_or xs i d → held xs file ≡ d.bytes
-held_there file xs i d e is =
-    ap (λ (s : Option Stored). or_none (option_map (λ stored. stored.bytes) s)) (found_there (is_of file) xs i d e ∙ ap Some (sym is))
-
--- other bytes in a file keep each file there
-pub changed_any : (key file : FileId) (bytes : List ℕ) (xs : List Stored) → list_any (is_of key) (with_bytes xs file bytes) ≡ list_any (is_of key) xs
-changed_any key file bytes [] = refl
-changed_any key file bytes (x ∷ xs) =
-    elim (is_of file x) as (λ b. list_any (is_of key) (cond b (record x { bytes = bytes } ∷ xs) (x ∷ with_bytes xs file bytes)) ≡ list_any (is_of key) (x ∷ xs)) [ true ↦ refl | false ↦ ap (λ b. is_of key x || b) (changed_any key file bytes xs) ]
-
-changed_once : (file : FileId) (bytes : List ℕ) (xs : List Stored) → EachOnce same_file xs → EachOnce same_file (with_bytes xs file bytes)
-changed_once file bytes [] h = tt
-changed_once file bytes (x ∷ xs) h =
-    elim (is_of file x) as (λ b. EachOnce same_file (cond b (record x { bytes = bytes } ∷ xs) (x ∷ with_bytes xs file bytes))) [ true ↦ h | false ↦ (changed_any x.file file bytes xs ∙ h.0, changed_once file bytes xs h.1) ]
-
--- bytes within the limit, put at the file's place, keep each file once and within the limit
-pub put_kept : (limit : ℕ) (file : FileId) (bytes : List ℕ) (xs : List Stored) (i : ℕ) (d : Stored) → position (is_of file) xs ≡ Some i → d ≡ get_or xs i d → length bytes ≤ limit → EachOnce same_file xs × AreWithin limit xs → EachOnce same_file (slice_set xs i (record { file = d.file; bytes = bytes })) × AreWithin limit (slice_set xs i (record { file = d.file; bytes = bytes }))
-put_kept limit file bytes xs i d e is short h =
-    (subst (EachOnce same_file) (sym (put_there file bytes xs i d e is)) (changed_once file bytes xs h.0), each_set (λ (stored : Stored). length stored.bytes ≤ limit) xs i (record { file = d.file; bytes = bytes }) short h.1)
-
-within_at : (limit : ℕ) (xs : List Stored) (i : ℕ) (d : Stored) → i < length xs → AreWithin limit xs → length (get_or xs i d).bytes ≤ limit
-within_at limit [] i d h w = absurd (omega arith)
-within_at limit (x ∷ xs) zero d h w = w.0
-within_at limit (x ∷ xs) (suc i) d h w = within_at limit xs i d (omega arith) w.1
-
--- the file at a place is within the limit
-pub within_there : (limit : ℕ) (file : FileId) (xs : List Stored) (i : ℕ) (d : Stored) → position (is_of file) xs ≡ Some i → d ≡ get_or xs i d → AreWithin limit xs → length d.bytes ≤ limit
-within_there limit file xs i d e is w = subst (λ (s : Stored). length s.bytes ≤ limit) (sym is) (within_at limit xs i d (position-Some (is_of file) xs i d e).0 w)
-
--- a position is within the list
-pub found_within : {X : Type 0} (p : X → Bool) (xs : List X) (i : ℕ) → position p xs ≡ Some i → i < length xs
-found_within p [] i e = cc
-found_within p (x ∷ xs) i e = (position-Some p (x ∷ xs) i x e).0
-
--- a file that is there is found
-pub is_found : (file : FileId) (xs : List Stored) → is_there xs file ≡ true → position (is_of file) xs ≡ None → ⊥
-is_found file xs t e = let none = sym (found_is_any (is_of file) xs) ∙ ap is_some e in absurd (cc)
-
--- after a step that may fail
-pub short_after : {A B : Type 0} (r : Result A B) (limit : ℕ) (new changed old : List ℕ) → OnOk r (new ≡ changed) → OnErr r (new ≡ old) → length changed ≤ limit → length old ≤ limit → length new ≤ limit
-short_after (Ok a) limit new changed old went failed c o = subst (λ bytes. length bytes ≤ limit) (sym went) c
-short_after (Err b) limit new changed old went failed c o = subst (λ bytes. length bytes ≤ limit) (sym failed) o
-
-pub ok_after : {A B : Type 0} (r : Result A B) (P Q : Type 0) → (P → Q) → OnOk r P → OnOk r Q
-ok_after (Ok a) P Q f h = f h
-ok_after (Err b) P Q f h = h
-
-grown_short : (limit : ℕ) (bytes : List ℕ) (size : ℕ) → length bytes ≤ limit → size ≤ limit → length (grown bytes size) ≤ limit
-grown_short limit bytes size h k = simp (length-append, length-replicate) (omega (arith, h, k))
-
-grown_long : (bytes : List ℕ) (size : ℕ) → size ≤ length (grown bytes size)
-grown_long bytes size = simp (length-append, length-replicate) (omega arith)
-
-over_length : (limit : ℕ) (bytes : List ℕ) (from : ℕ) (new : List ℕ) → length bytes ≤ limit → from + length new ≤ limit → length (over bytes from new) ≤ limit
-over_length limit bytes from new h k = simp (length-append, length-take, length-drop) (omega (arith, h, k))
-
--- a write within the limit leaves the file within it
-pub written_short : (limit : ℕ) (bytes : List ℕ) (from : ℕ) (new : List ℕ) → length bytes ≤ limit → from + length new ≤ limit → length (written bytes from new) ≤ limit
-written_short limit bytes from [] h k = h
-written_short limit bytes from (x ∷ xs) h k =
-    over_length limit (grown bytes (from + length (x ∷ xs))) from (x ∷ xs) (grown_short limit bytes (from + length (x ∷ xs)) h k) k
-
-pub block_short : (limit : ℕ) (bytes : List ℕ) (block size : ℕ) (new : List ℕ) → length bytes ≤ limit → size ≤ limit → 4096 * block + length new ≤ limit → length (block_put bytes block size new) ≤ limit
-block_short limit bytes block size new h k w = written_short limit (grown bytes size) (4096 * block) new (grown_short limit bytes size h k) w
-
--- an entry of another file
-not_of_by : (s : Stored) (other : FileId) (b : Bool) → is_of other s ≡ b → (other ≡ s.file → ⊥) → b ≡ false
-not_of_by s other true e ne =
-    let parts = and_parts (s.file.server == other.server) (s.file.number == other.number) e in
-    let server = eqb-true s.file.server other.server parts.0 in
-    let number = eqb-true s.file.number other.number parts.1 in
-    let same : other ≡ s.file = λ i. record { server = sym server i; number = sym number i } in
-    absurd (ne same)
-not_of_by s other false e ne = refl
-
-not_of : (s : Stored) (other : FileId) → (other ≡ s.file → ⊥) → is_of other s ≡ false
-not_of s other ne = not_of_by s other (is_of other s) refl ne
-
-of_one : (s : Stored) (file other : FileId) → (other ≡ file → ⊥) → is_of file s ≡ true → is_of other s ≡ false
-of_one s file other ne e =
-    let parts = and_parts (s.file.server == file.server) (s.file.number == file.number) e in
-    let server = eqb-true s.file.server file.server parts.0 in
-    let number = eqb-true s.file.number file.number parts.1 in
-    let same : s.file ≡ file = λ i. record { server = server i; number = number i } in
-    not_of s other (λ is. ne (is ∙ same))
-
-skipped : (s : Stored) (rest : List Stored) (other : FileId) → is_of other s ≡ false → bytes_of (s ∷ rest) other ≡ bytes_of rest other
-skipped s rest other e = ap (λ b. option_map (λ (stored : Stored). stored.bytes) (cond b (Some s) (find (is_of other) rest))) e
-
-behind : (s : Stored) (xs ys : List Stored) (other : FileId) → bytes_of xs other ≡ bytes_of ys other → bytes_of (s ∷ xs) other ≡ bytes_of (s ∷ ys) other
-behind s xs ys other h =
-    elim (is_of other s) as (λ b. option_map (λ (stored : Stored). stored.bytes) (cond b (Some s) (find (is_of other) xs)) ≡ option_map (λ (stored : Stored). stored.bytes) (cond b (Some s) (find (is_of other) ys))) [ true ↦ refl | false ↦ h ]
-
-changed_first : (s : Stored) (rest : List Stored) (file other : FileId) (bytes : List ℕ) (b : Bool) → is_of file s ≡ b → (other ≡ file → ⊥) → bytes_of (with_bytes rest file bytes) other ≡ bytes_of rest other → bytes_of (with_bytes (s ∷ rest) file bytes) other ≡ bytes_of (s ∷ rest) other
-changed_first s rest file other bytes true e ne h =
-    ap (λ b. bytes_of (cond b (record s { bytes = bytes } ∷ rest) (s ∷ with_bytes rest file bytes)) other) e
-    ∙ skipped (record s { bytes = bytes }) rest other (of_one s file other ne e) ∙ sym (skipped s rest other (of_one s file other ne e))
-changed_first s rest file other bytes false e ne h =
-    ap (λ b. bytes_of (cond b (record s { bytes = bytes } ∷ rest) (s ∷ with_bytes rest file bytes)) other) e ∙ behind s (with_bytes rest file bytes) rest other h
-
-pub others_changed : (files : List Stored) (file other : FileId) (bytes : List ℕ) → (other ≡ file → ⊥) → bytes_of (with_bytes files file bytes) other ≡ bytes_of files other
-others_changed [] file other bytes ne = refl
-others_changed (s ∷ rest) file other bytes ne = changed_first s rest file other bytes (is_of file s) refl ne (others_changed rest file other bytes ne)
-
-pub others_made : (files : List Stored) (file other : FileId) → (other ≡ file → ⊥) → bytes_of (with_new files file) other ≡ bytes_of files other
-others_made [] file other ne = skipped (record { file = file; bytes = [] }) [] other (not_of (record { file = file; bytes = [] }) other ne)
-others_made (s ∷ rest) file other ne = behind s (with_new rest file) rest other (others_made rest file other ne)
-
-gone_first : (s : Stored) (rest : List Stored) (file other : FileId) (b : Bool) → is_of file s ≡ b → (other ≡ file → ⊥) → bytes_of (without (is_of file) rest) other ≡ bytes_of rest other → bytes_of (without (is_of file) (s ∷ rest)) other ≡ bytes_of (s ∷ rest) other
-gone_first s rest file other true e ne h =
-    ap (λ xs. bytes_of xs other) (dropped (is_of file) s rest e) ∙ h ∙ sym (skipped s rest other (of_one s file other ne e))
-gone_first s rest file other false e ne h =
-    ap (λ xs. bytes_of xs other) (stays (is_of file) s rest e) ∙ behind s (without (is_of file) rest) rest other h
-
-pub others_gone : (files : List Stored) (file other : FileId) → (other ≡ file → ⊥) → bytes_of (without (is_of file) files) other ≡ bytes_of files other
-others_gone [] file other ne = refl
-others_gone (s ∷ rest) file other ne = gone_first s rest file other (is_of file s) refl ne (others_gone rest file other ne)
+use Rattle.file_store.specs.Files.{Kept, is_file, is_there, bytes_of, with_bytes, with_new, without}
 
 eq_self : (a : ℕ) → (a == a) ≡ true
 eq_self a = search (rules, tests, eqb_tells a a)
 
-pub made_there : (files : List Stored) (file : FileId) → is_there (with_new files file) file ≡ true
-made_there [] file = rw (eq_self file.server, eq_self file.number) refl
-made_there (s ∷ rest) file =
-    ap (λ b. is_of file s || b) (made_there rest file) ∙ elim (is_of file s) as (λ b. (b || true) ≡ true) [ true ↦ refl | false ↦ refl ]
+same_file : (file : FileId) → is_file file file ≡ true
+same_file file = rw (eq_self file.server, eq_self file.number) refl
 
-given_first : (s : Stored) (rest : List Stored) (file : FileId) (bytes : List ℕ) (b : Bool) → is_of file s ≡ b → (b || is_there rest file) ≡ true → (is_there rest file ≡ true → bytes_of (with_bytes rest file bytes) file ≡ Some bytes) → bytes_of (with_bytes (s ∷ rest) file bytes) file ≡ Some bytes
-given_first s rest file bytes true e t h =
-    ap (λ b. bytes_of (cond b (record s { bytes = bytes } ∷ rest) (s ∷ with_bytes rest file bytes)) file) e
-    ∙ ap (λ b. option_map (λ (stored : Stored). stored.bytes) (cond b (Some (record s { bytes = bytes })) (find (is_of file) rest))) e
-given_first s rest file bytes false e t h =
-    ap (λ b. bytes_of (cond b (record s { bytes = bytes } ∷ rest) (s ∷ with_bytes rest file bytes)) file) e ∙ skipped s (with_bytes rest file bytes) file e ∙ h t
+-- two files that the test finds to be one are equal
+one_file : (file other : FileId) → is_file file other ≡ true → file ≡ other
+one_file file other h =
+    let parts = and_parts (file.server == other.server) (file.number == other.number) h in
+    let server = eqb-true file.server other.server parts.0 in
+    let number = eqb-true file.number other.number parts.1 in
+    λ i. record { server = server i; number = number i }
 
-pub given_held : (files : List Stored) (file : FileId) (bytes : List ℕ) → is_there files file ≡ true → bytes_of (with_bytes files file bytes) file ≡ Some bytes
-given_held [] file bytes t = cc
-given_held (s ∷ rest) file bytes t = given_first s rest file bytes (is_of file s) refl t (λ k. given_held rest file bytes k)
+module _ {K V : Type 0} (test : K → Bool) where
+  -- the keys that pass, after another value is put
+  any_by : (other : K → Bool) (e : K × V) (es : List (K × V)) (w : V) (b : Bool) → is_some (lookup other (set_value test es w)) ≡ is_some (lookup other es) → is_some (lookup other (cond b ((e.0, w) ∷ es) (e ∷ set_value test es w))) ≡ is_some (lookup other (e ∷ es))
+  any_by other e es w true h = elim (other e.0) as (λ b. is_some (cond b (Some w) (lookup other es)) ≡ is_some (cond b (Some e.1) (lookup other es))) [ true ↦ refl | false ↦ refl ]
+  any_by other e es w false h = elim (other e.0) as (λ b. is_some (cond b (Some e.1) (lookup other (set_value test es w))) ≡ is_some (cond b (Some e.1) (lookup other es))) [ true ↦ refl | false ↦ h ]
+
+  pub set_any : (other : K → Bool) (es : List (K × V)) (w : V) → is_some (lookup other (set_value test es w)) ≡ is_some (lookup other es)
+  set_any other [] w = refl
+  set_any other (e ∷ es) w = any_by other e es w (test e.0) (set_any other es w)
+
+  put_by : (e : K × V) (es : List (K × V)) (w : V) (b : Bool) → test e.0 ≡ b → (is_some (lookup test es) ≡ true → lookup test (set_value test es w) ≡ Some w) → is_some (cond b (Some e.1) (lookup test es)) ≡ true → lookup test (cond b ((e.0, w) ∷ es) (e ∷ set_value test es w)) ≡ Some w
+  put_by e es w true t h is = ap (λ b. cond b (Some w) (lookup test es)) t
+  put_by e es w false t h is = ap (λ b. cond b (Some e.1) (lookup test (set_value test es w))) t ∙ h is
+
+  -- the value that was put
+  pub set_there : (es : List (K × V)) (w : V) → is_some (lookup test es) ≡ true → lookup test (set_value test es w) ≡ Some w
+  set_there [] w is = absurd (cc)
+  set_there (e ∷ es) w is = put_by e es w (test e.0) refl (λ later. set_there es w later) is
+
+  -- an entry at the end
+  end_by : (e : K × V) (es : List (K × V)) (k : K) (w : V) (b : Bool) → is_some (lookup test (es ++ (k, w) ∷ [])) ≡ true → is_some (cond b (Some e.1) (lookup test (es ++ (k, w) ∷ []))) ≡ true
+  end_by e es k w true h = refl
+  end_by e es k w false h = h
+
+  pub last_any : (es : List (K × V)) (k : K) (w : V) → test k ≡ true → is_some (lookup test (es ++ (k, w) ∷ [])) ≡ true
+  last_any [] k w t = ap (λ b. is_some (cond b (Some w) None)) t
+  last_any (e ∷ es) k w t = end_by e es k w (test e.0) (last_any es k w t)
+
+  past_by : (e : K × V) (es : List (K × V)) (k : K) (w : V) (b : Bool) → lookup test (es ++ (k, w) ∷ []) ≡ lookup test es → cond b (Some e.1) (lookup test (es ++ (k, w) ∷ [])) ≡ cond b (Some e.1) (lookup test es)
+  past_by e es k w true h = refl
+  past_by e es k w false h = h
+
+  pub last_past : (es : List (K × V)) (k : K) (w : V) → test k ≡ false → lookup test (es ++ (k, w) ∷ []) ≡ lookup test es
+  last_past [] k w t = ap (λ b. cond b (Some w) None) t
+  last_past (e ∷ es) k w t = past_by e es k w (test e.0) (last_past es k w t)
+
+  -- entries of which none passes
+  kept_by : (e : K × V) (es : List (K × V)) (b : Bool) → (lookup test es ≡ None → filter (λ x. not (test x.0)) es ≡ es) → cond b (Some e.1) (lookup test es) ≡ None → cond (not b) (e ∷ filter (λ x. not (test x.0)) es) (filter (λ x. not (test x.0)) es) ≡ e ∷ es
+  kept_by e es true h is = absurd (cc)
+  kept_by e es false h is = ap (λ xs. e ∷ xs) (h is)
+
+  none_kept : (es : List (K × V)) → lookup test es ≡ None → filter (λ x. not (test x.0)) es ≡ es
+  none_kept [] is = refl
+  none_kept (e ∷ es) is = kept_by e es (test e.0) (none_kept es) is
+
+  gone_by : (e : K × V) (es : List (K × V)) (b : Bool) → test e.0 ≡ b → (lookup test (remove_entry test es) ≡ None → remove_entry test es ≡ filter (λ x. not (test x.0)) es) → lookup test (cond b es (e ∷ remove_entry test es)) ≡ None → cond b es (e ∷ remove_entry test es) ≡ cond (not b) (e ∷ filter (λ x. not (test x.0)) es) (filter (λ x. not (test x.0)) es)
+  gone_by e es true t h is = sym (none_kept es is)
+  gone_by e es false t h is = ap (λ xs. e ∷ xs) (h (sym (ap (λ b. cond b (Some e.1) (lookup test (remove_entry test es))) t) ∙ is))
+
+  -- where the first that passes is left out, and no other passes, all that pass are
+  pub removed_all : (es : List (K × V)) → lookup test (remove_entry test es) ≡ None → remove_entry test es ≡ filter (λ x. not (test x.0)) es
+  removed_all [] is = refl
+  removed_all (e ∷ es) is = gone_by e es (test e.0) refl (removed_all es) is
+
+  left_by : (e : K × V) (es : List (K × V)) (b : Bool) → test e.0 ≡ b → is_some (lookup test (filter (λ x. not (test x.0)) es)) ≡ false → is_some (lookup test (cond (not b) (e ∷ filter (λ x. not (test x.0)) es) (filter (λ x. not (test x.0)) es))) ≡ false
+  left_by e es true t h = h
+  left_by e es false t h = ap (λ b. is_some (cond b (Some e.1) (lookup test (filter (λ x. not (test x.0)) es)))) t ∙ h
+
+  -- then none passes
+  pub none_left : (es : List (K × V)) → is_some (lookup test (filter (λ x. not (test x.0)) es)) ≡ false
+  none_left [] = refl
+  none_left (e ∷ es) = left_by e es (test e.0) refl (none_left es)
+
+  module _ (other : K → Bool) (apart : (k : K) → test k ≡ true → other k ≡ false) where
+    past : (e : K × V) (es : List (K × V)) → other e.0 ≡ false → lookup other (e ∷ es) ≡ lookup other es
+    past e es away = ap (λ b. cond b (Some e.1) (lookup other es)) away
+
+    set_by : (e : K × V) (es : List (K × V)) (w : V) (b : Bool) → test e.0 ≡ b → lookup other (set_value test es w) ≡ lookup other es → lookup other (cond b ((e.0, w) ∷ es) (e ∷ set_value test es w)) ≡ lookup other (e ∷ es)
+    set_by e es w true t h = past (e.0, w) es (apart e.0 t) ∙ sym (past e es (apart e.0 t))
+    set_by e es w false t h = ap (cond (other e.0) (Some e.1)) h
+
+    -- another value, after one is put
+    pub set_other : (es : List (K × V)) (w : V) → lookup other (set_value test es w) ≡ lookup other es
+    set_other [] w = refl
+    set_other (e ∷ es) w = set_by e es w (test e.0) refl (set_other es w)
+
+    away_by : (e : K × V) (es : List (K × V)) (b : Bool) → test e.0 ≡ b → lookup other (filter (λ x. not (test x.0)) es) ≡ lookup other es → lookup other (cond (not b) (e ∷ filter (λ x. not (test x.0)) es) (filter (λ x. not (test x.0)) es)) ≡ lookup other (e ∷ es)
+    away_by e es true t h = h ∙ sym (past e es (apart e.0 t))
+    away_by e es false t h = ap (cond (other e.0) (Some e.1)) h
+
+    -- after all that pass are left out
+    pub without_other : (es : List (K × V)) → lookup other (filter (λ x. not (test x.0)) es) ≡ lookup other es
+    without_other [] = refl
+    without_other (e ∷ es) = away_by e es (test e.0) refl (without_other es)
+
+-- a file that isn't another is found past it
+apart_by : (file other middle : FileId) (b : Bool) → is_file other middle ≡ b → (other ≡ file → ⊥) → is_file file middle ≡ true → b ≡ false
+apart_by file other middle true e ne is = absurd (ne (one_file other middle e ∙ sym (one_file file middle is)))
+apart_by file other middle false e ne is = refl
+
+apart : (file other : FileId) → (other ≡ file → ⊥) → (middle : FileId) → is_file file middle ≡ true → is_file other middle ≡ false
+apart file other ne middle is = apart_by file other middle (is_file other middle) refl ne is
+
+pub others_changed : (files : Kept) (file other : FileId) (bytes : List ℕ) → (other ≡ file → ⊥) → bytes_of (with_bytes files file bytes) other ≡ bytes_of files other
+others_changed files file other bytes ne = set_other (is_file file) (is_file other) (apart file other ne) files bytes
+
+pub others_made : (files : Kept) (file other : FileId) → (other ≡ file → ⊥) → bytes_of (with_new files file) other ≡ bytes_of files other
+others_made files file other ne = last_past (is_file other) files file [] (apart file other ne file (same_file file))
+
+pub others_gone : (files : Kept) (file other : FileId) → (other ≡ file → ⊥) → bytes_of (without files file) other ≡ bytes_of files other
+others_gone files file other ne = without_other (is_file file) (is_file other) (apart file other ne) files
+
+pub changed_there : (files : Kept) (file other : FileId) (bytes : List ℕ) → is_there (with_bytes files file bytes) other ≡ is_there files other
+changed_there files file other bytes = set_any (is_file file) (is_file other) files bytes
+
+pub made_there : (files : Kept) (file : FileId) → is_there (with_new files file) file ≡ true
+made_there files file = last_any (is_file file) files file [] (same_file file)
+
+pub gone_there : (files : Kept) (file : FileId) → is_there (without files file) file ≡ false
+gone_there files file = none_left (is_file file) files
+
+pub given_held : (files : Kept) (file : FileId) (bytes : List ℕ) → is_there files file ≡ true → bytes_of (with_bytes files file bytes) file ≡ Some bytes
+given_held files file bytes is = set_there (is_file file) files bytes is

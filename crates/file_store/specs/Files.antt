@@ -1,26 +1,29 @@
 -- The files of one server.
-use Rattle.std.specs.Prelude.{ℕ, ◌≤◌, ◌==◌, Bool, ◌&&◌, List, [], ◌∷◌, ◌++◌, length, Option, Some, None, option_map}
-use Rattle.std.specs.List.{AllByRecursion, find, list_any}
+use Rattle.std.specs.Prelude.{ℕ, ◌≤◌, ◌==◌, Bool, ◌&&◌, not, is_some, List, [], ◌∷◌, ◌++◌, length, Option, Some, None}
+use Rattle.std.specs.List.{AllByRecursion, filter}
+use Rattle.std.specs.Map.{lookup, set_value}
 use Rattle.sprite_ids.specs.declared.FileId.{FileId}
-use Rattle.sprite_ids.specs.Lists.{changed, EachOnce}
-use Rattle.file_store.specs.declared.store.Stored.{Stored}
 
--- the most bytes that a file may have, and the files
+-- files and their bytes
+abbrev pub Kept : Type 0
+Kept = List (FileId × List ℕ)
+
+-- the most bytes that a file may have, and the files in the order in which they were made
 pub record Files : Type 0 where
   pub limit : ℕ
-  pub files : List Stored
+  pub files : Kept
 
--- whether it is that file
-abbrev pub is_of : FileId → Stored → Bool
-is_of file stored = (stored.file.server == file.server) && (stored.file.number == file.number)
-
--- whether the file is there
-abbrev pub is_there : List Stored → FileId → Bool
-is_there files file = list_any (is_of file) files
+-- whether the two are one file
+abbrev pub is_file : FileId → FileId → Bool
+is_file file other = (file.server == other.server) && (file.number == other.number)
 
 -- the file's bytes, where it is there
-abbrev pub bytes_of : List Stored → FileId → Option (List ℕ)
-bytes_of files file = option_map (λ stored. stored.bytes) (find (is_of file) files)
+abbrev pub bytes_of : Kept → FileId → Option (List ℕ)
+bytes_of files file = lookup (is_file file) files
+
+-- whether the file is there
+abbrev pub is_there : Kept → FileId → Bool
+is_there files file = is_some (bytes_of files file)
 
 -- looked-up bytes, or none
 abbrev pub or_none : Option (List ℕ) → List ℕ
@@ -28,25 +31,21 @@ or_none (Some bytes) = bytes
 or_none None = []
 
 -- the bytes of a file that is there
-abbrev pub held : List Stored → FileId → List ℕ
+abbrev pub held : Kept → FileId → List ℕ
 held files file = or_none (bytes_of files file)
 
 -- the files with other bytes in one of them
-abbrev pub with_bytes : List Stored → FileId → List ℕ → List Stored
-with_bytes files file bytes = changed (is_of file) (λ stored. record stored { bytes = bytes }) files
+abbrev pub with_bytes : Kept → FileId → List ℕ → Kept
+with_bytes files file bytes = set_value (is_file file) files bytes
 
 -- the files and an empty one
-abbrev pub with_new : List Stored → FileId → List Stored
-with_new files file = files ++ record { file = file; bytes = [] } ∷ []
+abbrev pub with_new : Kept → FileId → Kept
+with_new files file = files ++ (file, []) ∷ []
 
--- whether the two are one file
-abbrev pub same_file : Stored → Stored → Bool
-same_file stored other = is_of stored.file other
+-- the files but one
+abbrev pub without : Kept → FileId → Kept
+without files file = filter (λ stored. not (is_file file stored.0)) files
 
 -- no file is longer than the limit
-abbrev pub AreWithin : ℕ → List Stored → Type 0
-AreWithin limit files = AllByRecursion (λ (stored : Stored). length stored.bytes ≤ limit) files
-
--- each file once, within the limit
-abbrev pub AreKept : ℕ → List Stored → Type 0
-AreKept limit files = EachOnce same_file files × AreWithin limit files
+abbrev pub AreWithin : ℕ → Kept → Type 0
+AreWithin limit files = AllByRecursion (λ (stored : FileId × List ℕ). length stored.1 ≤ limit) files

@@ -11,7 +11,7 @@ pub use laws::{
     files_are_there, other_files_stay, reads_are_short, written_bytes_are_read,
     written_file_is_held,
 };
-pub use store::{Store, Stored};
+pub use store::Store;
 
 #[cfg(test)]
 mod tests;

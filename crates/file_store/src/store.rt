@@ -1,38 +1,31 @@
-ghost use Rattle.std.specs.Prelude.{◌≡◌, ◌≤◌, ◌<◌, ◌+◌, ◌*◌, [], false, Some, IfOk, OnOk, OnErr, IsTrue, length};
-ghost use Rattle.std.specs.List.{position};
+ghost use Rattle.std.specs.Prelude.{◌≡◌, ◌≤◌, ◌<◌, ◌+◌, ◌*◌, [], false, IfOk, OnOk, OnErr, IsTrue, length, option_copied};
 ghost use Rattle.file_store.specs.Content.{read_of, written, block_put};
-ghost use Rattle.sprite_ids.specs.Lists.{without};
-ghost use Rattle.file_store.specs.Files.{is_of, is_there, held, with_bytes, with_new};
+ghost use Rattle.file_store.specs.Files.{is_there, bytes_of, held, with_bytes, with_new, without, AreWithin};
 
 use crate::content::Content;
+use indexmap::IndexMap;
 use sprite_ids::{BlockNo, FileId, NoMemory};
 use std::alloc::Global;
 use std::marker::Model;
 
-/// A file that is kept.
-#[derive(Debug, Drop)]
-pub struct Stored {
-    pub file: FileId,
-    pub bytes: Content,
-}
-
-/// The files of one server, each once. Contracts see the most bytes that a file may have, and the files.
+/// The files of one server. Contracts see the most bytes that a file may have, and the files with their bytes, in the order
+/// in which they were made.
 #[derive(Debug, Drop)]
 pub struct Store {
     alloc: Global,
     limit: u32,
-    files: Vec<Stored>,
+    files: IndexMap<FileId, Content>,
 }
 
 impl Model for Store {
     ghost use Rattle.std.specs.Prelude.{◌≤◌};
-    ghost use Rattle.file_store.specs.Files.{Files, AreKept};
+    ghost use Rattle.file_store.specs.Files.{Files, AreWithin};
 
     ghost Value = { Files };
 
-    ghost view = { λ store. record { limit = store.limit; files = store.files.items } };
+    ghost view = { λ store. record { limit = store.limit; files = store.files.entries } };
 
-    ghost invariant = { λ store. (store.limit ≤ 4294967295) × AreKept store.limit store.files.items };
+    ghost invariant = { λ store. (store.limit ≤ 4294967295) × AreWithin store.limit store.files.entries };
 }
 
 impl Store {
@@ -43,7 +36,7 @@ impl Store {
         Store {
             alloc,
             limit,
-            files: Vec::new(alloc),
+            files: IndexMap::new(alloc),
         }
     }
 
@@ -58,7 +51,7 @@ impl Store {
     pub fn has(&self, file: FileId) -> bool
         ensures { result ≡ is_there self.now.files file }
     {
-        self.files.iter().any(|stored| stored.file == file)
+        self.files.get(&file).is_some()
     }
 
     /// Makes the file, which isn't there yet; it has no bytes. After want of memory, the one error, all is as before.
@@ -67,8 +60,7 @@ impl Store {
         ensures ok { OnOk result (self.new ≡ record self.old { files = with_new self.old.files file }) }
         ensures err { OnErr result (self.new ≡ self.old) }
     {
-        let bytes = Content::new(self.alloc);
-        self.files.push(Stored { file, bytes })?;
+        self.files.insert(file, Content::new(self.alloc))?;
         Ok(())
     }
 
@@ -77,8 +69,10 @@ impl Store {
         requires { IsTrue (is_there self.now.files file) }
         ensures { result ≡ length (held self.now.files file) }
     {
-        let at = place_of(self.files.as_slice(), file);
-        self.files[at].bytes.len() as u32
+        match self.files.get(&file) {
+            Some(content) => content.len() as u32,
+            None => 0,
+        }
     }
 
     /// The file's bytes from `from` on: `length` of them, or fewer where the file ends before. The file is there, and
@@ -88,8 +82,10 @@ impl Store {
         requires within { from + length ≤ self.now.limit }
         ensures { IfOk result (λ bytes. bytes.items ≡ read_of (held self.now.files file) from length) }
     {
-        let at = place_of(self.files.as_slice(), file);
-        self.files[at].bytes.read(self.alloc, from, length)
+        match self.files.get(&file) {
+            Some(content) => content.read(self.alloc, from, length),
+            None => Ok(Vec::new(self.alloc)),
+        }
     }
 
     /// Writes the bytes into the file, from `from` on. The file grows where they end past its end, and what lies
@@ -101,8 +97,7 @@ impl Store {
         ensures ok { OnOk result (self.new ≡ record self.old { files = with_bytes self.old.files file (written (held self.old.files file) from bytes.now) }) }
         ensures err { OnErr result (self.new ≡ self.old) }
     {
-        let at = place_of(self.files.as_slice(), file);
-        self.files[at].bytes.write(from, bytes)
+        write_in(&mut self.files, &file, from, bytes)
     }
 
     /// Puts the bytes at the block's place, which is 4,096 times its number, and lets the file grow to `size` where it
@@ -121,8 +116,7 @@ impl Store {
         ensures ok { OnOk result (self.new ≡ record self.old { files = with_bytes self.old.files file (block_put (held self.old.files file) block.0 size bytes.now) }) }
         ensures err { OnErr result (self.new ≡ self.old) }
     {
-        let at = place_of(self.files.as_slice(), file);
-        self.files[at].bytes.put_block(block, size, bytes)
+        put_block_in(&mut self.files, &file, block, size, bytes)
     }
 
     /// Drops all bytes of the file, which is there and stays there.
@@ -130,35 +124,61 @@ impl Store {
         requires { IsTrue (is_there self.old.files file) }
         ensures { self.new ≡ record self.old { files = with_bytes self.old.files file [] } }
     {
-        let at = place_of(self.files.as_slice(), file);
-        self.files[at].bytes.clear();
+        clear_in(&mut self.files, &file);
     }
 
     /// Drops the file, which is there.
     pub fn forget(&mut self, file: FileId)
         requires { IsTrue (is_there self.old.files file) }
-        ensures { self.new ≡ record self.old { files = without (is_of file) self.old.files } }
+        ensures { self.new ≡ record self.old { files = without self.old.files file } }
     {
-        let at = place_of(self.files.as_slice(), file);
-        self.files.remove(at);
+        self.files.shift_remove(&file);
     }
 }
 
-// Where the file stands, which is there.
-fn place_of(files: &[Stored], file: FileId) -> usize
-    requires { IsTrue (is_there files.now file) }
-    ensures place { position (is_of file) files.now ≡ Some result }
-    ensures within { result < length files.now }
+// Writes the bytes into the file, which is there.
+fn write_in(
+    files: &mut IndexMap<FileId, Content>,
+    file: &FileId,
+    from: u32,
+    bytes: &[u8],
+) -> Result<(), NoMemory>
+    requires there { IsTrue (is_there files.old.entries file.now) }
+    requires within { from + length bytes.now ≤ 4294967295 }
+    ensures ok { OnOk result (files.new.entries ≡ with_bytes files.old.entries file.now (written (held files.old.entries file.now) from bytes.now)) }
+    ensures err { OnErr result (files.new.entries ≡ files.old.entries) }
 {
-    match found_at(files, file) {
-        Some(at) => at,
-        None => 0,
-    }
+    let Some(content) = files.get_mut(file) else {
+        return Ok(());
+    };
+    content.write(from, bytes)
 }
 
-// Where the file stands, if it is there.
-fn found_at(files: &[Stored], file: FileId) -> Option<usize>
-    ensures { result ≡ position (is_of file) files.now }
+// Puts the block into the file, which is there.
+fn put_block_in(
+    files: &mut IndexMap<FileId, Content>,
+    file: &FileId,
+    block: BlockNo,
+    size: u32,
+    bytes: &[u8],
+) -> Result<(), NoMemory>
+    requires there { IsTrue (is_there files.old.entries file.now) }
+    requires within { 4096 * block.0 + length bytes.now ≤ 4294967295 }
+    ensures ok { OnOk result (files.new.entries ≡ with_bytes files.old.entries file.now (block_put (held files.old.entries file.now) block.0 size bytes.now)) }
+    ensures err { OnErr result (files.new.entries ≡ files.old.entries) }
 {
-    files.iter().position(|stored| stored.file == file)
+    let Some(content) = files.get_mut(file) else {
+        return Ok(());
+    };
+    content.put_block(block, size, bytes)
+}
+
+// Drops all bytes of the file, which is there.
+fn clear_in(files: &mut IndexMap<FileId, Content>, file: &FileId)
+    requires { IsTrue (is_there files.old.entries file.now) }
+    ensures { files.new.entries ≡ with_bytes files.old.entries file.now [] }
+{
+    if let Some(content) = files.get_mut(file) {
+        content.clear();
+    }
 }

@@ -1,93 +1,158 @@
-use crate::content::Content;
 use crate::store::Store;
-use sprite_ids::{BlockNo, FileId, Kernel};
+use sprite_ids::{BlockNo, FileId, Kernel, NoMemory};
 use std::test::Fail;
 
+// A call on the store. Files go by their numbers at one server.
+#[derive(Clone, Copy)]
+enum Act {
+    Make(u32),
+    Write(u32, u32, &'static [u8]),
+    // The block, the size to which the file grows, and the bytes.
+    PutBlock(u32, u16, u32, &'static [u8]),
+    Truncate(u32),
+    Forget(u32),
+    // What is read there, of so many bytes at most.
+    Read(u32, u32, u32, &'static [u8]),
+    // None where the file isn't there.
+    Size(u32, Option<u32>),
+}
+
+const ACTS: [Act; 24] = [
+    Act::Size(7, None),
+    Act::Make(7),
+    Act::Make(8),
+    Act::Write(7, 262_144, b""),
+    Act::Size(7, Some(0)),
+    // A hole before the bytes is zeros.
+    Act::Write(7, 2, b"\x05\x06\x07"),
+    Act::Read(7, 0, 9, b"\0\0\x05\x06\x07"),
+    Act::Read(7, 1, 2, b"\0\x05"),
+    Act::Read(7, 9, 3, b""),
+    Act::Write(7, 4, b"\x09\x09"),
+    Act::Read(7, 3, 9, b"\x06\x09\x09"),
+    // A block is put at its place, and the file grows to its size, but is never cut.
+    Act::PutBlock(8, 0, 3, b"\x01\x02\x03"),
+    Act::PutBlock(8, 1, 4_097, b"\x04\x05"),
+    Act::Size(8, Some(4_098)),
+    Act::PutBlock(8, 1, 0, b"\x06"),
+    Act::Size(8, Some(4_098)),
+    Act::Read(8, 4_095, 4, b"\0\x06\x05"),
+    Act::PutBlock(8, 63, 262_144, b"\x07"),
+    Act::Size(8, Some(262_144)),
+    Act::Truncate(8),
+    Act::Size(8, Some(0)),
+    Act::Forget(7),
+    Act::Size(7, None),
+    Act::Size(8, Some(0)),
+];
+
 #[test]
-fn a_write_leaves_zeros_in_a_hole(rt: HostRuntime) -> Result<(), Fail> {
+fn calls_answer_as_worked_out(rt: HostRuntime) -> Result<(), Fail> {
     let server = Kernel::new(2).ok_or("kernel 2")?;
-    let file = FileId { server, number: 7 };
     let mut store = Store::new(rt.alloc(), 262_144);
-    assert_eq!(rt; store.limit(), 262_144);
-    store.make(file)?;
-    store.write_at(file, 262_144, &[])?;
-    assert_eq!(rt; store.size(file), 0);
-    store.write_at(file, 2, &[5, 6, 7])?;
-    let reads: [(u32, u32, &[u8]); 7] = [
-        (0, 5, &[0, 0, 5, 6, 7]),
-        (0, 9, &[0, 0, 5, 6, 7]),
-        (1, 2, &[0, 5]),
-        (4, 1, &[7]),
-        (5, 3, &[]),
-        (9, 3, &[]),
-        (3, 0, &[]),
-    ];
-    for (from, length, wanted) in reads {
-        let bytes = store.read_at(file, from, length)?;
-        assert!(rt; bytes.as_slice() == wanted, "{length} bytes from {from}");
-    }
-    store.write_at(file, 3, &[8])?;
-    assert!(rt; store.read_at(file, 0, 9)?.as_slice() == [0, 0, 5, 8, 7].as_slice());
-    store.write_at(file, 4, &[9, 9])?;
-    assert!(rt; store.read_at(file, 0, 9)?.as_slice() == [0, 0, 5, 8, 9, 9].as_slice());
-    assert_eq!(rt; store.size(file), 6);
+    assert_eq!(rt; first_wrong(&mut store, server, &ACTS)?, None);
     Ok(())
 }
 
-#[test]
-fn other_files_stay(rt: HostRuntime) -> Result<(), Fail> {
-    let alloc = rt.alloc();
-    let two = Kernel::new(2).ok_or("kernel 2")?;
-    let three = Kernel::new(3).ok_or("kernel 3")?;
-    let one = FileId {
-        server: two,
-        number: 1,
-    };
-    let other = FileId {
-        server: three,
-        number: 1,
-    };
-    let mut store = Store::new(alloc, 100);
-    store.make(one)?;
-    store.make(other)?;
-    store.write_at(one, 0, &[1, 1])?;
-    store.write_at(other, 0, &[2, 2, 2])?;
-    store.truncate(one);
-    assert!(rt; store.has(one));
-    assert_eq!(rt; store.size(one), 0);
-    assert!(rt; store.read_at(other, 0, 9)?.as_slice() == [2, 2, 2].as_slice());
-    store.forget(other);
-    assert!(rt; !store.has(other));
-    assert!(rt; store.has(one));
-    store.make(other)?;
-    assert_eq!(rt; store.size(other), 0);
-    Ok(())
+// The place of the first call that shows something else.
+fn first_wrong(store: &mut Store, server: Kernel, acts: &[Act]) -> Result<Option<usize>, NoMemory> {
+    for place in 0..acts.len() {
+        if !shows(store, server, &acts[place])? {
+            return Ok(Some(place));
+        }
+    }
+    Ok(None)
 }
 
-#[test]
-fn a_block_is_put_at_its_place(rt: HostRuntime) -> Result<(), Fail> {
-    let alloc = rt.alloc();
-    let mut content = Content::new(alloc);
-    let puts: [(u16, u32, &[u8], usize); 5] = [
-        (0, 3, &[1, 2, 3], 3),
-        (1, 4_097, &[4, 5], 4_098),
-        (1, 0, &[6], 4_098),
-        (0, 9_000, &[], 9_000),
-        (63, 262_144, &[7], 262_144),
-    ];
-    for (block, size, bytes, wanted) in puts {
-        content.put_block(BlockNo(block), size, bytes)?;
-        assert_eq!(rt; content.len(), wanted, "block {block}");
+// Makes the call; false where it shows something else, or where a condition of it doesn't hold.
+fn shows(store: &mut Store, server: Kernel, act: &Act) -> Result<bool, NoMemory> {
+    match *act {
+        Act::Make(number) => make(store, &FileId { server, number }),
+        Act::Write(number, from, bytes) => write(store, &FileId { server, number }, from, bytes),
+        Act::PutBlock(number, block, size, bytes) => {
+            put_block(
+                store,
+                &FileId { server, number },
+                BlockNo(block),
+                size,
+                bytes,
+            )
+        }
+        Act::Truncate(number) => Ok(truncate(store, &FileId { server, number })),
+        Act::Forget(number) => Ok(forget(store, &FileId { server, number })),
+        Act::Read(number, from, length, wanted) => {
+            reads(store, &FileId { server, number }, from, length, wanted)
+        }
+        Act::Size(number, wanted) => Ok(size(store, &FileId { server, number }) == wanted),
     }
-    let reads: [(u32, u32, &[u8]); 4] = [
-        (0, 5, &[1, 2, 3, 0, 0]),
-        (4_095, 4, &[0, 6, 5, 0]),
-        (258_047, 3, &[0, 7, 0]),
-        (262_143, 1, &[0]),
-    ];
-    for (from, length, wanted) in reads {
-        let bytes = content.read(alloc, from, length)?;
-        assert!(rt; bytes.as_slice() == wanted, "{length} bytes from {from}");
+}
+
+fn make(store: &mut Store, file: &FileId) -> Result<bool, NoMemory> {
+    if store.has(*file) {
+        return Ok(false);
     }
-    Ok(())
+    store.make(*file)?;
+    Ok(true)
+}
+
+fn write(store: &mut Store, file: &FileId, from: u32, bytes: &[u8]) -> Result<bool, NoMemory> {
+    let end = u64::from(from) + bytes.len() as u64;
+    if !store.has(*file) || end > u64::from(store.limit()) {
+        return Ok(false);
+    }
+    store.write_at(*file, from, bytes)?;
+    Ok(true)
+}
+
+fn put_block(
+    store: &mut Store,
+    file: &FileId,
+    block: BlockNo,
+    size: u32,
+    bytes: &[u8],
+) -> Result<bool, NoMemory> {
+    let end = 4096 * u64::from(block.0) + bytes.len() as u64;
+    if !store.has(*file) || end > u64::from(store.limit()) || size > store.limit() {
+        return Ok(false);
+    }
+    store.put_block(*file, block, size, bytes)?;
+    Ok(true)
+}
+
+fn truncate(store: &mut Store, file: &FileId) -> bool {
+    if !store.has(*file) {
+        return false;
+    }
+    store.truncate(*file);
+    true
+}
+
+fn forget(store: &mut Store, file: &FileId) -> bool {
+    if !store.has(*file) {
+        return false;
+    }
+    store.forget(*file);
+    true
+}
+
+fn reads(
+    store: &Store,
+    file: &FileId,
+    from: u32,
+    length: u32,
+    wanted: &[u8],
+) -> Result<bool, NoMemory> {
+    let end = u64::from(from) + u64::from(length);
+    if !store.has(*file) || end > u64::from(store.limit()) {
+        return Ok(false);
+    }
+    let bytes = store.read_at(*file, from, length)?;
+    Ok(bytes.as_slice() == wanted)
+}
+
+fn size(store: &Store, file: &FileId) -> Option<u32> {
+    if !store.has(*file) {
+        return None;
+    }
+    Some(store.size(*file))
 }

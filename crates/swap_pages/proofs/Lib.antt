@@ -1,1 +1,1 @@
-pub mod SwapLaws
+pub mod TakeLaws

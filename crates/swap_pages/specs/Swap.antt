@@ -1,21 +1,26 @@
 -- The pages that are kept.
-use Rattle.std.specs.Prelude.{ℕ, ◌==◌, Bool, ◌&&◌, List, [], ◌∷◌, ◌++◌, Option, option_map}
-use Rattle.std.specs.List.{find}
-use Rattle.sprite_ids.specs.Lists.{without}
-use Rattle.swap_pages.specs.declared.swap.Kept.{Kept}
+use Rattle.std.specs.Prelude.{ℕ, ◌==◌, Bool, ◌&&◌, not, List, Option}
+use Rattle.std.specs.List.{filter}
+use Rattle.std.specs.Map.{lookup}
+use Rattle.indexmap.specs.IndexMap.{insert_entry}
+use Rattle.swap_pages.specs.declared.swap.PageKey.{PageKey}
 
--- whether it is that page of that process
-abbrev pub is_of : ℕ → ℕ → Kept → Bool
-is_of pid page kept = (kept.pid == pid) && (kept.page == page)
-
--- the bytes of a page, where it is kept
-abbrev pub bytes_of : List Kept → ℕ → ℕ → Option (List ℕ)
-bytes_of pages pid page = option_map (λ kept. kept.bytes) (find (is_of pid page) pages)
-
--- the pages after one was put
-abbrev pub put : List Kept → ℕ → ℕ → List ℕ → List Kept
-put pages pid page bytes = without (is_of pid page) pages ++ record { pid = pid; page = page; bytes = bytes } ∷ []
+-- pages and their bytes
+abbrev pub Pages : Type 0
+Pages = List (PageKey × List ℕ)
 
 -- whether the two are one page
-abbrev pub same_page : Kept → Kept → Bool
-same_page kept other = is_of kept.pid kept.page other
+abbrev pub is_page : PageKey → PageKey → Bool
+is_page key other = (key.pid == other.pid) && (key.page == other.page)
+
+-- the bytes of a page, where it is kept
+abbrev pub bytes_of : Pages → ℕ → ℕ → Option (List ℕ)
+bytes_of pages pid page = lookup (is_page (record { pid = pid; page = page })) pages
+
+-- the pages after one was put
+abbrev pub put : Pages → ℕ → ℕ → List ℕ → Pages
+put pages pid page bytes = insert_entry is_page pages (record { pid = pid; page = page }) bytes
+
+-- the pages but one
+abbrev pub without : Pages → ℕ → ℕ → Pages
+without pages pid page = filter (λ kept. not (is_page (record { pid = pid; page = page }) kept.0)) pages

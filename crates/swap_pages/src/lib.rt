@@ -4,7 +4,7 @@
 
 mod swap;
 
-pub use swap::{Kept, Swap};
+pub use swap::{PageKey, Swap};
 
 #[cfg(test)]
 mod tests;
