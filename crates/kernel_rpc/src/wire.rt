@@ -87,7 +87,6 @@ impl<M: Message + Drop, L: Link> Wire<M, L> {
         requires apart { from ≢ to }
         requires port { IsTrue (is_free self.old.machine from port) }
         requires numbers { self.old.machine.begun < 4294967295 }
-        requires message { M.is_message body }
         ensures tx { IfOk result (λ call. call.0 ≡ record { 0 = self.old.machine.begun + 1 }) }
         ensures link { IfOk result (λ call. IsAsked (L.faults self.old.link) (L.asked self.old.link) (L.faults self.new.link) (L.asked self.new.link) from to call.1) }
         ensures machine { IfOk result (λ call. self.new.machine ≡ begun (new_call self.old.machine from port (to ∷ []) to (M.spelling body) tries about (L.faults self.old.link from to)) ((to, call.1) ∷ []) self.old.machine) }
@@ -163,7 +162,6 @@ impl<M: Message + Drop, L: Link> Wire<M, L> {
         requires owner { list_any (λ server. server == owner) servers.now ≡ true }
         requires port { IsTrue (is_free self.old.machine from port) }
         requires numbers { self.old.machine.begun < 4294967295 }
-        requires message { M.is_message body }
         ensures tx { IfOk result (λ call. call.0 ≡ record { 0 = self.old.machine.begun + 1 }) }
         ensures fates { IfOk result (λ call. length call.1 ≡ length servers.now) }
         ensures link { IfOk result (λ call. Asks L.faults L.asked from self.old.link self.new.link (pairs servers.now call.1)) }
@@ -226,7 +224,6 @@ impl<M: Message + Drop, L: Link> Wire<M, L> {
     /// is as before; the body is dropped.
     pub fn answer(&mut self, alloc: Global, tx: TxNo, body: M) -> Result<Fate, NoMemory>
         requires taken { IsTrue (may_answer self.old.machine tx) }
-        requires message { M.is_message body }
         ensures link { IfOk result (λ fate. AsksBack L.faults L.asked self.old.link self.new.link fate (call_of self.old.machine tx)) }
         ensures machine { IfOk result (λ fate. self.new.machine ≡ answer tx (M.spelling body) fate self.old.machine) }
         ensures err { OnErr result (self.new ≡ self.old) }
@@ -369,10 +366,10 @@ impl<M: Message + Drop, L: Link> Wire<M, L> {
     }
 }
 
-// The bytes of a message.
+// The bytes of a message. Want of memory is also the answer where it is too long to be spelled.
 fn spelled<M: Message + Drop>(alloc: Global, body: M) -> Result<Bytes, NoMemory>
-    requires { M.is_message body }
-    ensures { IfOk result (λ bytes. bytes ≡ M.spelling body) }
+    ensures bytes { IfOk result (λ bytes. bytes ≡ M.spelling body) }
+    ensures known { IfOk result (λ _. M.is_message body) }
 {
     Ok(Bytes::of_vec(body.spell(alloc)?))
 }
