@@ -10,3 +10,4 @@ pub mod RunLaws
 pub mod CauseLaws
 pub mod StayLaws
 pub mod PortLaws
+pub mod CountLaws

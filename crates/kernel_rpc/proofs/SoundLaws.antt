@@ -123,7 +123,7 @@ found_sound P p call (first ∷ rest) e h = by_first P call first (find p rest) 
   by_first P call first rest later here true e = subst P (some_is first call e) here
   by_first P call first rest later here false e = later e
 
-each_within : (first last : ℕ) (calls : List Call) → IsNumbered first calls last → AllByRecursion (λ (call : Call). call.tx.0 ≤ last) calls
+pub each_within : (first last : ℕ) (calls : List Call) → IsNumbered first calls last → AllByRecursion (λ (call : Call). call.tx.0 ≤ last) calls
 each_within first last [] h = tt
 each_within first last (call ∷ calls) h = (first_to_last call.tx.0 last calls h.1, each_within call.tx.0 last calls h.1)
 
