@@ -11,3 +11,6 @@ pub mod CauseLaws
 pub mod StayLaws
 pub mod PortLaws
 pub mod CountLaws
+pub mod StepLaws
+pub mod OrderLaws
+pub mod TryLaws

@@ -14,6 +14,7 @@ mod wire;
 
 pub use call::{Arrival, Call, CallState, PacketCopy, Part, Receiver};
 pub use laws::{
+    calls_are_steps, copies_have_numbers_of_their_own, given_up_at_the_eighth_try,
     given_up_for_cause, replies_come_at_most_once, requests_come_at_most_once,
     unfinished_calls_stay,
 };
