@@ -14,3 +14,4 @@ pub mod CountLaws
 pub mod StepLaws
 pub mod OrderLaws
 pub mod TryLaws
+pub mod LossLaws

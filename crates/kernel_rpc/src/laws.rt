@@ -1,5 +1,5 @@
 ghost use Rattle.kernel_rpc.specs.Runs.{GivenUpForCause, RepliesAtMostOnce, RequestsAtMostOnce, StaysUntilAnswered};
-ghost use Rattle.kernel_rpc.specs.Histories.{CopiesDiffer, GivenUpAtEighth, NumbersAreNew};
+ghost use Rattle.kernel_rpc.specs.Histories.{CopiesDiffer, GivenUpAtEighth, LostBeforeExpiry, NumbersAreNew};
 ghost use Rattle.kernel_rpc.specs.Steps.{AnswerIsStep, BeginIsStep, BroadcastIsStep, DeliverIsStep, ExpireIsStep, SilentIsStep};
 
 use link_plan::Link;
@@ -47,4 +47,10 @@ pub fn copies_have_numbers_of_their_own()
 /// A law: in each run, a call is given up exactly at the eighth time that its timer fires.
 pub fn given_up_at_the_eighth_try()
     ensures { GivenUpAtEighth }
+{}
+
+/// A law: in each run, where the timer of a call may fire, a packet of that call between its caller and its owner was lost since
+/// its request was sent last, that sending included.
+pub fn a_packet_is_lost_before_a_timer_fires()
+    ensures { LostBeforeExpiry }
 {}
