@@ -19,7 +19,7 @@ use Rattle.kernel_rpc.proofs.PartLaws.{eq_turned}
 use Rattle.kernel_rpc.proofs.SoundLaws.{begin_sound, due_spent, found_sound, resend_sound}
 
 -- any bytes
-abbrev Any : List ℕ → Type 0
+abbrev pub Any : List ℕ → Type 0
 Any bytes = Unit {0}
 
 abbrev faults_of : Counts → ℕ → ℕ → ℕ
@@ -28,7 +28,7 @@ faults_of counts = counts.faults
 abbrev asked_of : Counts → ℕ → ℕ → ℕ
 asked_of counts = counts.asked
 
-abbrev Holds : Machine → Counts → Type 0
+abbrev pub Holds : Machine → Counts → Type 0
 Holds machine counts = Sound Any counts.faults machine
 
 same_counts : (machine : Machine) (old new : Counts) → old ≡ new → Holds machine old → Holds machine new
@@ -46,7 +46,7 @@ arrived_holds AskedAgain machine old new copy given flying is asks h =
 arrived_holds Past machine old new copy given flying is asks h =
     same_counts (landed copy machine) old new asks (past_sound Any old.faults machine copy flying is h)
 
-delivered_holds : (o : Option PacketCopy) (machine : Machine) (old new : Counts) (given : Fate) → ((copy : PacketCopy) → o ≡ Some copy → copy_of machine copy.number ≡ Some copy) → MayDeliver machine old new given o → Holds machine old → Holds (delivered_by o given machine) new
+pub delivered_holds : (o : Option PacketCopy) (machine : Machine) (old new : Counts) (given : Fate) → ((copy : PacketCopy) → o ≡ Some copy → copy_of machine copy.number ≡ Some copy) → MayDeliver machine old new given o → Holds machine old → Holds (delivered_by o given machine) new
 delivered_holds None machine old new given flying asks h = absurd asks
 delivered_holds (Some copy) machine old new given flying asks h = arrived_holds (arrival machine copy) machine old new copy given (flying copy refl) refl asks h
 
@@ -59,7 +59,7 @@ expire_holds None machine old new tx sent found due asks h = absurd asks
 expire_holds (Some call) machine old new tx sent found due asks h = expired_holds machine old new tx call sent found due (is_last call) asks h
 
 -- each call of the wire keeps what holds
-after_holds : (machine : Machine) (old : Counts) (act : Act) (new : Counts) → MayAct machine old act new → Holds machine old → Holds (after machine act) new
+pub after_holds : (machine : Machine) (old : Counts) (act : Act) (new : Counts) → MayAct machine old act new → Holds machine old → Holds (after machine act) new
 after_holds machine old (Begin from port servers owner body tries about before sent) new may h = begin_sound Any faults_of asked_of old new machine from port servers owner body tries about before sent tt may.4 may.2 (may.5 ∙ sym (kernels_fresh servers)) may.6 h
 after_holds machine old (Deliver number given) new may h = delivered_holds (copy_of machine number) machine old new given (λ copy found. flying_is number copy machine.copies found) may h
 after_holds machine old (Answer tx body given) new may h =

@@ -25,12 +25,12 @@ use Rattle.kernel_rpc.proofs.PartLaws.{part_further, part_stays, and_false, fals
 use Rattle.kernel_rpc.proofs.SoundLaws.{kept, found_is, found_sound, found_within, other_copy, others_none}
 
 -- a copy of another call landed
-landed_kept : (reads : List ℕ → Type 0) (faults : ℕ → ℕ → ℕ) (copies : List PacketCopy) (number : PacketCopy → Bool) (copy : PacketCopy) (call : Call) → find number copies ≡ Some copy → brings_on call copy ≡ false → IsSound reads faults copies call → IsSound reads faults (less number copies) call
+pub landed_kept : (reads : List ℕ → Type 0) (faults : ℕ → ℕ → ℕ) (copies : List PacketCopy) (number : PacketCopy → Bool) (copy : PacketCopy) (call : Call) → find number copies ≡ Some copy → brings_on call copy ≡ false → IsSound reads faults copies call → IsSound reads faults (less number copies) call
 landed_kept reads faults copies number copy call found unlike h =
     kept reads faults faults copies (less number copies) call h (λ a b. omega arith) (λ none. none_dropped (is_reply_of call) number copies none) (λ none. none_undropped (brings_on call) number copy copies found unlike none)
 
 -- what a copy of another call is to a call
-unlike_other : (copy : PacketCopy) (call : Call) → is_call copy.tx call ≡ false → brings_on call copy ≡ false
+pub unlike_other : (copy : PacketCopy) (call : Call) → is_call copy.tx call ≡ false → brings_on call copy ≡ false
 unlike_other copy call e = false_first (is_of_call call.tx copy) (copy.reply || (copy.to == call.owner)) (other_copy copy.tx call e)
 
 -- a request to another kernel than the owner doesn't bring its call on
@@ -42,7 +42,7 @@ now_holding None h = tt
 now_holding (Some reply) h = absurd h
 
 -- a request that a receiver takes
-taken_sound : (reads : List ℕ → Type 0) (faults : ℕ → ℕ → ℕ) (copies : List PacketCopy) (number : PacketCopy → Bool) (copy : PacketCopy) (call : Call) → find number copies ≡ Some copy → copy.reply ≡ false → part_of copy.to call.receivers ≡ Some Waiting → IsSound reads faults copies call → (b : Bool) → (copy.to == call.owner) ≡ b → IsSound reads faults (less number copies) (further copy.to Holding call)
+pub taken_sound : (reads : List ℕ → Type 0) (faults : ℕ → ℕ → ℕ) (copies : List PacketCopy) (number : PacketCopy → Bool) (copy : PacketCopy) (call : Call) → find number copies ≡ Some copy → copy.reply ≡ false → part_of copy.to call.receivers ≡ Some Waiting → IsSound reads faults copies call → (b : Bool) → (copy.to == call.owner) ≡ b → IsSound reads faults (less number copies) (further copy.to Holding call)
 taken_sound reads faults copies number copy call found request waits h true is =
     let owner = eqb-true copy.to call.owner is in
     let before : part_of call.owner call.receivers ≡ Some Waiting = subst (λ n. part_of n call.receivers ≡ Some Waiting) owner waits in
@@ -114,7 +114,7 @@ silent_sound reads faults machine tx kernel call found apart h =
       calls = each_changed (IsSound reads faults machine.copies) (IsSound reads faults machine.copies) tx (further kernel Silent) 0 machine.begun machine.unfinished h.numbered (λ other e k. k) (λ this e k. subst (λ call. IsSound reads faults machine.copies (further kernel Silent call)) (some_is call this (sym found ∙ e)) now) h.calls;
     }
 
-apart : (tx : TxNo) (call other : Call) → is_call tx call ≡ true → is_call tx other ≡ false → (call.tx.0 == other.tx.0) ≡ false
+pub apart : (tx : TxNo) (call other : Call) → is_call tx call ≡ true → is_call tx other ≡ false → (call.tx.0 == other.tx.0) ≡ false
 apart tx call other e k = grind (arith, nat_tests)
 
 -- a reply that is in flight, or its pair has one fault more
@@ -189,7 +189,7 @@ no_reply : (reply : Option (List ℕ)) → arrival_back reply ≡ Past → is_so
 no_reply None e = refl
 no_reply (Some reply) e = absurd (cc)
 
-past_kept : (reads : List ℕ → Type 0) (faults : ℕ → ℕ → ℕ) (copies : List PacketCopy) (number : PacketCopy → Bool) (copy : PacketCopy) (call : Call) → find number copies ≡ Some copy → is_call copy.tx call ≡ true → IsSound reads faults copies call → (reply owner : Bool) → copy.reply ≡ reply → (copy.to == call.owner) ≡ owner → cond reply (arrival_back call.reply) (arrival_at (part_of copy.to call.receivers) call.reply) ≡ Past → IsSound reads faults (less number copies) call
+pub past_kept : (reads : List ℕ → Type 0) (faults : ℕ → ℕ → ℕ) (copies : List PacketCopy) (number : PacketCopy → Bool) (copy : PacketCopy) (call : Call) → find number copies ≡ Some copy → is_call copy.tx call ≡ true → IsSound reads faults copies call → (reply owner : Bool) → copy.reply ≡ reply → (copy.to == call.owner) ≡ owner → cond reply (arrival_back call.reply) (arrival_at (part_of copy.to call.receivers) call.reply) ≡ Past → IsSound reads faults (less number copies) call
 past_kept reads faults copies number copy call found is h true owner back to past =
     let none = found_none (is_reply_of call) number copy copies found (h.replies (no_reply call.reply past)) in
     let of_call : (copy.tx.0 == call.tx.0) ≡ true = grind (arith, nat_tests) in
@@ -212,7 +212,7 @@ nothing_by : (p : Call → Bool) (first : Call) (calls : List Call) → (find p 
 nothing_by p first calls later true e = absurd (cc)
 nothing_by p first calls later false e = later e
 
-nothing_passes : (p : Call → Bool) (calls : List Call) → find p calls ≡ None → list_any p calls ≡ false
+pub nothing_passes : (p : Call → Bool) (calls : List Call) → find p calls ≡ None → list_any p calls ≡ false
 nothing_passes p [] e = refl
 nothing_passes p (first ∷ calls) e = nothing_by p first calls (nothing_passes p calls) (p first) e
 

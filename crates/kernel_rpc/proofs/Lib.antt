@@ -10,3 +10,8 @@ pub mod RunLaws
 pub mod CauseLaws
 pub mod StayLaws
 pub mod PortLaws
+pub mod CountLaws
+pub mod StepLaws
+pub mod OrderLaws
+pub mod TryLaws
+pub mod LossLaws

@@ -57,7 +57,7 @@ found_now p call calls e = ap (λ b. cond b (Some call) (find p calls)) e
 found_later : (p : Call → Bool) (call : Call) (calls : List Call) → p call ≡ false → find p (call ∷ calls) ≡ find p calls
 found_later p call calls e = ap (λ b. cond b (Some call) (find p calls)) e
 
-none_after : (tx : TxNo) (first last : ℕ) (call : Call) (calls : List Call) → is_call tx call ≡ true → IsNumbered first (call ∷ calls) last → list_any (is_call tx) calls ≡ false
+pub none_after : (tx : TxNo) (first last : ℕ) (call : Call) (calls : List Call) → is_call tx call ≡ true → IsNumbered first (call ∷ calls) last → list_any (is_call tx) calls ≡ false
 none_after tx first last call calls e h =
     let same : tx.0 ≤ call.tx.0 = grind (arith, nat_tests, e) in
     later_none tx call.tx.0 last calls h.1 same

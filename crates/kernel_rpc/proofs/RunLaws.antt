@@ -131,7 +131,7 @@ total_replied : (left : Call → ℕ) (tx : ℕ) (o : Option Call) (given : Fate
 total_replied left tx None given machine = refl
 total_replied left tx (Some call) given machine = refl
 
-unfinished_replied : (o : Option Call) (given : Fate) (machine : Machine) → ((replied o given machine).unfinished ≡ machine.unfinished) × ((replied o given machine).begun ≡ machine.begun)
+pub unfinished_replied : (o : Option Call) (given : Fate) (machine : Machine) → ((replied o given machine).unfinished ≡ machine.unfinished) × ((replied o given machine).begun ≡ machine.begun)
 unfinished_replied None given machine = (refl, refl)
 unfinished_replied (Some call) given machine = (refl, refl)
 

@@ -39,7 +39,7 @@ or_true true = refl
 or_true false = refl
 
 -- the copies of a request are no replies
-requests_none : (call : Call) (packet : PacketCopy) (number : ℕ) (sent : List (ℕ × Fate)) → packet.reply ≡ false → list_any (is_reply_of call) (requests packet number sent) ≡ false
+pub requests_none : (call : Call) (packet : PacketCopy) (number : ℕ) (sent : List (ℕ × Fate)) → packet.reply ≡ false → list_any (is_reply_of call) (requests packet number sent) ≡ false
 requests_none call packet number sent e =
     let here : (is_of_call call.tx packet && packet.reply) ≡ false = ap (λ b. is_of_call call.tx packet && b) e ∙ and_false (is_of_call call.tx packet) in
     none_each (is_reply_of call) (requests packet number sent) (each_request (λ copy. is_reply_of call copy ≡ false) packet number sent (λ n to late. here) (λ n to. here))
@@ -73,7 +73,7 @@ lost_or_sent {L} faults asked call packet number before after (first ∷ sent) s
           omega arith
 
 -- no copy is one of a call that isn't begun
-none_begun : (call : Call) (begun : ℕ) (copies : List PacketCopy) → begun < call.tx.0 → AllByRecursion (HasBegun begun) copies → list_any (is_reply_of call) copies ≡ false
+pub none_begun : (call : Call) (begun : ℕ) (copies : List PacketCopy) → begun < call.tx.0 → AllByRecursion (HasBegun begun) copies → list_any (is_reply_of call) copies ≡ false
 none_begun call begun [] less h = refl
 none_begun call begun (copy ∷ copies) less h =
     let there = h.0 in
@@ -123,7 +123,7 @@ found_sound P p call (first ∷ rest) e h = by_first P call first (find p rest) 
   by_first P call first rest later here true e = subst P (some_is first call e) here
   by_first P call first rest later here false e = later e
 
-each_within : (first last : ℕ) (calls : List Call) → IsNumbered first calls last → AllByRecursion (λ (call : Call). call.tx.0 ≤ last) calls
+pub each_within : (first last : ℕ) (calls : List Call) → IsNumbered first calls last → AllByRecursion (λ (call : Call). call.tx.0 ≤ last) calls
 each_within first last [] h = tt
 each_within first last (call ∷ calls) h = (first_to_last call.tx.0 last calls h.1, each_within call.tx.0 last calls h.1)
 
@@ -166,7 +166,7 @@ one_more : (tries : Tries) (lost : ℕ) → lost_more tries lost ≤ lost + 1
 one_more Eight lost = omega arith
 one_more Always lost = omega arith
 
-stands_somewhere : (part : Option Part) (reply : Option (List ℕ)) → OwnerStands part reply → (given : Part) × (part ≡ Some given)
+pub stands_somewhere : (part : Option Part) (reply : Option (List ℕ)) → OwnerStands part reply → (given : Part) × (part ≡ Some given)
 stands_somewhere (Some part) reply stands = (part, refl)
 stands_somewhere None reply stands = absurd stands
 

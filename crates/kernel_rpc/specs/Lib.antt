@@ -9,3 +9,5 @@ pub mod Servers
 pub mod States
 pub mod Runs
 pub mod Ports
+pub mod Steps
+pub mod Histories

@@ -35,7 +35,8 @@ pub struct Call {
     pub lost: u8,
     /// The fault count of the caller and the owner as the call began.
     pub before: u64,
-    /// The process and the number of the system call that the request names, where it names one.
+    /// What the request packet names: a process, and the number of its system call. None where the packet
+    /// names none, whatever the request is sent for.
     pub about: Option<(Pid, u32)>,
     /// The kernels to which the request goes, in the order of sending; the owner is one of them.
     pub receivers: Items<Receiver>,
@@ -56,7 +57,7 @@ pub struct PacketCopy {
     pub reply: bool,
     /// Whether it goes behind every copy for its receiver that isn't late.
     pub late: bool,
-    /// What the call is about.
+    /// What the request packet of its call names; a reply's copy has it too.
     pub about: Option<(Pid, u32)>,
 }
 

@@ -1,14 +1,14 @@
 ghost use Rattle.std.specs.Prelude.{◌≡◌, ◌≤◌, ◌<◌, ◌+◌, ◌^◌, [], ◌∷◌, ◌++◌, ◌*◌, true, length, map, OnOk, Option};
-ghost use Rattle.std.specs.List.{find, list_any, position};
+ghost use Rattle.std.specs.List.{find, position};
 ghost use Rattle.std.specs.Vec.{vec_capacity, vec_len};
 ghost use Rattle.sprite_ids.specs.Lists.{less};
 ghost use Rattle.link_plan.specs.Counts.{Asks, IsAsked};
 ghost use Rattle.kernel_rpc.specs.Copies.{copies_by, requests};
-ghost use Rattle.kernel_rpc.specs.Machine.{is_copy, is_of_call};
+ghost use Rattle.kernel_rpc.specs.Machine.{is_copy};
 
 use crate::call::{PacketCopy, Receiver};
 use link_plan::{Fate, Link};
-use sprite_ids::{CopyNo, Kernel, NoMemory, TxNo};
+use sprite_ids::{CopyNo, Kernel, NoMemory};
 
 // Where the copy stands.
 fn place_of(copies: &[PacketCopy], number: CopyNo) -> Option<usize>
@@ -25,13 +25,6 @@ pub(crate) fn find_copy(copies: &[PacketCopy], number: CopyNo) -> Option<PacketC
         Some(at) => Some(copies[at]),
         None => None,
     }
-}
-
-// Whether a copy of the call is in flight.
-pub(crate) fn is_flying(copies: &[PacketCopy], tx: TxNo) -> bool
-    ensures { result ≡ list_any (is_of_call tx) copies.now }
-{
-    copies.iter().any(|copy| copy.tx == tx)
 }
 
 // The copy came to its receiver.

@@ -1,11 +1,11 @@
-ghost use Rattle.std.specs.Prelude.{◌≡◌, ◌==◌, IfOk, is_some, map};
+ghost use Rattle.std.specs.Prelude.{◌≡◌, ◌<◌, ◌==◌, IfOk, is_some, length, map, slice_index_or};
 ghost use Rattle.std.specs.List.{filter, list_any};
-ghost use Rattle.kernel_rpc.specs.Machine.{holds, is_at_port, is_due, is_due_at, is_punctual, is_taken, may_come, part_of};
+ghost use Rattle.kernel_rpc.specs.Machine.{due_of, holds, is_at_port, is_due, is_punctual, is_taken, may_come, part_of};
 ghost use Rattle.kernel_rpc.specs.States.{state_in, state_past, was_begun};
+ghost use Rattle.kernel_rpc.specs.Table.{counts_of, machine_of};
 
 use crate::call::{Call, CallState, PacketCopy};
 use crate::calls::is_taken;
-use crate::copies::is_flying;
 use crate::receivers::{is_holding, part_of};
 use crate::table::CallTable;
 use sprite_ids::{CopyNo, Kernel, NoMemory, TxNo};
@@ -85,29 +85,46 @@ fn is_at_port(kernel: Kernel, port: u32, call: &Call) -> bool
     call.from == kernel && call.port == port
 }
 
-// Whether the timer of the call may fire.
-pub(crate) fn is_due(copies: &[PacketCopy], call: &Call) -> bool
-    ensures { result ≡ is_due copies.now call.now }
+// Whether the timer of the call that stands there may fire.
+pub(crate) fn is_due(table: &CallTable, at: usize, call: &Call) -> bool
+    requires inside { at < length table.now.unfinished.items }
+    requires there { call.now ≡ slice_index_or table.now.unfinished.items at call.now }
+    requires counted { table.now.flying.items ≡ counts_of table.now.copies.items table.now.unfinished.items }
+    ensures { result ≡ is_due table.now.copies.items call.now }
 {
-    !is_flying(copies, call.tx) && !is_taken(call)
+    table.flying[at] == 0 && !is_taken(call)
 }
 
 // The calls of the kernel whose timer may fire.
 pub(crate) fn due_of(
     alloc: Global,
-    calls: &[Call],
-    copies: &[PacketCopy],
+    table: &CallTable,
     kernel: Kernel,
 ) -> Result<Vec<TxNo>, NoMemory>
-    ensures { IfOk result (λ found. found.items ≡ map (λ call. call.tx) (filter (is_due_at kernel copies.now) calls.now)) }
+    requires { table.now.flying.items ≡ counts_of table.now.copies.items table.now.unfinished.items }
+    ensures { IfOk result (λ found. found.items ≡ due_of (machine_of table.now) kernel) }
 {
     let mut found = Vec::new(alloc);
-    for call in calls {
-        if call.from == kernel && is_due(copies, call) {
+    for at in 0..table.unfinished.len() {
+        let call = &table.unfinished[at];
+        if call.from == kernel && is_due(table, at, call) {
             found.push(call.tx)?;
         }
     }
     Ok(found)
+}
+
+// Whether a timer may fire.
+pub(crate) fn has_due(table: &CallTable) -> bool
+    requires { table.now.flying.items ≡ counts_of table.now.copies.items table.now.unfinished.items }
+    ensures { result ≡ list_any (is_due table.now.copies.items) table.now.unfinished.items }
+{
+    for at in 0..table.unfinished.len() {
+        if is_due(table, at, &table.unfinished[at]) {
+            return true;
+        }
+    }
+    false
 }
 
 // Whether the kernel has the request of the call.

@@ -1,17 +1,17 @@
-ghost use Rattle.std.specs.Prelude.{◌≡◌, ◌≤◌, ◌<◌, ◌+◌, ◌*◌, ◌^◌, ◌++◌, ◌∷◌, [], Some, IfOk, OnOk, OnErr, IsTrue, IsSome, length, map, option_map};
-ghost use Rattle.std.specs.List.{find};
+ghost use Rattle.std.specs.Prelude.{◌≡◌, ◌≤◌, ◌<◌, ◌+◌, ◌*◌, ◌^◌, ◌++◌, ◌∷◌, [], Some, IfOk, OnOk, OnErr, IsTrue, IsSome, length, map, option_map, slice_index, slice_set};
+ghost use Rattle.std.specs.List.{find, position, remove};
 ghost use Rattle.std.specs.Vec.{vec_capacity, vec_len};
 ghost use Rattle.link_plan.specs.Counts.{Asks, IsAsked};
-ghost use Rattle.kernel_rpc.specs.Machine.{answer, arrival_again, arrival_at, arrival_of, begun, delivered_as, gave_up, call_of, idle, is_call, landed, replied, reply_to, request, resent};
+ghost use Rattle.kernel_rpc.specs.Machine.{answer, arrival_again, arrival_at, arrival_of, begun, delivered_as, gave_up, call_of, idle, is_call, is_copy, landed, replied, reply_to, request, resent, silent};
 ghost use Rattle.link_plan.specs.declared.Fate.TheVariants.{Once};
 ghost use Rattle.kernel_rpc.specs.declared.call.Arrival.TheVariants.{FirstRequest, FirstReply, AskedAgain};
 ghost use Rattle.kernel_rpc.specs.Links.{AsksAll, AsksBack};
-ghost use Rattle.kernel_rpc.specs.Table.{machine_of};
+ghost use Rattle.kernel_rpc.specs.Table.{Stands, counts_of, machine_of};
 
 use crate::call::{Arrival, Call, PacketCopy, Part};
-use crate::calls::{find_call, finish, set_answered, set_further, set_tried};
+use crate::calls::{lost_more, place_of};
 use crate::copies::{land, make_room, send, send_to};
-use crate::receivers::part_of;
+use crate::receivers::{part_of, set_part};
 use link_plan::{Fate, Link};
 use sprite_ids::{Bytes, CopyNo, Kernel, NoMemory, TxNo};
 use std::alloc::Global;
@@ -23,6 +23,8 @@ pub(crate) struct CallTable {
     pub(crate) begun: u32,
     // In ascending order of their numbers.
     pub(crate) unfinished: Vec<Call>,
+    // How many copies of each of them are in flight, in the same order.
+    pub(crate) flying: Vec<usize>,
     // The calls that were given up, in this order.
     pub(crate) given_up: Vec<TxNo>,
     // In the order of sending.
@@ -34,11 +36,13 @@ pub(crate) struct CallTable {
 impl CallTable {
     // No calls.
     pub(crate) fn new(alloc: Global) -> CallTable
-        ensures { machine_of result ≡ idle }
+        ensures machine { machine_of result ≡ idle }
+        ensures counted { result.flying.items ≡ [] }
     {
         CallTable {
             begun: 0,
             unfinished: Vec::new(alloc),
+            flying: Vec::new(alloc),
             given_up: Vec::new(alloc),
             copies: Vec::new(alloc),
             next_copy: 1,
@@ -97,18 +101,8 @@ fn arrival_again(reply: &Option<Bytes>) -> Arrival
     }
 }
 
-// What a copy in flight is to its receiver.
-pub(crate) fn arrival(calls: &[Call], copy: &PacketCopy) -> Arrival
-    ensures { result ≡ arrival_of copy.now (find (is_call copy.now.tx) calls.now) }
-{
-    match find_call(calls, copy.tx) {
-        None => Arrival::Past,
-        Some(call) => arrival_to(call, copy),
-    }
-}
-
 // What a copy of an unfinished call is to its receiver.
-fn arrival_to(call: &Call, copy: &PacketCopy) -> Arrival
+pub(crate) fn arrival_to(call: &Call, copy: &PacketCopy) -> Arrival
     ensures { result ≡ arrival_of copy.now (Some call.now) }
 {
     if !copy.reply {
@@ -121,37 +115,76 @@ fn arrival_to(call: &Call, copy: &PacketCopy) -> Arrival
     }
 }
 
-// The copy came to a receiver that had no copy of the request.
-pub(crate) fn take_request(table: &mut CallTable, copy: &PacketCopy)
-    ensures { machine_of table.new ≡ delivered_as FirstRequest copy.now Once (landed copy.now (machine_of table.old)) }
+// A copy of the call that stands there landed.
+pub(crate) fn arrive(table: &mut CallTable, at: usize, copy: &PacketCopy)
+    requires stands { Stands table.old }
+    requires place { position (is_call copy.now.tx) table.old.unfinished.items ≡ Some at }
+    requires flying { find (is_copy copy.now.number) table.old.copies.items ≡ Some copy.now }
+    ensures machine { machine_of table.new ≡ landed copy.now (machine_of table.old) }
+    ensures stands { Stands table.new }
+    ensures len { vec_len table.new.copies ≤ vec_len table.old.copies }
+    ensures capacity { vec_capacity table.new.copies ≡ vec_capacity table.old.copies }
 {
-    set_further(&mut table.unfinished, copy.tx, copy.to, Part::Holding);
     land(&mut table.copies, copy.number);
+    let flying = table.flying[at];
+    table.flying[at] = flying.saturating_sub(1);
+}
+
+// The copy came to a receiver that had no copy of the request.
+pub(crate) fn take_request(table: &mut CallTable, at: usize, copy: &PacketCopy)
+    requires stands { Stands table.old }
+    requires place { position (is_call copy.now.tx) table.old.unfinished.items ≡ Some at }
+    requires flying { find (is_copy copy.now.number) table.old.copies.items ≡ Some copy.now }
+    ensures machine { machine_of table.new ≡ delivered_as FirstRequest copy.now Once (landed copy.now (machine_of table.old)) }
+    ensures counted { table.new.flying.items ≡ counts_of table.new.copies.items table.new.unfinished.items }
+{
+    arrive(table, at, copy);
+    let call = &mut table.unfinished[at];
+    set_part(&mut call.receivers, copy.to, Part::Holding);
 }
 
 // The copy came to a caller that had no copy of the reply.
-pub(crate) fn take_reply(table: &mut CallTable, copy: &PacketCopy)
-    ensures { machine_of table.new ≡ delivered_as FirstReply copy.now Once (landed copy.now (machine_of table.old)) }
+pub(crate) fn take_reply(table: &mut CallTable, at: usize, copy: &PacketCopy)
+    requires stands { Stands table.old }
+    requires place { position (is_call copy.now.tx) table.old.unfinished.items ≡ Some at }
+    requires flying { find (is_copy copy.now.number) table.old.copies.items ≡ Some copy.now }
+    ensures machine { machine_of table.new ≡ delivered_as FirstReply copy.now Once (landed copy.now (machine_of table.old)) }
+    ensures counted { table.new.flying.items ≡ counts_of table.new.copies.items table.new.unfinished.items }
 {
-    finish(&mut table.unfinished, copy.tx);
-    land(&mut table.copies, copy.number);
+    arrive(table, at, copy);
+    finish(table, at);
+}
+
+// The call that stands there is finished.
+fn finish(table: &mut CallTable, at: usize)
+    requires inside { at < length table.old.unfinished.items }
+    requires counted { table.old.flying.items ≡ counts_of table.old.copies.items table.old.unfinished.items }
+    ensures machine { machine_of table.new ≡ record (machine_of table.old) { unfinished = remove table.old.unfinished.items at } }
+    ensures counted { table.new.flying.items ≡ counts_of table.new.copies.items table.new.unfinished.items }
+{
+    table.unfinished.remove(at);
+    table.flying.remove(at);
 }
 
 // The copy came to a receiver that has answered; the reply is sent again. Answers its fate.
 pub(crate) fn take_again<L: Link>(
     table: &mut CallTable,
     link: &mut L,
+    at: usize,
     copy: &PacketCopy,
 ) -> Result<Fate, NoMemory>
-    requires { IsSome (call_of (machine_of table.old) copy.now.tx) }
+    requires stands { Stands table.old }
+    requires place { position (is_call copy.now.tx) table.old.unfinished.items ≡ Some at }
+    requires flying { find (is_copy copy.now.number) table.old.copies.items ≡ Some copy.now }
     ensures link { IfOk result (λ answer. AsksBack L.faults L.asked link.old link.new answer (call_of (machine_of table.old) copy.now.tx)) }
     ensures ok { IfOk result (λ answer. machine_of table.new ≡ delivered_as AskedAgain copy.now answer (landed copy.now (machine_of table.old))) }
+    ensures counted { table.new.flying.items ≡ counts_of table.new.copies.items table.new.unfinished.items }
     ensures err { OnErr result (machine_of table.new ≡ machine_of table.old) }
     ensures asks_nothing { OnErr result (link.new ≡ link.old) }
 {
     make_room(&mut table.copies, table.next_copy, 1)?;
-    land(&mut table.copies, copy.number);
-    Ok(reply(table, link, copy.tx))
+    arrive(table, at, copy);
+    Ok(reply(table, link, copy.tx, at))
 }
 
 // The owner of a call answered, and the reply is sent. Answers its fate.
@@ -161,34 +194,73 @@ pub(crate) fn answer<L: Link>(
     tx: TxNo,
     bytes: Bytes,
 ) -> Result<Fate, NoMemory>
-    requires { IsSome (call_of (machine_of table.old) tx) }
+    requires stands { Stands table.old }
+    requires there { IsSome (call_of (machine_of table.old) tx) }
     ensures link { IfOk result (λ fate. AsksBack L.faults L.asked link.old link.new fate (call_of (machine_of table.old) tx)) }
     ensures ok { IfOk result (λ fate. machine_of table.new ≡ answer tx bytes fate (machine_of table.old)) }
+    ensures counted { table.new.flying.items ≡ counts_of table.new.copies.items table.new.unfinished.items }
     ensures err { OnErr result (machine_of table.new ≡ machine_of table.old) }
     ensures asks_nothing { OnErr result (link.new ≡ link.old) }
 {
+    let at = place(table, tx);
     make_room(&mut table.copies, table.next_copy, 1)?;
-    let fate = reply(table, link, tx);
-    set_answered(&mut table.unfinished, tx, bytes);
+    let fate = reply(table, link, tx, at);
+    let call = &mut table.unfinished[at];
+    set_part(&mut call.receivers, call.owner, Part::Answered);
+    call.reply = Some(bytes);
     Ok(fate)
+}
+
+// Where an unfinished call stands.
+fn place(table: &CallTable, tx: TxNo) -> usize
+    requires stands { Stands table.now }
+    requires there { IsSome (call_of (machine_of table.now) tx) }
+    ensures { position (is_call tx) table.now.unfinished.items ≡ Some result }
+{
+    match place_of(table.unfinished.as_slice(), tx) {
+        Some(at) => at,
+        None => unreachable!(),
+    }
+}
+
+// A receiver of an unfinished call went silent.
+pub(crate) fn silence(table: &mut CallTable, tx: TxNo, kernel: Kernel)
+    requires stands { Stands table.old }
+    requires there { IsSome (call_of (machine_of table.old) tx) }
+    ensures machine { machine_of table.new ≡ silent tx kernel (machine_of table.old) }
+    ensures counted { table.new.flying.items ≡ counts_of table.new.copies.items table.new.unfinished.items }
+{
+    let at = place(table, tx);
+    let call = &mut table.unfinished[at];
+    set_part(&mut call.receivers, kernel, Part::Silent);
 }
 
 // The call was given up.
 pub(crate) fn give_up(table: &mut CallTable, tx: TxNo) -> Result<(), NoMemory>
+    requires stands { Stands table.old }
+    requires there { IsSome (call_of (machine_of table.old) tx) }
     ensures ok { OnOk result (machine_of table.new ≡ gave_up tx (machine_of table.old)) }
+    ensures counted { table.new.flying.items ≡ counts_of table.new.copies.items table.new.unfinished.items }
     ensures err { OnErr result (machine_of table.new ≡ machine_of table.old) }
 {
+    let at = place(table, tx);
     table.given_up.extend_from_slice(&[tx])?;
-    finish(&mut table.unfinished, tx);
+    finish(table, at);
     Ok(())
 }
 
-// Lists a call that is begun, for which there is room.
-fn list(calls: &mut Vec<Call>, call: Call)
-    requires { vec_len calls.old < vec_capacity calls.old }
-    ensures { calls.new.items ≡ calls.old.items ++ call ∷ [] }
+// Lists a call that is begun, and how many of its copies are in flight. There is room for both.
+fn list(table: &mut CallTable, call: Call, flying: usize)
+    requires calls { vec_len table.old.unfinished < vec_capacity table.old.unfinished }
+    requires counts { vec_len table.old.flying < vec_capacity table.old.flying }
+    ensures calls { machine_of table.new ≡ record (machine_of table.old) { unfinished = table.old.unfinished.items ++ call ∷ [] } }
+    ensures counts { table.new.flying.items ≡ table.old.flying.items ++ flying ∷ [] }
 {
-    match calls.push(call) {
+    match table.unfinished.push(call) {
+        Ok(()) => {}
+        Err(_) => unreachable!(),
+    }
+    match table.flying.push(flying) {
         Ok(()) => {}
         Err(_) => unreachable!(),
     }
@@ -201,8 +273,11 @@ pub(crate) fn begin<L: Link>(
     link: &mut L,
     call: Call,
 ) -> Result<Vec<(Kernel, Fate)>, NoMemory>
-    requires { table.old.begun < 4294967295 }
+    requires numbers { table.old.begun < 4294967295 }
+    requires stands { Stands table.old }
+    requires next { call.tx.0 ≡ table.old.begun + 1 }
     ensures ok { IfOk result (λ sent. machine_of table.new ≡ begun call sent.items (machine_of table.old)) }
+    ensures counted { table.new.flying.items ≡ counts_of table.new.copies.items table.new.unfinished.items }
     ensures receivers { IfOk result (λ sent. map (λ packet. packet.0) sent.items ≡ map (λ receiver. receiver.kernel) call.receivers) }
     ensures link { IfOk result (λ sent. Asks L.faults L.asked call.from link.old link.new sent.items) }
     ensures err { OnErr result (machine_of table.new ≡ machine_of table.old) }
@@ -211,8 +286,10 @@ pub(crate) fn begin<L: Link>(
     let count = call.receivers.len();
     make_room(&mut table.copies, table.next_copy, count)?;
     table.unfinished.reserve(1)?;
+    table.flying.reserve(1)?;
     let mut sent = Vec::with_capacity(alloc, count)?;
     let packet = request(&call, table.next_copy, call.owner);
+    let before = table.copies.len();
     send_to(
         link,
         &mut table.copies,
@@ -222,7 +299,8 @@ pub(crate) fn begin<L: Link>(
     );
     table.next_copy += 2 * (count as u64);
     table.begun += 1;
-    list(&mut table.unfinished, call);
+    let flying = table.copies.len() - before;
+    list(table, call, flying);
     Ok(sent)
 }
 
@@ -234,38 +312,46 @@ pub(crate) fn resend<L: Link>(
     link: &mut L,
     tx: TxNo,
 ) -> Result<Vec<(Kernel, Fate)>, NoMemory>
-    requires { IsSome (call_of (machine_of table.old) tx) }
+    requires stands { Stands table.old }
+    requires there { IsSome (call_of (machine_of table.old) tx) }
     ensures link { IfOk result (λ sent. AsksAll L.faults L.asked link.old link.new sent.items (call_of (machine_of table.old) tx)) }
     ensures ok { IfOk result (λ sent. machine_of table.new ≡ resent tx (call_of (machine_of table.old) tx) sent.items (machine_of table.old)) }
+    ensures counted { table.new.flying.items ≡ counts_of table.new.copies.items table.new.unfinished.items }
     ensures err { OnErr result (machine_of table.new ≡ machine_of table.old) }
     ensures asks_nothing { OnErr result (link.new ≡ link.old) }
 {
-    let Some(call) = find_call(table.unfinished.as_slice(), tx) else {
-        unreachable!();
-    };
+    let at = place(table, tx);
+    let call = &table.unfinished[at];
     let receivers = call.receivers.as_slice();
     let count = receivers.len();
     make_room(&mut table.copies, table.next_copy, count)?;
     let mut sent = Vec::with_capacity(alloc, count)?;
     let packet = request(call, table.next_copy, call.owner);
+    let before = table.copies.len();
     send_to(link, &mut table.copies, &packet, receivers, &mut sent);
     table.next_copy += 2 * (count as u64);
-    set_tried(&mut table.unfinished, tx);
+    let flying = table.flying[at];
+    table.flying[at] = flying.saturating_add(table.copies.len() - before);
+    let call = &mut table.unfinished[at];
+    call.lost = lost_more(call.tries, call.lost);
     Ok(sent)
 }
 
-// Sends the reply of an unfinished call, for which there is room. Answers its fate.
-pub(crate) fn reply<L: Link>(table: &mut CallTable, link: &mut L, tx: TxNo) -> Fate
-    requires is_there { IsSome (call_of (machine_of table.old) tx) }
+// Sends the reply of the unfinished call that stands there, for which there is room. Answers its fate.
+pub(crate) fn reply<L: Link>(table: &mut CallTable, link: &mut L, tx: TxNo, at: usize) -> Fate
+    requires stands { Stands table.old }
+    requires place { position (is_call tx) table.old.unfinished.items ≡ Some at }
     requires room { vec_len table.old.copies + 2 ≤ vec_capacity table.old.copies }
     requires number { table.old.next_copy + 2 < 2 ^ 64 }
     ensures link { AsksBack L.faults L.asked link.old link.new result (call_of (machine_of table.old) tx) }
     ensures machine { machine_of table.new ≡ replied (call_of (machine_of table.old) tx) result (machine_of table.old) }
+    ensures counted { table.new.flying.items ≡ counts_of table.new.copies.items table.new.unfinished.items }
 {
-    let Some(call) = find_call(table.unfinished.as_slice(), tx) else {
-        unreachable!();
-    };
-    let packet = reply_to(call, table.next_copy);
+    let packet = reply_to(&table.unfinished[at], table.next_copy);
     table.next_copy += 2;
-    send(link, &mut table.copies, &packet)
+    let before = table.copies.len();
+    let fate = send(link, &mut table.copies, &packet);
+    let flying = table.flying[at];
+    table.flying[at] = flying.saturating_add(table.copies.len() - before);
+    fate
 }

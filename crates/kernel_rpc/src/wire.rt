@@ -1,23 +1,26 @@
 ghost use Rattle.std.specs.Prelude.{◌≡◌, ◌≢◌, ◌≤◌, ◌<◌, ◌+◌, ◌==◌, ◌∷◌, [], Some, true, false, IfOk, IfErr, IfSome, IfNone, IsOk, OnOk, OnErr, IsTrue, IsSome, is_some, length, map, option_map};
-ghost use Rattle.std.specs.List.{filter, find, list_any};
+ghost use Rattle.std.specs.List.{filter, list_any, position};
 ghost use Rattle.std.specs.Vec.{vec_capacity};
 ghost use Rattle.sprite_ids.specs.declared.Tries.TheVariants.{Eight};
 ghost use Rattle.link_plan.specs.Counts.{Asks, IsAsked};
-ghost use Rattle.kernel_rpc.specs.Machine.{answer, begun, call_of, copy_of, due_of, fresh, holds, idle, is_due, is_at_port, is_due_at, is_free, is_punctual, is_quiet, is_taken, may_answer, may_be_silent, may_come, may_expire, new_call, offered, silent};
+ghost use Rattle.kernel_rpc.specs.Machine.{answer, begun, call_of, is_call, copy_of, due_of, fresh, holds, idle, is_due, is_at_port, is_due_at, is_free, is_punctual, is_quiet, is_taken, may_answer, may_be_silent, may_come, may_expire, new_call, offered, silent};
 ghost use Rattle.kernel_rpc.specs.Links.{AsksAll, AsksBack};
 ghost use Rattle.kernel_rpc.specs.Results.{Delivers, Expires};
 ghost use Rattle.kernel_rpc.specs.Servers.{AreApart, pairs};
 ghost use Rattle.kernel_rpc.specs.States.{state_of};
 ghost use Rattle.kernel_rpc.specs.Ports.{AreUsed};
 
-use crate::bodies::{reply_of, request_of};
+use crate::bodies::{kept_reply, message_of};
 use crate::call::{Arrival, Call, CallState, Part, Receiver};
-use crate::calls::{find_call, is_last, set_further};
+use crate::calls::{find_call, is_last, place_of};
 use crate::copies::{find_copy, land};
-use crate::queries::{due_of, has_request, is_due, is_used, offered, state_in, state_past};
+use crate::queries::{
+    due_of, has_due, has_request, is_due, is_used, offered, state_in, state_past,
+};
 use crate::results::{Delivered, Expired};
 use crate::table::{
-    CallTable, answer, arrival, begin, give_up, resend, take_again, take_reply, take_request,
+    CallTable, answer, arrival_to, arrive, begin, give_up, resend, silence, take_again, take_reply,
+    take_request,
 };
 use link_plan::{Fate, Link};
 use sprite_bytes::Message;
@@ -35,14 +38,14 @@ pub struct Wire<M: Message + Drop, L: Link> {
 
 impl<M: Message + Drop, L: Link> Model for Wire<M, L> {
     ghost use Rattle.kernel_rpc.specs.Bodies.{Reads};
-    ghost use Rattle.kernel_rpc.specs.Sound.{Sound, Wired};
-    ghost use Rattle.kernel_rpc.specs.Table.{machine_of};
+    ghost use Rattle.kernel_rpc.specs.Sound.{Wired};
+    ghost use Rattle.kernel_rpc.specs.Table.{Kept, machine_of};
 
     ghost Value = { Wired L };
 
     ghost view = { λ wire. record { link = wire.link; machine = machine_of wire.table } };
 
-    ghost invariant = { λ wire. Sound (Reads M.reading) (L.faults wire.link) (machine_of wire.table) };
+    ghost invariant = { λ wire. Kept (Reads M.reading) (L.faults wire.link) wire.table };
 }
 
 impl<M: Message + Drop, L: Link> Wire<M, L> {
@@ -71,8 +74,8 @@ impl<M: Message + Drop, L: Link> Wire<M, L> {
         link
     }
 
-    /// Begins a call at a port of its kernel, and sends its request. Calls are numbered from 1. What it is about is kept for
-    /// its copies. Answers the call's number and the fate of its packet. After want of memory, the one error, all is as
+    /// Begins a call at a port of its kernel, and sends its request. Calls are numbered from 1. `about` is
+    /// what the request packet names, and is kept for its copies. Answers the call's number and the fate of its packet. After want of memory, the one error, all is as
     /// before; the body is dropped.
     pub fn begin(
         &mut self,
@@ -87,7 +90,6 @@ impl<M: Message + Drop, L: Link> Wire<M, L> {
         requires apart { from ≢ to }
         requires port { IsTrue (is_free self.old.machine from port) }
         requires numbers { self.old.machine.begun < 4294967295 }
-        requires message { M.is_message body }
         ensures tx { IfOk result (λ call. call.0 ≡ record { 0 = self.old.machine.begun + 1 }) }
         ensures link { IfOk result (λ call. IsAsked (L.faults self.old.link) (L.asked self.old.link) (L.faults self.new.link) (L.asked self.new.link) from to call.1) }
         ensures machine { IfOk result (λ call. self.new.machine ≡ begun (new_call self.old.machine from port (to ∷ []) to (M.spelling body) tries about (L.faults self.old.link from to)) ((to, call.1) ∷ []) self.old.machine) }
@@ -123,26 +125,44 @@ impl<M: Message + Drop, L: Link> Wire<M, L> {
         let Some(packet) = find_copy(self.table.copies.as_slice(), copy) else {
             unreachable!();
         };
-        match arrival(self.table.unfinished.as_slice(), &packet) {
+        let Some(at) = self.place(packet.tx) else {
+            land(&mut self.table.copies, packet.number);
+            return Ok(Delivered::Old);
+        };
+        match arrival_to(&self.table.unfinished[at], &packet) {
             Arrival::FirstRequest => {
-                let message = request_of(alloc, self.table.unfinished.as_slice(), packet.tx)?;
-                take_request(&mut self.table, &packet);
+                let message = message_of(alloc, &self.table.unfinished[at].body)?;
+                take_request(&mut self.table, at, &packet);
                 Ok(Delivered::Request(packet.tx, message))
             }
             Arrival::FirstReply => {
-                let message = reply_of(alloc, self.table.unfinished.as_slice(), packet.tx)?;
-                take_reply(&mut self.table, &packet);
+                let message = kept_reply(alloc, &self.table.unfinished[at])?;
+                take_reply(&mut self.table, at, &packet);
                 Ok(Delivered::Reply(packet.tx, message))
             }
             Arrival::AskedAgain => {
-                let fate = take_again(&mut self.table, &mut self.link, &packet)?;
+                let fate = take_again(&mut self.table, &mut self.link, at, &packet)?;
                 Ok(Delivered::Repeated(packet.tx, fate))
             }
             Arrival::Past => {
-                land(&mut self.table.copies, packet.number);
+                arrive(&mut self.table, at, &packet);
                 Ok(Delivered::Old)
             }
         }
+    }
+
+    // Where the unfinished call of that number stands.
+    fn place(&self, tx: TxNo) -> Option<usize>
+        ensures { result ≡ position (is_call tx) self.now.machine.unfinished }
+    {
+        place_of(self.table.unfinished.as_slice(), tx)
+    }
+
+    // The unfinished call of that number.
+    fn call(&self, tx: TxNo) -> Option<&Call>
+        ensures { option_map (λ call. call.now) result ≡ call_of self.now.machine tx }
+    {
+        find_call(self.table.unfinished.as_slice(), tx)
     }
 
     /// Begins a call whose request goes to several servers, of which the owner is to answer: the broadcast of a prefix, of
@@ -163,7 +183,6 @@ impl<M: Message + Drop, L: Link> Wire<M, L> {
         requires owner { list_any (λ server. server == owner) servers.now ≡ true }
         requires port { IsTrue (is_free self.old.machine from port) }
         requires numbers { self.old.machine.begun < 4294967295 }
-        requires message { M.is_message body }
         ensures tx { IfOk result (λ call. call.0 ≡ record { 0 = self.old.machine.begun + 1 }) }
         ensures fates { IfOk result (λ call. length call.1 ≡ length servers.now) }
         ensures link { IfOk result (λ call. Asks L.faults L.asked from self.old.link self.new.link (pairs servers.now call.1)) }
@@ -204,7 +223,8 @@ impl<M: Message + Drop, L: Link> Wire<M, L> {
         }
     }
 
-    /// What the copy's call is about.
+    /// What the request packet of the copy's call names: the process and the number that `begin` or `broadcast` was given for
+    /// that packet, None where it names none. It is not what the call is sent for.
     pub fn about_of(&self, copy: CopyNo) -> Option<(Pid, u32)>
         requires { IsSome (copy_of self.now.machine copy) }
         ensures { option_map (λ packet. packet.about) (copy_of self.now.machine copy) ≡ Some result }
@@ -226,7 +246,6 @@ impl<M: Message + Drop, L: Link> Wire<M, L> {
     /// is as before; the body is dropped.
     pub fn answer(&mut self, alloc: Global, tx: TxNo, body: M) -> Result<Fate, NoMemory>
         requires taken { IsTrue (may_answer self.old.machine tx) }
-        requires message { M.is_message body }
         ensures link { IfOk result (λ fate. AsksBack L.faults L.asked self.old.link self.new.link fate (call_of self.old.machine tx)) }
         ensures machine { IfOk result (λ fate. self.new.machine ≡ answer tx (M.spelling body) fate self.old.machine) }
         ensures err { OnErr result (self.new ≡ self.old) }
@@ -242,7 +261,7 @@ impl<M: Message + Drop, L: Link> Wire<M, L> {
         ensures machine { self.new.machine ≡ silent tx at self.old.machine }
         ensures link { self.new.link ≡ self.old.link }
     {
-        set_further(&mut self.table.unfinished, tx, at, Part::Silent);
+        silence(&mut self.table, tx, at);
     }
 
     /// The timer of a call fires: this try is lost. The request is sent again, or the call is given up where it is an echo or a
@@ -278,16 +297,15 @@ impl<M: Message + Drop, L: Link> Wire<M, L> {
     pub fn expired_of(&self, alloc: Global, kernel: Kernel) -> Result<Vec<TxNo>, NoMemory>
         ensures { IfOk result (λ calls. calls.items ≡ due_of self.now.machine kernel) }
     {
-        let copies = self.table.copies.as_slice();
-        due_of(alloc, self.table.unfinished.as_slice(), copies, kernel)
+        due_of(alloc, &self.table, kernel)
     }
 
     /// Whether the timer of the call may fire.
     pub fn may_expire(&self, tx: TxNo) -> bool
         ensures { result ≡ may_expire self.now.machine tx }
     {
-        match find_call(self.table.unfinished.as_slice(), tx) {
-            Some(call) => is_due(self.table.copies.as_slice(), call),
+        match self.place(tx) {
+            Some(at) => is_due(&self.table, at, &self.table.unfinished[at]),
             None => false,
         }
     }
@@ -296,18 +314,7 @@ impl<M: Message + Drop, L: Link> Wire<M, L> {
     pub fn quiet(&self) -> bool
         ensures { result ≡ is_quiet self.now.machine }
     {
-        self.table.copies.is_empty() && !self.has_due()
-    }
-
-    // Whether a timer may fire.
-    fn has_due(&self) -> bool
-        ensures { result ≡ list_any (is_due self.now.machine.copies) self.now.machine.unfinished }
-    {
-        let copies = self.table.copies.as_slice();
-        self.table
-            .unfinished
-            .iter()
-            .any(|call| is_due(copies, call))
+        self.table.copies.is_empty() && !has_due(&self.table)
     }
 
     /// How many calls were begun.
@@ -342,7 +349,7 @@ impl<M: Message + Drop, L: Link> Wire<M, L> {
     pub fn may_answer(&self, tx: TxNo) -> bool
         ensures { result ≡ may_answer self.now.machine tx }
     {
-        match find_call(self.table.unfinished.as_slice(), tx) {
+        match self.call(tx) {
             Some(call) => has_request(call, call.owner),
             None => false,
         }
@@ -352,7 +359,7 @@ impl<M: Message + Drop, L: Link> Wire<M, L> {
     pub fn may_be_silent(&self, tx: TxNo, at: Kernel) -> bool
         ensures { result ≡ may_be_silent self.now.machine tx at }
     {
-        match find_call(self.table.unfinished.as_slice(), tx) {
+        match self.call(tx) {
             Some(call) => has_request(call, at) && call.owner != at,
             None => false,
         }
@@ -362,17 +369,17 @@ impl<M: Message + Drop, L: Link> Wire<M, L> {
     pub fn state_of(&self, tx: TxNo) -> Option<CallState>
         ensures { result ≡ state_of self.now.machine tx }
     {
-        match find_call(self.table.unfinished.as_slice(), tx) {
+        match self.call(tx) {
             Some(call) => Some(state_in(call)),
             None => state_past(&self.table, tx),
         }
     }
 }
 
-// The bytes of a message.
+// The bytes of a message. Want of memory is also the answer where it is too long to be spelled.
 fn spelled<M: Message + Drop>(alloc: Global, body: M) -> Result<Bytes, NoMemory>
-    requires { M.is_message body }
-    ensures { IfOk result (λ bytes. bytes ≡ M.spelling body) }
+    ensures bytes { IfOk result (λ bytes. bytes ≡ M.spelling body) }
+    ensures known { IfOk result (λ _. M.is_message body) }
 {
     Ok(Bytes::of_vec(body.spell(alloc)?))
 }

@@ -17,6 +17,6 @@ invariant_of-self-2 g c =
     let given = c.in_ok-fate.fate in
     let allowed : holds (part_in (owner_of (call_of machine tx)) (call_of machine tx)) ≡ true = rw (← c.self.view_is) at c.requires.taken in
     let held = may_answer_held (call_of machine tx) allowed in
-    let readable : reads c.in_ok-bytes.bytes = (c.args.body, ap g.M.Message.reading c.in_ok-bytes.ensures ∙ g.met.M.Message.again c.args.body c.requires.message) in
+    let readable : reads c.in_ok-bytes.bytes = (c.args.body, ap g.M.Message.reading c.in_ok-bytes.ensures.bytes ∙ g.met.M.Message.again c.args.body c.in_ok-bytes.ensures.known) in
     let asks : AsksBack g.L.Link.faults g.L.Link.asked c.self.inside.link after given (Some held.0) = subst (AsksBack g.L.Link.faults g.L.Link.asked c.self.inside.link after given) held.1 c.in_ok-fate.ensures.link in
-    subst (Sound reads (g.L.Link.faults after)) (sym c.in_ok-fate.ensures.ok) (answer_sound reads g.L.Link.faults g.L.Link.asked c.self.inside.link after machine tx held.0 c.in_ok-bytes.bytes given readable held.1 held.2 asks c.self.invariant)
+    record { sound = subst (Sound reads (g.L.Link.faults after)) (sym c.in_ok-fate.ensures.ok) (answer_sound reads g.L.Link.faults g.L.Link.asked c.self.inside.link after machine tx held.0 c.in_ok-bytes.bytes given readable held.1 held.2 asks c.self.invariant.sound); counted = c.in_ok-fate.ensures.counted }

@@ -21,11 +21,11 @@ invariant_of-self-2 g c =
     let servers : List ℕ = c.args.servers.now in
     let made : List Receiver → List ℕ → ℕ → Call = λ receivers body count. record { tx = record { 0 = machine.begun + 1 }; from = c.args.from; port = c.args.port; owner = c.args.owner; tries = Eight; lost = 0; before = count; about = c.args.about; receivers = receivers; body = body; reply = None } in
     let call = new_call machine c.args.from c.args.port servers c.args.owner (g.M.Message.spelling c.args.body) Eight c.args.about (g.L.Link.faults c.self.inside.link c.args.from c.args.owner) in
-    let same : made c.in_ok-receivers.receivers c.in_ok-body.body c.faults-before.result ≡ call = ap (λ receivers. made receivers c.in_ok-body.body c.faults-before.result) c.in_ok-receivers.ensures ∙ ap (λ body. made (map fresh servers) body c.faults-before.result) c.in_ok-body.ensures ∙ ap (made (map fresh servers) (g.M.Message.spelling c.args.body)) c.faults-before.ensures in
+    let same : made c.in_ok-receivers.receivers c.in_ok-body.body c.faults-before.result ≡ call = ap (λ receivers. made receivers c.in_ok-body.body c.faults-before.result) c.in_ok-receivers.ensures ∙ ap (λ body. made (map fresh servers) body c.faults-before.result) c.in_ok-body.ensures.bytes ∙ ap (made (map fresh servers) (g.M.Message.spelling c.args.body)) c.faults-before.ensures in
     let there : machine_of c.begin.new.table ≡ begun call sent machine = c.in_ok-sent.ensures.ok ∙ ap (λ call. begun call sent machine) same in
     let kernels : map (λ (packet : ℕ × Fate). packet.0) sent ≡ map kernel (map fresh servers) = c.in_ok-sent.ensures.receivers ∙ ap (map kernel) c.in_ok-receivers.ensures in
-    let readable : Reads g.M.Message.reading (g.M.Message.spelling c.args.body) = (c.args.body, g.met.M.Message.again c.args.body c.requires.message) in
-    subst (Sound (Reads g.M.Message.reading) (g.L.Link.faults c.begin.new.link)) (sym there) (begin_sound (Reads g.M.Message.reading) g.L.Link.faults g.L.Link.asked c.self.inside.link c.begin.new.link machine c.args.from c.args.port servers c.args.owner (g.M.Message.spelling c.args.body) Eight c.args.about (g.L.Link.faults c.self.inside.link c.args.from c.args.owner) sent readable refl c.requires.owner kernels c.in_ok-sent.ensures.link c.self.invariant)
+    let readable : Reads g.M.Message.reading (g.M.Message.spelling c.args.body) = (c.args.body, g.met.M.Message.again c.args.body c.in_ok-body.ensures.known) in
+    record { sound = subst (Sound (Reads g.M.Message.reading) (g.L.Link.faults c.begin.new.link)) (sym there) (begin_sound (Reads g.M.Message.reading) g.L.Link.faults g.L.Link.asked c.self.inside.link c.begin.new.link machine c.args.from c.args.port servers c.args.owner (g.M.Message.spelling c.args.body) Eight c.args.about (g.L.Link.faults c.self.inside.link c.args.from c.args.owner) sent readable refl c.requires.owner kernels c.in_ok-sent.ensures.link c.self.invariant.sound); counted = c.in_ok-sent.ensures.counted }
 
 pub returns-clause-link : goal.returns-clause-link
 returns-clause-link g c =
@@ -35,7 +35,7 @@ returns-clause-link g c =
     let servers : List ℕ = c.args.servers.now in
     let made : List Receiver → List ℕ → ℕ → Call = λ receivers body count. record { tx = record { 0 = machine.begun + 1 }; from = c.args.from; port = c.args.port; owner = c.args.owner; tries = Eight; lost = 0; before = count; about = c.args.about; receivers = receivers; body = body; reply = None } in
     let call = new_call machine c.args.from c.args.port servers c.args.owner (g.M.Message.spelling c.args.body) Eight c.args.about (g.L.Link.faults c.self.inside.link c.args.from c.args.owner) in
-    let same : made c.in_ok-receivers.receivers c.in_ok-body.body c.faults-before.result ≡ call = ap (λ receivers. made receivers c.in_ok-body.body c.faults-before.result) c.in_ok-receivers.ensures ∙ ap (λ body. made (map fresh servers) body c.faults-before.result) c.in_ok-body.ensures ∙ ap (made (map fresh servers) (g.M.Message.spelling c.args.body)) c.faults-before.ensures in
+    let same : made c.in_ok-receivers.receivers c.in_ok-body.body c.faults-before.result ≡ call = ap (λ receivers. made receivers c.in_ok-body.body c.faults-before.result) c.in_ok-receivers.ensures ∙ ap (λ body. made (map fresh servers) body c.faults-before.result) c.in_ok-body.ensures.bytes ∙ ap (made (map fresh servers) (g.M.Message.spelling c.args.body)) c.faults-before.ensures in
     let there : machine_of c.begin.new.table ≡ begun call sent machine = c.in_ok-sent.ensures.ok ∙ ap (λ call. begun call sent machine) same in
     let kernels : map (λ (packet : ℕ × Fate). packet.0) sent ≡ map kernel (map fresh servers) = c.in_ok-sent.ensures.receivers ∙ ap (map kernel) c.in_ok-receivers.ensures in
     let fates : c.of_vec.result ≡ map (λ (packet : ℕ × Fate). packet.1) sent = c.of_vec.ensures ∙ c.note_fates.ensures ∙ ap (map (λ (packet : ℕ × Fate). packet.1)) c.as_slice.ensures.value in
@@ -50,7 +50,7 @@ returns-clause-machine g c =
     let servers : List ℕ = c.args.servers.now in
     let made : List Receiver → List ℕ → ℕ → Call = λ receivers body count. record { tx = record { 0 = machine.begun + 1 }; from = c.args.from; port = c.args.port; owner = c.args.owner; tries = Eight; lost = 0; before = count; about = c.args.about; receivers = receivers; body = body; reply = None } in
     let call = new_call machine c.args.from c.args.port servers c.args.owner (g.M.Message.spelling c.args.body) Eight c.args.about (g.L.Link.faults c.self.inside.link c.args.from c.args.owner) in
-    let same : made c.in_ok-receivers.receivers c.in_ok-body.body c.faults-before.result ≡ call = ap (λ receivers. made receivers c.in_ok-body.body c.faults-before.result) c.in_ok-receivers.ensures ∙ ap (λ body. made (map fresh servers) body c.faults-before.result) c.in_ok-body.ensures ∙ ap (made (map fresh servers) (g.M.Message.spelling c.args.body)) c.faults-before.ensures in
+    let same : made c.in_ok-receivers.receivers c.in_ok-body.body c.faults-before.result ≡ call = ap (λ receivers. made receivers c.in_ok-body.body c.faults-before.result) c.in_ok-receivers.ensures ∙ ap (λ body. made (map fresh servers) body c.faults-before.result) c.in_ok-body.ensures.bytes ∙ ap (made (map fresh servers) (g.M.Message.spelling c.args.body)) c.faults-before.ensures in
     let there : machine_of c.begin.new.table ≡ begun call sent machine = c.in_ok-sent.ensures.ok ∙ ap (λ call. begun call sent machine) same in
     let kernels : map (λ (packet : ℕ × Fate). packet.0) sent ≡ map kernel (map fresh servers) = c.in_ok-sent.ensures.receivers ∙ ap (map kernel) c.in_ok-receivers.ensures in
     let fates : c.of_vec.result ≡ map (λ (packet : ℕ × Fate). packet.1) sent = c.of_vec.ensures ∙ c.note_fates.ensures ∙ ap (map (λ (packet : ℕ × Fate). packet.1)) c.as_slice.ensures.value in

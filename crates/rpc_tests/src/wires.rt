@@ -1,6 +1,4 @@
-use crate::call::CallState;
-use crate::results::{Delivered, Expired};
-use crate::wire::Wire;
+use kernel_rpc::{CallState, Delivered, Expired, Wire};
 use link_plan::{Fate, Link, Plan, PlanEntry, PlanLink};
 use sprite_ids::{Bytes, CopyNo, Items, Kernel, Tries, TxNo};
 use std::alloc::Global;
