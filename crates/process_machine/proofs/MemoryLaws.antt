@@ -1,5 +1,5 @@
 -- Laws on the bytes of an image's pages.
-use Rattle.std.proofs.Common.{◌≡◌, ℕ, zero, suc, ◌+◌, ◌*◌, ◌/◌, ◌%◌, ◌<◌, ◌≤◌, List, [], ◌∷◌, ◌++◌, length, Option, Some, None, refl, ap, sym, ap₂, ◌∙◌, arith, slice_get, slice_set, slice_index, add-one, add-zero, option_map, min, ◌-◌, ◌^◌, inl, inr, replicate, IsSome}
+use Rattle.std.proofs.Common.{◌≡◌, ℕ, zero, suc, ◌+◌, ◌*◌, ◌/◌, ◌%◌, ◌<◌, ◌≤◌, List, [], ◌∷◌, ◌++◌, length, Option, Some, None, refl, ap, sym, subst, ap₂, ◌∙◌, arith, slice_get, slice_set, slice_index, add-one, add-zero, option_map, min, ◌-◌, ◌^◌, inl, inr, replicate, IsSome}
 use Rattle.sprite_ids.proofs.ListLaws.{set_same, get_within, get_set_same, some_is, each_set, each_get}
 use Rattle.std.specs.List.{AllByRecursion}
 use Rattle.process_machine.specs.Facts.{shape, AllPresent, AreBytes, HasBytes}
@@ -8,9 +8,11 @@ use Rattle.process_machine.specs.Parts.{first_away}
 use Rattle.std.proofs.Math.ListN.{length-set}
 use Rattle.std.proofs.lemmas.Bool.{cases_lt}
 use Rattle.std.proofs.lemmas.List.{drop_more, take-replicate}
+use Rattle.std.proofs.lemmas.List.Edits.{sets, sets-eq}
 use Rattle.std.proofs.lemmas.List.Folds.{drop_split}
 use Rattle.std.proofs.Common.{take, drop, length-take, length-drop}
 use Rattle.std.specs.List.{slice_range}
+use Rattle.process_machine.specs.Machine.{IsPage}
 use Rattle.process_machine.specs.Memory.{there, page_of, byte_in, byte_at, bytes_at, put_in, with_byte, with_bytes, bytes_in}
 
 -- past the end a look-up finds nothing
@@ -94,6 +96,19 @@ copies_more xs n x y e f = rw (e, f, add-one) (replicate_more n x)
 pub length_bytes_in : (page : List ℕ) (offset : ℕ) (bytes : List ℕ) → length (bytes_in page offset bytes) ≡ length page
 length_bytes_in page offset [] = refl
 length_bytes_in page offset (byte ∷ bytes) = length_bytes_in (slice_set page offset byte) (offset + 1) bytes ∙ length-set page offset byte
+
+-- bytes put in one after another stand in the place of as many
+in_turn : (page : List ℕ) (offset : ℕ) (bytes : List ℕ) → bytes_in page offset bytes ≡ sets page offset bytes
+in_turn page offset [] = refl
+in_turn page offset (byte ∷ bytes) =
+    let next : offset + 1 ≡ suc offset = omega arith in
+    ap (λ i. bytes_in (slice_set page offset byte) i bytes) next ∙ in_turn (slice_set page offset byte) (suc offset) bytes
+
+pub overwritten : (old new : Option (List ℕ)) (page now : List ℕ) (offset : ℕ) (bytes : List ℕ) → IsPage old → offset + length bytes ≤ 4096 → old ≡ Some page → new ≡ Some now → now ≡ take offset page ++ bytes ++ drop (offset + length bytes) page → new ≡ option_map (λ p. bytes_in p offset bytes) old
+overwritten old new page now offset bytes is_page fits was is put =
+    let whole : length page ≡ 4096 = subst IsPage was is_page in
+    let within : offset + length bytes ≤ length page = omega (arith, whole, fits) in
+    is ∙ ap Some (put ∙ sym (sets-eq bytes page offset within) ∙ sym (in_turn page offset bytes)) ∙ ap (option_map (λ p. bytes_in p offset bytes)) (sym was)
 
 pub set_set : {X : Type 0} (xs : List X) (i : ℕ) (x y : X) → slice_set (slice_set xs i x) i y ≡ slice_set xs i y
 set_set [] i x y = refl

@@ -178,10 +178,8 @@ fn put_in(page: &mut Option<Bytes>, offset: usize, byte: u8)
     requires offset { offset < 4096 }
     ensures { page.new ≡ option_map (λ bytes. slice_set bytes offset byte) page.old }
 {
-    if let Some(bytes) = page.take() {
-        let mut bytes = bytes.into_vec();
-        bytes[offset] = byte;
-        *page = Some(Bytes::of_vec(bytes));
+    if let Some(bytes) = page {
+        bytes.set(offset, byte);
     }
 }
 
@@ -201,16 +199,6 @@ pub fn put_byte(pages: &mut Items<Option<Bytes>>, address: u64, byte: u8)
     }
 }
 
-// Puts bytes into others from an offset on.
-fn put_at(bytes: &mut [u8], offset: usize, word: &[u8])
-    requires { offset + length word.now ≤ length bytes.old }
-    ensures { bytes.new ≡ bytes_in bytes.old offset word.now }
-{
-    for (place, byte) in word.iter().enumerate() {
-        bytes[offset + place] = *byte;
-    }
-}
-
 // Puts bytes into a page that is there, from an offset on.
 fn put_in_at(page: &mut Option<Bytes>, offset: usize, word: &[u8])
     requires page { IsPage page.old }
@@ -218,10 +206,8 @@ fn put_in_at(page: &mut Option<Bytes>, offset: usize, word: &[u8])
     ensures value { page.new ≡ option_map (λ bytes. bytes_in bytes offset word.now) page.old }
     ensures page { IsPage page.new }
 {
-    if let Some(bytes) = page.take() {
-        let mut bytes = bytes.into_vec();
-        put_at(bytes.as_mut_slice(), offset, word);
-        *page = Some(Bytes::of_vec(bytes));
+    if let Some(bytes) = page {
+        bytes.overwrite(offset, word);
     }
 }
 

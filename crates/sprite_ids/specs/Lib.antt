@@ -1,3 +1,4 @@
+pub mod AskKind
 pub mod Errno
 pub mod Lists
 pub mod Pid

@@ -1,4 +1,4 @@
-ghost use Rattle.std.specs.Prelude.{◌≡◌, ◌↔◌, ◌∷◌, ◌++◌, [], List, ℕ, IsTrue, IfOk, OnOk, OnErr, length, nat_eq};
+ghost use Rattle.std.specs.Prelude.{◌≡◌, ◌↔◌, ◌<◌, ◌≤◌, ◌+◌, ◌∷◌, ◌++◌, [], List, ℕ, IsTrue, IfOk, OnOk, OnErr, length, take, drop, nat_eq, slice_set};
 ghost use Rattle.std.specs.Cmp.{partial_equiv_from_equiv};
 ghost use Rattle.std.specs.Cmp.Lexicographic.{pointwise, nat_list_eq_equiv};
 
@@ -103,6 +103,22 @@ impl Bytes {
     {
         self.items.extend_from_slice(bytes)?;
         Ok(())
+    }
+
+    /// Puts a byte in the place of the one at `at`. It takes no memory.
+    pub fn set(&mut self, at: usize, byte: u8)
+        requires { at < length self.old }
+        ensures { self.new ≡ slice_set self.old at byte }
+    {
+        self.items[at] = byte;
+    }
+
+    /// Puts the slice in the place of as many bytes from `from` on. It takes no memory.
+    pub fn overwrite(&mut self, from: usize, bytes: &[u8])
+        requires { from + length bytes.now ≤ length self.old }
+        ensures { self.new ≡ take from self.old ++ bytes.now ++ drop (from + length bytes.now) self.old }
+    {
+        self.items[from..from + bytes.len()].copy_from_slice(bytes);
     }
 }
 

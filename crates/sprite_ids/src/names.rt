@@ -1,3 +1,6 @@
+ghost use Rattle.std.specs.Prelude.{◌≡◌};
+ghost use Rattle.sprite_ids.specs.AskKind.{ask_number};
+
 use crate::copying::Copying;
 use crate::kernel::Kernel;
 use crate::no_memory::NoMemory;
@@ -115,6 +118,19 @@ pub enum AskKind {
     Write,
     /// A command of the device's own.
     Ioctl,
+}
+
+impl AskKind {
+    /// The kind's number for the device's master, and in packets: 1 for a read, 2 for a write, 3 for a command (this project).
+    pub fn number(self) -> u8
+        ensures { result ≡ ask_number self }
+    {
+        match self {
+            AskKind::Read => 1,
+            AskKind::Write => 2,
+            AskKind::Ioctl => 3,
+        }
+    }
 }
 
 impl Copying for AskKind {
