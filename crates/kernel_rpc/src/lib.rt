@@ -6,6 +6,7 @@ mod call;
 mod calls;
 mod copies;
 mod laws;
+mod ports;
 mod queries;
 mod receivers;
 mod results;
