@@ -1,5 +1,5 @@
 -- The blocks of a file dropped, one after another.
-use Rattle.std.proofs.Common.{rules, tests, ◌≡◌, ℕ, zero, suc, ◌<◌, ◌==◌, nat_lt, Bool, true, false, ◌&&◌, not, cond, List, [], ◌∷◌, refl, sym, ap, subst, ◌∙◌, arith}
+use Rattle.std.proofs.Common.{rules, tests, ◌≡◌, ℕ, zero, suc, ◌==◌, nat_lt, Bool, true, false, ◌&&◌, not, cond, List, [], ◌∷◌, refl, sym, ap, subst, ◌∙◌, arith}
 use Rattle.std.specs.List.{AllByRecursion, IsDistinct, filter}
 use Rattle.std.specs.Map.{keys_of, remove_entry}
 use Rattle.std.proofs.lemmas.Bool.{lt-ltb, le-ltb}
@@ -9,7 +9,7 @@ use Rattle.block_cache.specs.declared.key.BlockKey.{BlockKey}
 use Rattle.block_cache.specs.declared.block.Block.{Block}
 use Rattle.block_cache.specs.Files.{is_file}
 use Rattle.block_cache.specs.Blocks.{Blocks, is_at, is_key, without, dropped_under}
-use Rattle.block_cache.specs.Held.{IsReached}
+use Rattle.block_cache.specs.Reach.{IsUnder}
 use Rattle.block_cache.proofs.KeyLaws.{one_block, same_file}
 
 -- whether it is no block of the file under that one
@@ -107,15 +107,15 @@ dropped_filter : (file : FileId) (n : ℕ) (blocks : Blocks) → IsDistinct is_k
 dropped_filter file zero blocks h = sym (filter_all (stays file 0) blocks (none_under file))
 dropped_filter file (suc n) blocks h = ap (remove_entry (is_at file n)) (dropped_filter file n blocks h) ∙ dropped_step file n blocks h
 
-reached_by : (file : FileId) (n : ℕ) (entry : BlockKey × Block) (b : Bool) → entry.0.block.0 < n → not (b && nat_lt entry.0.block.0 n) ≡ not b
-reached_by file n entry true h = ap not (lt-ltb entry.0.block.0 n h)
-reached_by file n entry false h = refl
+under_by : (file : FileId) (n : ℕ) (entry : BlockKey × Block) (b : Bool) → is_file file entry.0.file ≡ b → IsUnder file n entry → not (b && nat_lt entry.0.block.0 n) ≡ not b
+under_by file n entry true is h = ap not (lt-ltb entry.0.block.0 n (h is))
+under_by file n entry false is h = refl
 
-reached_all : (file : FileId) (n : ℕ) (blocks : Blocks) → n ≡ 1024 → AllByRecursion IsReached blocks → Agree (stays file n) (λ entry. not (is_file file entry.0.file)) blocks
-reached_all file n [] is h = tt
-reached_all file n (entry ∷ rest) is h = (reached_by file n entry (is_file file entry.0.file) (omega (arith, h.0, is)), reached_all file n rest is h.1)
+under_all : (file : FileId) (n : ℕ) (blocks : Blocks) → AllByRecursion (IsUnder file n) blocks → Agree (stays file n) (λ entry. not (is_file file entry.0.file)) blocks
+under_all file n [] h = tt
+under_all file n (entry ∷ rest) h = (under_by file n entry (is_file file entry.0.file) refl h.0, under_all file n rest h.1)
 
--- with all blocks of the file dropped that it may have, those of the others are left
-pub dropped_without : (file : FileId) (n : ℕ) (blocks : Blocks) → n ≡ 1024 → IsDistinct is_key (keys_of blocks) → AllByRecursion IsReached blocks → dropped_under blocks file n ≡ without blocks file
-dropped_without file n blocks is h r =
-    dropped_filter file n blocks h ∙ filter_same (stays file n) (λ entry. not (is_file file entry.0.file)) blocks (reached_all file n blocks is r)
+-- with all blocks of the file dropped up to a number that they are under, those of the others are left
+pub dropped_without : (file : FileId) (n : ℕ) (blocks : Blocks) → IsDistinct is_key (keys_of blocks) → AllByRecursion (IsUnder file n) blocks → dropped_under blocks file n ≡ without blocks file
+dropped_without file n blocks h r =
+    dropped_filter file n blocks h ∙ filter_same (stays file n) (λ entry. not (is_file file entry.0.file)) blocks (under_all file n blocks r)

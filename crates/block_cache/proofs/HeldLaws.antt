@@ -5,7 +5,6 @@ use Rattle.std.specs.Option.{option_map_or}
 use Rattle.std.specs.Map.{lookup, lookup_entry, remove_entry}
 use Rattle.lru.specs.LruCache.{LruCache, put_entries}
 use Rattle.sprite_ids.specs.declared.FileId.{FileId}
-use Rattle.block_cache.specs.Ranges.{file_blocks}
 use Rattle.block_cache.specs.Blocks.{Blocks, is_held, missing_of}
 
 -- a search goes on past a block that is held
@@ -17,11 +16,6 @@ missing_on blocks file first count place under held =
     let left : count - place ≡ suc (count - (place + 1)) = omega (arith, under) in
     let next : first + (place + 1) ≡ first + place + 1 = omega arith in
     ap (λ n. missing_of blocks file n (count - (place + 1))) next ∙ sym (missing_past blocks file (first + place) (count - (place + 1)) held) ∙ sym (ap (missing_of blocks file (first + place)) left)
-
--- a file has 1,024 blocks at most
-pub file_blocks_are : file_blocks ≡ 1024
-unfolding file_blocks
-file_blocks_are = refl
 
 module _ {K V : Type 0} (test : K → Bool) where
   absent_by : (e : K × V) (es : List (K × V)) (b : Bool) → (is_some (lookup test es) ≡ false → lookup_entry test es ≡ None) → is_some (cond b (Some e.1) (lookup test es)) ≡ false → cond b (Some e) (lookup_entry test es) ≡ None

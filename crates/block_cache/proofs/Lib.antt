@@ -1,10 +1,12 @@
 pub mod DropLaws
 pub mod EachLaws
 pub mod HeldLaws
+pub mod HighLaws
 pub mod KeptLaws
 pub mod KeyLaws
 pub mod LookupLaws
 pub mod OrderLaws
+pub mod ReachLaws
 pub mod SoundLaws
 pub mod StateLaws
 pub mod StayLaws

@@ -1,5 +1,5 @@
 -- What a client knows of its files.
-use Rattle.std.specs.Prelude.{ℕ, ◌==◌, nat_le, max, Bool, false, ◌&&◌, if◌then◌else◌, List, Option, Some, None}
+use Rattle.std.specs.Prelude.{ℕ, ◌+◌, ◌==◌, nat_le, max, Bool, false, ◌&&◌, if◌then◌else◌, List, [], ◌∷◌, Option, Some, None}
 use Rattle.std.specs.Map.{lookup}
 use Rattle.indexmap.specs.IndexMap.{insert_entry}
 use Rattle.sprite_ids.specs.declared.FileId.{FileId}
@@ -61,3 +61,12 @@ grown state end = record state { size = max state.size end }
 -- whether the stamp and the version are at most 2,000,000,000
 abbrev pub is_low : FileState → Bool
 is_low state = nat_le state.stamp 2000000000 && nat_le state.version 2000000000
+
+-- 1 for a state that isn't low
+abbrev pub one_high : FileState → ℕ
+one_high state = if is_low state then 0 else 1
+
+-- how many files have a state that isn't low
+abbrev pub high_of : Files → ℕ
+high_of [] = 0
+high_of (entry ∷ rest) = one_high entry.1 + high_of rest

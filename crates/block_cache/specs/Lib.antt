@@ -3,3 +3,4 @@ pub mod Files
 pub mod Held
 pub mod Laws
 pub mod Ranges
+pub mod Reach

@@ -4,6 +4,7 @@ ghost use Rattle.lru.specs.LruCache.{lru_cache, promoted};
 ghost use Rattle.block_cache.specs.Blocks.{is_at, block_at, written_there, is_held, dirty_at, bytes_at, without, held_under, dirty_under, flushed, cleaned, cleaned_under, missing_of, used, parts, written};
 ghost use Rattle.block_cache.specs.Held.{IsReached, clean_block};
 ghost use Rattle.block_cache.specs.Ranges.{file_blocks, part, cut};
+ghost use Rattle.block_cache.specs.Reach.{IsUnder};
 
 use crate::block::Block;
 use crate::block_bytes::BlockBytes;
@@ -13,14 +14,6 @@ use crate::span::Span;
 use lru::LruCache;
 use sprite_ids::{BlockNo, Bytes, FileId, Items, NoMemory};
 use std::alloc::Global;
-
-// How many blocks a file has at most (this project).
-#[tactic(auto, unfolding(crate::specs::Ranges::file_blocks))]
-fn file_blocks() -> u16
-    ensures { result ≡ file_blocks }
-{
-    1024
-}
 
 // The block, where it is held.
 pub(crate) fn find<'a>(
@@ -75,16 +68,19 @@ pub(crate) fn put(
     Ok(())
 }
 
-// The file's blocks that are held, in ascending order.
+// The file's blocks that are held, in ascending order; all of them are under `end`.
 pub(crate) fn held_blocks(
     blocks: &LruCache<BlockKey, Block>,
     alloc: Global,
     file: &FileId,
+    end: u16,
 ) -> Result<Vec<BlockNo>, NoMemory>
+    requires reached { AllByRecursion IsReached blocks.now.entries }
+    requires under { AllByRecursion (IsUnder file.now end) blocks.now.entries }
     ensures { IfOk result (λ held. held.items ≡ held_under blocks.now.entries file.now file_blocks) }
 {
     let mut held = Vec::new(alloc);
-    for number in 0..file_blocks() {
+    for number in 0..end {
         if is_held(blocks, file, BlockNo(number)) {
             held.push(BlockNo(number))?;
         }
@@ -92,16 +88,19 @@ pub(crate) fn held_blocks(
     Ok(held)
 }
 
-// The file's blocks that are dirty, in ascending order.
+// The file's blocks that are dirty, in ascending order; all that are held are under `end`.
 pub(crate) fn dirty_blocks(
     blocks: &LruCache<BlockKey, Block>,
     alloc: Global,
     file: &FileId,
+    end: u16,
 ) -> Result<Vec<BlockNo>, NoMemory>
+    requires reached { AllByRecursion IsReached blocks.now.entries }
+    requires under { AllByRecursion (IsUnder file.now end) blocks.now.entries }
     ensures { IfOk result (λ dirty. dirty.items ≡ dirty_under blocks.now.entries file.now file_blocks) }
 {
     let mut dirty = Vec::new(alloc);
-    for number in 0..file_blocks() {
+    for number in 0..end {
         if dirty_at(blocks, file, BlockNo(number)).is_some() {
             dirty.push(BlockNo(number))?;
         }
@@ -152,24 +151,26 @@ pub(crate) fn clean(blocks: &mut LruCache<BlockKey, Block>, file: &FileId, block
     }
 }
 
-// Makes the file's blocks clean.
-pub(crate) fn clean_all(blocks: &mut LruCache<BlockKey, Block>, file: &FileId)
+// Makes the file's blocks clean; all of them are under `end`.
+pub(crate) fn clean_all(blocks: &mut LruCache<BlockKey, Block>, file: &FileId, end: u16)
+    requires reached { AllByRecursion IsReached blocks.old.entries }
+    requires under { AllByRecursion (IsUnder file.now end) blocks.old.entries }
     ensures { blocks.new ≡ lru_cache (cleaned_under blocks.old.entries file.now file_blocks) blocks.old.cap }
 {
-    for number in 0..file_blocks() {
+    for number in 0..end {
         clean(blocks, file, BlockNo(number));
     }
 }
 
-// Drops the file's blocks.
-pub(crate) fn drop_all(blocks: &mut LruCache<BlockKey, Block>, file: &FileId)
-    requires { AllByRecursion IsReached blocks.old.entries }
+// Drops the file's blocks; all of them are under `end`.
+pub(crate) fn drop_all(blocks: &mut LruCache<BlockKey, Block>, file: &FileId, end: u16)
+    requires { AllByRecursion (IsUnder file.now end) blocks.old.entries }
     ensures { blocks.new ≡ lru_cache (without blocks.old.entries file.now) blocks.old.cap }
 {
     if blocks.len() == 0 {
         return;
     }
-    for number in 0..file_blocks() {
+    for number in 0..end {
         let _block = blocks.pop(&BlockKey::of(file, BlockNo(number)));
     }
 }

@@ -8,11 +8,12 @@ ghost use Rattle.block_cache.specs.Held.{IsSound, has_room, is_full, is_newer, a
 
 use crate::block::Block;
 use crate::file_state::FileState;
+use crate::file_table::FileTable;
 use crate::filled::Filled;
 use crate::key::BlockKey;
+use crate::reach::Reach;
 use crate::span::Span;
 use crate::{blocks, oldest};
-use indexmap::IndexMap;
 use lru::LruCache;
 use sprite_ids::{BlockNo, CallKind, FileId, Flushed, Grant, NoMemory};
 use std::alloc::Global;
@@ -28,20 +29,22 @@ const COUNTER: u64 = 2_000_000_000;
 pub struct Cache {
     alloc: Global,
     size: u16,
-    files: IndexMap<FileId, FileState>,
+    files: FileTable,
     blocks: LruCache<BlockKey, Block>,
+    reach: Reach,
     last: u64,
 }
 
 impl Model for Cache {
     ghost use Rattle.std.specs.Prelude.{◌≡◌, ◌≤◌, ◌<◌, ◌^◌, max};
     ghost use Rattle.block_cache.specs.Held.{Held, IsSound};
+    ghost use Rattle.block_cache.specs.Reach.{AreUnder};
 
     ghost Value = { Held };
 
-    ghost view = { λ cache. record { size = cache.size; files = cache.files.entries; blocks = cache.blocks.entries; last = cache.last } };
+    ghost view = { λ cache. record { size = cache.size; files = cache.files; blocks = cache.blocks.entries; last = cache.last } };
 
-    ghost invariant = { λ cache. (cache.blocks.cap ≡ max 1 cache.size) × (cache.last < 2 ^ 64) × IsSound (record { size = cache.size; files = cache.files.entries; blocks = cache.blocks.entries; last = cache.last }) };
+    ghost invariant = { λ cache. (cache.blocks.cap ≡ max 1 cache.size) × (cache.last < 2 ^ 64) × IsSound (record { size = cache.size; files = cache.files; blocks = cache.blocks.entries; last = cache.last }) × AreUnder cache.reach cache.blocks.entries };
 }
 
 impl Cache {
@@ -57,8 +60,9 @@ impl Cache {
         Ok(Cache {
             alloc,
             size,
-            files: IndexMap::new(alloc),
+            files: FileTable::new(alloc),
             blocks: LruCache::sparse(alloc, capacity)?,
+            reach: Reach::new(alloc),
             last: 0,
         })
     }
@@ -75,14 +79,14 @@ impl Cache {
     pub fn room(&self) -> bool
         ensures { result ≡ has_room self.now }
     {
-        self.last <= COUNTER && are_low(&self.files)
+        self.last <= COUNTER && self.files.are_low()
     }
 
     /// What is known of the file: None exactly where no grant or callback of it was taken.
     pub fn state(&self, file: FileId) -> Option<FileState>
         ensures { result ≡ state_of self.now.files file }
     {
-        self.files.get(&file).copied()
+        self.files.state(&file)
     }
 
     /// Whether the file is cached: the last grant let it be, and no callback stopped that since.
@@ -107,11 +111,12 @@ impl Cache {
         if grant.stamp <= known.stamp {
             return Ok(false);
         }
-        self.files.insert(grant.file, known.granted(grant))?;
+        self.files.put(&grant.file, known.granted(grant))?;
         if known.keeps(grant) {
             return Ok(true);
         }
-        blocks::drop_all(&mut self.blocks, &grant.file);
+        let end = self.reach.end(&grant.file);
+        blocks::drop_all(&mut self.blocks, &grant.file, end);
         Ok(true)
     }
 
@@ -130,14 +135,15 @@ impl Cache {
     {
         let known = self.known(&file);
         let flushed = self.flushed(&file)?;
-        self.files.insert(file, known.called(stamp, kind))?;
+        let end = self.reach.end(&file);
+        self.files.put(&file, known.called(stamp, kind))?;
         match kind {
             CallKind::Recall => {
-                blocks::clean_all(&mut self.blocks, &file);
+                blocks::clean_all(&mut self.blocks, &file, end);
                 Ok(flushed)
             }
             CallKind::Stop => {
-                blocks::drop_all(&mut self.blocks, &file);
+                blocks::drop_all(&mut self.blocks, &file, end);
                 Ok(flushed)
             }
         }
@@ -179,6 +185,7 @@ impl Cache {
         if self.full() {
             return Ok(Filled::Full);
         }
+        self.reach.raise(&file, block.0 + 1)?;
         blocks::put(
             &mut self.blocks,
             self.alloc,
@@ -221,7 +228,7 @@ impl Cache {
         let span = Span::of(from, length);
         blocks::write(&mut self.blocks, &file, from, bytes, self.last, &span);
         self.last += u64::from(span.count);
-        grow(&mut self.files, &file, from + length);
+        self.files.grow(&file, from + length);
     }
 
     /// The least recently used dirty block of the file, or of all files, with its number; None exactly where there is none.
@@ -280,14 +287,14 @@ impl Cache {
     pub fn held(&self, file: FileId) -> Result<Vec<BlockNo>, NoMemory>
         ensures { IfOk result (λ held. held.items ≡ held_under self.now.blocks file file_blocks) }
     {
-        blocks::held_blocks(&self.blocks, self.alloc, &file)
+        blocks::held_blocks(&self.blocks, self.alloc, &file, self.reach.end(&file))
     }
 
     /// The file's blocks that are dirty, in ascending order. The one error is want of memory.
     pub fn dirty_blocks(&self, file: FileId) -> Result<Vec<BlockNo>, NoMemory>
         ensures { IfOk result (λ dirty. dirty.items ≡ dirty_under self.now.blocks file file_blocks) }
     {
-        blocks::dirty_blocks(&self.blocks, self.alloc, &file)
+        blocks::dirty_blocks(&self.blocks, self.alloc, &file, self.reach.end(&file))
     }
 
     /// The bytes of a block that stand before the file's size; none where it isn't held. It isn't used by that. The one error
@@ -304,10 +311,7 @@ impl Cache {
     fn known(&self, file: &FileId) -> FileState
         ensures { result ≡ known self.now.files file.now }
     {
-        match self.files.get(file) {
-            Some(state) => *state,
-            None => FileState::new(),
-        }
+        self.files.known(file)
     }
 
     // The answer to a callback.
@@ -315,29 +319,9 @@ impl Cache {
         ensures { IfOk result (λ flushed. flushed ≡ flushed_of self.now file.now) }
     {
         let size = self.known(file).size;
-        let dirty = blocks::dirty_blocks(&self.blocks, self.alloc, file)?;
+        let end = self.reach.end(file);
+        let dirty = blocks::dirty_blocks(&self.blocks, self.alloc, file, end)?;
         let blocks = blocks::flush(&self.blocks, self.alloc, file, size, dirty.as_slice())?;
         Ok(Flushed { size, blocks })
     }
-}
-
-// Lets the size of a file grow, of which something is known.
-fn grow(files: &mut IndexMap<FileId, FileState>, file: &FileId, end: u32)
-    requires { IsSome (state_of files.old.entries file.now) }
-    ensures { files.new.entries ≡ with_state files.old.entries file.now (grown (known files.old.entries file.now) end) }
-{
-    let Some(state) = files.get(file).copied() else {
-        return;
-    };
-    match files.insert(*file, state.grown(end)) {
-        Ok(_) => {}
-        Err(_) => unreachable!(),
-    }
-}
-
-// Whether the stamps and versions of all files are at most 2,000,000,000.
-fn are_low(files: &IndexMap<FileId, FileState>) -> bool
-    ensures { result ≡ list_all is_low (values files.now) }
-{
-    files.values().all(|state| state.is_low())
 }

@@ -1,5 +1,5 @@
 ghost use Rattle.std.specs.Prelude.{◌≡◌};
-ghost use Rattle.block_cache.specs.Files.{new_file, granted, called, grown, is_low, keeps};
+ghost use Rattle.block_cache.specs.Files.{new_file, granted, called, grown, is_low, one_high, keeps};
 
 use sprite_ids::{CallKind, Grant};
 
@@ -81,5 +81,11 @@ impl FileState {
         ensures { result ≡ is_low self.now }
     {
         self.stamp <= COUNTER && self.version <= COUNTER
+    }
+    // 1 where it isn't low.
+    pub(crate) fn high(&self) -> u64
+        ensures { result ≡ one_high self.now }
+    {
+        if self.is_low() { 0 } else { 1 }
     }
 }

@@ -7,11 +7,13 @@ mod block_bytes;
 mod blocks;
 mod cache;
 mod file_state;
+mod file_table;
 mod filled;
 mod key;
 mod laws;
 mod oldest;
 mod parts;
+mod reach;
 mod span;
 
 pub use block::Block;
@@ -25,7 +27,5 @@ pub use laws::{
     written_bytes_are_read,
 };
 
-#[cfg(test)]
-mod random_tests;
 #[cfg(test)]
 mod tests;

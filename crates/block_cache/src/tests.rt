@@ -2,173 +2,119 @@ ghost use Rattle.std.specs.Prelude.{◌≡◌};
 
 use crate::cache::Cache;
 use crate::filled::Filled;
-use sprite_ids::{BlockNo, CallKind, FileId, Flushed, Grant, Kernel, NoMemory};
+use sprite_ids::{BlockNo, CallKind, FileId, Grant, Kernel, NoMemory};
 use std::test::Fail;
 
-// A call on the cache. Files go by their numbers at one server.
+// A call on the cache, with what it answers. Files go by their numbers at one server.
 #[derive(Clone, Copy)]
 enum Act {
     // The file, the stamp, the old and the new version, the size, whether it may be cached, and whether the client had
     // its dirty blocks.
-    Grant(u32, u32, (u32, u32), u32, bool, bool),
-    Callback(u32, u32, CallKind),
-    State(u32),
-    // The file, and the range by its begin and its length.
-    Missing(u32, u32, u32),
-    // The file, the stamp, the block and its first two bytes, behind which there are zeros.
-    Fill(u32, u32, u16, (u8, u8)),
-    // Four bytes of the file from there on.
-    Read(u32, u32),
-    // Three bytes from there on.
-    Write(u32, u32, (u8, u8, u8)),
-    // No bytes.
-    WriteNothing(u32, u32),
-    Next(Option<u32>),
-    // The file, the stamp, the block and its number.
-    WroteBack(u32, u32, u16, u64),
-    // The file, and the blocks that stay, from first to last.
-    DropClean(u32, u16, u16),
-    Held(u32),
-    Dirty(u32),
-    // The block's dirty number, and how many of its bytes stand before the file's size.
-    Block(u32, u16),
-    Full,
-}
-
-// What is then seen.
-#[derive(Clone, Copy, PartialEq, Eq)]
-enum Seen {
-    // A condition of the call doesn't hold.
-    Never,
-    Is(bool),
-    // Stamp, version, size, and whether the file is cached.
-    State(Option<(u32, u32, u32, bool)>),
-    // The size, how many blocks were sent, and the first one with its length and its first byte.
-    Sent(u32, usize, Option<(u16, usize, u8)>),
-    Missing(Option<u16>),
-    Filled(Filled),
-    Bytes(u8, u8, u8, u8),
-    Done,
+    Grant(u32, u32, (u32, u32), u32, bool, bool, bool),
+    // The file, the stamp, the kind, the size, and how many blocks are sent.
+    Callback(u32, u32, CallKind, u32, usize),
+    // The file, the stamp, the block, and its bytes before zeros.
+    Fill(u32, u32, u16, &'static [u8], Filled),
+    // The file, from where, and the bytes; all its blocks are held.
+    Read(u32, u32, &'static [u8]),
+    Write(u32, u32, &'static [u8]),
+    // The first block that is absent, of so many bytes from there on.
+    Missing(u32, u32, u32, Option<u16>),
+    // The least recently used dirty block of all, with its number.
     Next(Option<(u32, u16, u64)>),
-    Dropped(Option<(u32, u16)>),
-    // How many blocks, and the last of them.
-    Blocks(usize, Option<u16>),
-    Block(Option<u64>, usize),
+    // The file, the stamp, the block and its number.
+    WroteBack(u32, u32, u16, u64, bool),
+    // The file, and the blocks that stay, from first to last.
+    DropClean(u32, u16, u16, Option<(u32, u16)>),
+    // How many blocks of the file are held, and how many are dirty.
+    Count(u32, usize, usize),
+    // The block's dirty number, and how many of its bytes stand before the file's size.
+    Block(u32, u16, Option<u64>, usize),
+    // The version and the size of the file, and whether the cache is full.
+    State(u32, Option<(u32, u32)>, bool),
 }
 
-// A cache of eight blocks.
-const STEPS: [(Act, Seen); 60] = [
-    (Act::State(1), Seen::State(None)),
-    (Act::Grant(1, 1, (0, 0), 5_000, true, false), Seen::Is(true)),
-    (Act::State(1), Seen::State(Some((1, 0, 5_000, true)))),
-    (Act::Missing(1, 0, 5_000), Seen::Missing(Some(0))),
-    (Act::Missing(1, 9, 0), Seen::Missing(None)),
-    (Act::Fill(1, 1, 0, (7, 8)), Seen::Filled(Filled::Filled)),
-    (Act::Fill(1, 1, 0, (1, 1)), Seen::Filled(Filled::Kept)),
-    (Act::Fill(1, 2, 1, (5, 0)), Seen::Filled(Filled::Old)),
-    (Act::Missing(1, 4_095, 2), Seen::Missing(Some(1))),
-    (Act::Read(1, 4_094), Seen::Never),
-    (Act::Fill(1, 1, 1, (5, 0)), Seen::Filled(Filled::Filled)),
-    (Act::Read(1, 0), Seen::Bytes(7, 8, 0, 0)),
-    (Act::Read(1, 4_094), Seen::Bytes(0, 0, 5, 0)),
+// A cache of four blocks.
+const ACTS: [Act; 36] = [
+    Act::State(1, None, false),
+    Act::Grant(1, 1, (0, 0), 5_000, true, false, true),
+    Act::State(1, Some((0, 5_000)), false),
+    Act::Missing(1, 0, 5_000, Some(0)),
+    Act::Fill(1, 1, 0, b"\x07\x08", Filled::Filled),
+    Act::Fill(1, 1, 0, b"\x01", Filled::Kept),
+    Act::Fill(1, 2, 1, b"\x05", Filled::Old),
+    Act::Missing(1, 4_095, 2, Some(1)),
+    Act::Fill(1, 1, 1, b"\x05", Filled::Filled),
+    Act::Read(1, 4_094, b"\0\0\x05\0"),
     // A write across two blocks makes both dirty, in their order.
-    (Act::Write(1, 4_094, (1, 2, 3)), Seen::Done),
-    (Act::WriteNothing(1, 4_000_000), Seen::Done),
-    (Act::Read(1, 4_094), Seen::Bytes(1, 2, 3, 0)),
-    (Act::State(1), Seen::State(Some((1, 0, 5_000, true)))),
-    (Act::Next(None), Seen::Next(Some((1, 0, 1)))),
-    (Act::Block(1, 0), Seen::Block(Some(1), 4_096)),
-    (Act::Block(1, 1), Seen::Block(Some(2), 904)),
-    // Another file fills the cache. A block of another version of it would go at once.
-    (Act::Grant(2, 3, (4, 5), 0, true, false), Seen::Is(true)),
-    (Act::Fill(2, 3, 0, (0, 0)), Seen::Filled(Filled::Filled)),
-    (Act::Fill(2, 3, 1, (0, 0)), Seen::Filled(Filled::Filled)),
-    (Act::Fill(2, 3, 2, (0, 0)), Seen::Filled(Filled::Filled)),
-    (Act::Fill(2, 3, 3, (0, 0)), Seen::Filled(Filled::Filled)),
-    (Act::Fill(2, 3, 4, (0, 0)), Seen::Filled(Filled::Filled)),
-    (Act::Full, Seen::Is(false)),
-    (Act::Fill(2, 3, 1_023, (0, 0)), Seen::Filled(Filled::Filled)),
-    (Act::Full, Seen::Is(true)),
-    (Act::Fill(2, 3, 6, (0, 0)), Seen::Filled(Filled::Full)),
-    (Act::Fill(2, 3, 4, (0, 0)), Seen::Filled(Filled::Kept)),
+    Act::Write(1, 4_094, b"\x01\x02\x03"),
+    Act::Read(1, 4_094, b"\x01\x02\x03\0"),
+    Act::Next(Some((1, 0, 1))),
+    Act::Block(1, 1, Some(2), 904),
+    // Another file fills the cache; one of its blocks is the last that a file may have.
+    Act::Grant(2, 3, (4, 5), 0, true, false, true),
+    Act::Fill(2, 3, 1_023, b"", Filled::Filled),
+    Act::Fill(2, 3, 3, b"", Filled::Filled),
+    Act::State(2, Some((5, 0)), true),
+    Act::Fill(2, 3, 6, b"", Filled::Full),
+    Act::Count(2, 2, 0),
     // Clean blocks go from the one that was used longest ago; dirty ones stay.
-    (Act::DropClean(1, 0, 1), Seen::Dropped(Some((2, 0)))),
-    (Act::DropClean(2, 0, 2), Seen::Dropped(Some((2, 3)))),
-    (Act::WroteBack(1, 1, 0, 2), Seen::Is(false)),
-    (Act::WroteBack(1, 2, 0, 1), Seen::Is(false)),
-    (Act::WroteBack(1, 1, 0, 1), Seen::Is(true)),
-    (Act::WroteBack(1, 1, 0, 1), Seen::Is(false)),
-    (Act::Next(None), Seen::Next(Some((1, 1, 2)))),
-    (Act::Next(Some(2)), Seen::Next(None)),
-    (Act::DropClean(2, 0, 0), Seen::Dropped(Some((1, 0)))),
-    (Act::Held(1), Seen::Blocks(1, Some(1))),
-    (Act::Dirty(1), Seen::Blocks(1, Some(1))),
-    (Act::Held(2), Seen::Blocks(4, Some(1_023))),
-    (Act::Dirty(2), Seen::Blocks(0, None)),
-    // A recall cleans; an older grant does nothing.
-    (
-        Act::Callback(1, 4, CallKind::Recall),
-        Seen::Sent(5_000, 1, Some((1, 904, 3))),
-    ),
-    (Act::Dirty(1), Seen::Blocks(0, None)),
-    (Act::Held(1), Seen::Blocks(1, Some(1))),
-    (Act::Grant(1, 2, (0, 9), 1, false, false), Seen::Is(false)),
-    // The holder of the old version keeps its size and its blocks; of another version it drops them.
-    (Act::Grant(1, 5, (0, 1), 4_000, true, true), Seen::Is(true)),
-    (Act::State(1), Seen::State(Some((5, 1, 5_000, true)))),
-    (Act::Write(1, 4_998, (9, 9, 9)), Seen::Done),
-    (Act::State(1), Seen::State(Some((5, 1, 5_001, true)))),
-    (Act::Grant(1, 6, (0, 2), 10, true, true), Seen::Is(true)),
-    (Act::Held(1), Seen::Blocks(0, None)),
-    (Act::Fill(1, 6, 0, (4, 0)), Seen::Filled(Filled::Filled)),
-    (Act::Write(1, 8, (5, 6, 7)), Seen::Done),
+    Act::DropClean(1, 0, 1, Some((2, 1_023))),
+    Act::WroteBack(1, 1, 0, 2, false),
+    Act::WroteBack(1, 1, 0, 1, true),
+    Act::Next(Some((1, 1, 2))),
+    Act::DropClean(2, 0, 3, Some((1, 0))),
+    Act::Count(1, 1, 1),
+    // A recall sends and cleans; an older grant does nothing.
+    Act::Callback(1, 4, CallKind::Recall, 5_000, 1),
+    Act::Count(1, 1, 0),
+    Act::Grant(1, 2, (0, 9), 1, false, false, false),
+    // The holder of the old version keeps its size and its blocks.
+    Act::Grant(1, 5, (0, 1), 4_000, true, true, true),
+    Act::Write(1, 4_998, b"\x09\x09\x09"),
+    Act::State(1, Some((1, 5_001)), false),
     // A stop sends and drops.
-    (
-        Act::Callback(1, 7, CallKind::Stop),
-        Seen::Sent(11, 1, Some((0, 11, 4))),
-    ),
-    (Act::Grant(1, 6, (2, 2), 10, true, false), Seen::Is(false)),
-    (Act::State(1), Seen::State(Some((7, 2, 11, false)))),
-    (Act::Callback(3, 1, CallKind::Stop), Seen::Sent(0, 0, None)),
+    Act::Callback(1, 6, CallKind::Stop, 5_001, 1),
+    Act::Count(1, 0, 0),
+    Act::Grant(1, 6, (1, 2), 10, true, false, false),
+    Act::Callback(3, 1, CallKind::Stop, 0, 0),
 ];
 
 #[test]
 fn calls_answer_as_worked_out(rt: HostRuntime) -> Result<(), Fail> {
     let server = Kernel::new(2).ok_or("kernel 2")?;
-    let mut cache = Cache::new(rt.alloc(), 8)?;
-    assert_eq!(rt; first_wrong(&mut cache, &server, &STEPS)?, None);
-    assert!(rt; cache.room());
+    let mut cache = Cache::new(rt.alloc(), 4)?;
+    assert_eq!(rt; first_wrong(&mut cache, &server, &ACTS)?, None);
     Ok(())
 }
 
 #[test]
 fn a_cache_without_room_is_full(rt: HostRuntime) -> Result<(), Fail> {
     let cache = Cache::new(rt.alloc(), 0)?;
-    assert_eq!(rt; cache.size(), 0);
-    assert!(rt; cache.full());
+    assert!(rt; cache.size() == 0 && cache.full());
     Ok(())
 }
 
-// The place of the first step that shows something else.
+// The place of the first call that answers otherwise.
 fn first_wrong(
     cache: &mut Cache,
     server: &Kernel,
-    steps: &[(Act, Seen)],
+    acts: &[Act],
 ) -> Result<Option<usize>, NoMemory> {
-    for place in 0..steps.len() {
-        if perform(cache, server, &steps[place].0)? != steps[place].1 {
+    for place in 0..acts.len() {
+        if !answers(cache, server, &acts[place])? {
             return Ok(Some(place));
         }
     }
     Ok(None)
 }
 
-// What the call shows.
-fn perform(cache: &mut Cache, server: &Kernel, act: &Act) -> Result<Seen, NoMemory> {
+// Makes the call; false where it answers otherwise, or where a condition of it doesn't hold.
+fn answers(cache: &mut Cache, server: &Kernel, act: &Act) -> Result<bool, NoMemory> {
     match *act {
-        Act::Grant(file, stamp, versions, size, on, holder) => {
+        Act::Grant(number, stamp, versions, size, on, holder, wanted) => {
             let grant = Grant {
-                file: file_of(server, file),
+                file: file(server, number),
                 stamp,
                 old: versions.0,
                 new: versions.1,
@@ -176,50 +122,58 @@ fn perform(cache: &mut Cache, server: &Kernel, act: &Act) -> Result<Seen, NoMemo
                 on,
                 holder,
             };
-            Ok(Seen::Is(cache.take_grant(&grant)?))
+            Ok(cache.take_grant(&grant)? == wanted)
         }
-        Act::Callback(file, stamp, kind) => {
-            let flushed = cache.take_callback(file_of(server, file), stamp, kind)?;
-            Ok(sent(&flushed))
+        Act::Callback(number, stamp, kind, size, count) => {
+            let sent = cache.take_callback(file(server, number), stamp, kind)?;
+            Ok(sent.size == size && sent.blocks.len() == count)
         }
-        Act::Fill(file, stamp, block, bytes) => fill(cache, server, file, stamp, block, bytes),
-        Act::Read(file, from) => read(cache, server, file, from),
-        Act::Write(file, from, bytes) => {
-            Ok(write(cache, server, file, from, &[bytes.0, bytes.1, bytes.2]))
+        Act::Fill(number, stamp, block, bytes, wanted) => {
+            fill(cache, &file(server, number), stamp, block, bytes, wanted)
         }
-        Act::WriteNothing(file, from) => Ok(write(cache, server, file, from, &[])),
-        Act::WroteBack(file, stamp, block, number) => {
-            let file = file_of(server, file);
-            Ok(Seen::Is(cache.wrote_back(file, stamp, BlockNo(block), number)))
+        Act::Read(number, from, wanted) => read(cache, &file(server, number), from, wanted),
+        Act::Write(number, from, bytes) => Ok(write(cache, &file(server, number), from, bytes)),
+        Act::WroteBack(number, stamp, block, dirty, wanted) => {
+            let done = cache.wrote_back(file(server, number), stamp, BlockNo(block), dirty);
+            Ok(done == wanted)
         }
-        Act::DropClean(file, first, last) => {
-            let file = file_of(server, file);
-            let dropped = cache.drop_clean(file, BlockNo(first), BlockNo(last));
-            Ok(Seen::Dropped(dropped.map(|(file, block)| (file.number, block.0))))
+        Act::DropClean(number, first, last, wanted) => {
+            let gone = cache.drop_clean(file(server, number), BlockNo(first), BlockNo(last));
+            Ok(gone.map(|(file, block)| (file.number, block.0)) == wanted)
         }
-        _ => look(cache, server, act),
+        _ => shows(cache, server, act),
     }
 }
 
-// What a call shows that changes nothing.
-fn look(cache: &Cache, server: &Kernel, act: &Act) -> Result<Seen, NoMemory> {
+// Whether a call that changes nothing answers so.
+fn shows(cache: &Cache, server: &Kernel, act: &Act) -> Result<bool, NoMemory> {
     match *act {
-        Act::State(file) => Ok(state(cache, server, file)),
-        Act::Missing(file, from, length) => Ok(missing(cache, server, file, from, length)),
-        Act::Next(file) => Ok(next(cache, server, file)),
-        Act::Held(file) => Ok(blocks(cache.held(file_of(server, file))?.as_slice())),
-        Act::Dirty(file) => Ok(blocks(cache.dirty_blocks(file_of(server, file))?.as_slice())),
-        Act::Block(file, block) => {
-            let bytes = cache.bytes_of(file_of(server, file), BlockNo(block))?;
-            let number = cache.dirty(file_of(server, file), BlockNo(block));
-            Ok(Seen::Block(number, bytes.len()))
+        Act::Missing(number, from, length, wanted) => {
+            Ok(missing(cache, &file(server, number), from, length, wanted))
         }
-        Act::Full => Ok(Seen::Is(cache.full())),
-        _ => Ok(Seen::Never),
+        Act::Next(wanted) => {
+            let next = cache.write_back_next(None);
+            Ok(next.map(|(file, block, dirty)| (file.number, block.0, dirty)) == wanted)
+        }
+        Act::Count(number, held, dirty) => {
+            let are_held = cache.held(file(server, number))?.len() == held;
+            Ok(are_held && cache.dirty_blocks(file(server, number))?.len() == dirty)
+        }
+        Act::Block(number, block, dirty, length) => {
+            let bytes = cache.bytes_of(file(server, number), BlockNo(block))?;
+            let is = cache.dirty(file(server, number), BlockNo(block));
+            Ok(is == dirty && bytes.len() == length)
+        }
+        Act::State(number, wanted, full) => {
+            let state = cache.state(file(server, number));
+            let known = state.map(|state| (state.version, state.size));
+            Ok(known == wanted && cache.full() == full)
+        }
+        _ => Ok(false),
     }
 }
 
-fn file_of(server: &Kernel, number: u32) -> FileId
+fn file(server: &Kernel, number: u32) -> FileId
     ensures { result ≡ record { server = server.now; number = number } }
 {
     FileId {
@@ -228,97 +182,47 @@ fn file_of(server: &Kernel, number: u32) -> FileId
     }
 }
 
-fn state(cache: &Cache, server: &Kernel, file: u32) -> Seen {
-    match cache.state(file_of(server, file)) {
-        Some(state) => Seen::State(Some((state.stamp, state.version, state.size, state.on))),
-        None => Seen::State(None),
-    }
-}
-
-fn missing(cache: &Cache, server: &Kernel, file: u32, from: u32, length: u32) -> Seen {
-    if from > 4_000_000 || length > 10_000 {
-        return Seen::Never;
-    }
-    match cache.missing(file_of(server, file), from, length) {
-        Some(block) => Seen::Missing(Some(block.0)),
-        None => Seen::Missing(None),
-    }
-}
-
-fn next(cache: &Cache, server: &Kernel, file: Option<u32>) -> Seen {
-    let next = match file {
-        Some(file) => cache.write_back_next(Some(file_of(server, file))),
-        None => cache.write_back_next(None),
-    };
-    match next {
-        Some((file, block, number)) => Seen::Next(Some((file.number, block.0, number))),
-        None => Seen::Next(None),
-    }
-}
-
-fn blocks(numbers: &[BlockNo]) -> Seen {
-    match numbers.last() {
-        Some(last) => Seen::Blocks(numbers.len(), Some(last.0)),
-        None => Seen::Blocks(0, None),
-    }
-}
-
-fn sent(flushed: &Flushed) -> Seen {
-    let blocks = flushed.blocks.as_slice();
-    if blocks.is_empty() || blocks[0].1.is_empty() {
-        return Seen::Sent(flushed.size, blocks.len(), None);
-    }
-    let bytes = blocks[0].1.as_slice();
-    let first = (blocks[0].0.0, bytes.len(), bytes[0]);
-    Seen::Sent(flushed.size, blocks.len(), Some(first))
-}
-
 fn fill(
     cache: &mut Cache,
-    server: &Kernel,
-    file: u32,
+    file: &FileId,
     stamp: u32,
     block: u16,
-    bytes: (u8, u8),
-) -> Result<Seen, NoMemory> {
-    if block >= 1_024 || !cache.cached(file_of(server, file)) {
-        return Ok(Seen::Never);
+    bytes: &[u8],
+    wanted: Filled,
+) -> Result<bool, NoMemory> {
+    if block >= 1_024 || bytes.len() > 4_096 || !cache.cached(*file) {
+        return Ok(false);
     }
-    let filled = cache.fill(
-        file_of(server, file),
-        stamp,
-        BlockNo(block),
-        &[bytes.0, bytes.1],
-    )?;
-    Ok(Seen::Filled(filled))
+    Ok(cache.fill(*file, stamp, BlockNo(block), bytes)? == wanted)
 }
 
-fn read(cache: &mut Cache, server: &Kernel, file: u32, from: u32) -> Result<Seen, NoMemory> {
-    if from > 4_000_000 || !cache.cached(file_of(server, file)) {
-        return Ok(Seen::Never);
+fn read(cache: &mut Cache, file: &FileId, from: u32, wanted: &[u8]) -> Result<bool, NoMemory> {
+    if from > 4_000_000 || wanted.len() > 100 || !cache.cached(*file) {
+        return Ok(false);
     }
-    if cache.missing(file_of(server, file), from, 4).is_some() {
-        return Ok(Seen::Never);
+    let length = wanted.len() as u32;
+    if cache.missing(*file, from, length).is_some() {
+        return Ok(false);
     }
-    let bytes = cache.read(file_of(server, file), from, 4)?;
-    if bytes.len() != 4 {
-        return Ok(Seen::Never);
-    }
-    Ok(Seen::Bytes(bytes[0], bytes[1], bytes[2], bytes[3]))
+    Ok(cache.read(*file, from, length)?.as_slice() == wanted)
 }
 
-fn write(cache: &mut Cache, server: &Kernel, file: u32, from: u32, bytes: &[u8]) -> Seen {
-    if from > 4_000_000
-        || bytes.len() > 100
-        || !cache.cached(file_of(server, file))
-        || !cache.room()
-    {
-        return Seen::Never;
+fn write(cache: &mut Cache, file: &FileId, from: u32, bytes: &[u8]) -> bool {
+    if from > 4_000_000 || bytes.len() > 100 || !cache.cached(*file) || !cache.room() {
+        return false;
     }
     let length = bytes.len() as u32;
-    if cache.missing(file_of(server, file), from, length).is_some() {
-        return Seen::Never;
+    if cache.missing(*file, from, length).is_some() {
+        return false;
     }
-    cache.write(file_of(server, file), from, bytes);
-    Seen::Done
+    cache.write(*file, from, bytes);
+    true
+}
+
+fn missing(cache: &Cache, file: &FileId, from: u32, length: u32, wanted: Option<u16>) -> bool {
+    if from > 4_000_000 || length > 10_000 {
+        return false;
+    }
+    let missing = cache.missing(*file, from, length);
+    missing.map(|block| block.0) == wanted
 }

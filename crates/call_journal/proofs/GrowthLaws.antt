@@ -1,5 +1,5 @@
 -- Journals, units and states of a trace that grows.
-use Rattle.std.proofs.Common.{◌≡◌, List, [], ◌∷◌, ◌++◌, Option, Some, None, refl, ap, sym, ◌∙◌, arith, append_assoc}
+use Rattle.std.proofs.Common.{◌≡◌, Bool, true, false, cond, List, [], ◌∷◌, ◌++◌, Option, Some, None, refl, ap, sym, ◌∙◌, arith, append_assoc}
 use Rattle.std.proofs.lemmas.List.{append-nil}
 use Rattle.unix_calls.specs.declared.description.Description.{Description}
 use Rattle.unix_calls.specs.declared.entry.Entry.{Entry}
@@ -9,7 +9,7 @@ use Rattle.unix_calls.specs.declared.event.Rec.{Rec}
 use Rattle.unix_calls.specs.State.{Unix}
 use Rattle.unix_calls.specs.After.{state_from}
 use Rattle.call_journal.specs.Journal.{entered, journal_of}
-use Rattle.call_journal.specs.Past.{Past, folded_from, state_by, seen_at, seen_from, past_with, past_from, no_past}
+use Rattle.call_journal.specs.Past.{Past, folded_from, since_from, state_by, seen_at, seen_from, past_with, past_from, no_past}
 use Rattle.call_journal.specs.Files.{mode_step, held_step, opens_step}
 use Rattle.call_journal.specs.Formed.{issue_step}
 use Rattle.call_journal.specs.Once.{progress_step}
@@ -65,6 +65,16 @@ folded_grows step before s (y ∷ ys) x =
     folded_grows step (before ++ y ∷ []) (step before y s) ys x
     ∙ ap (λ b. step b x (folded_from step (before ++ y ∷ []) (step before y s) ys)) (append_assoc before (y ∷ []) ys)
 
+-- the records since the last of a kind, of a list of one record more
+since_by : (test : Rec → Bool) (b : Bool) (xs ys : List Rec) (r : Rec) (one : List Rec) (other : List Rec) → one ≡ cond (test r) [] (xs ++ r ∷ []) → other ≡ cond (test r) [] (ys ++ r ∷ []) → cond b one other ≡ cond (test r) [] (cond b xs ys ++ r ∷ [])
+since_by test true xs ys r one other h k = h
+since_by test false xs ys r one other h k = k
+
+since_grows : (test : Rec → Bool) (kept rs : List Rec) (r : Rec) → since_from test kept (rs ++ r ∷ []) ≡ cond (test r) [] (since_from test kept rs ++ r ∷ [])
+since_grows test kept [] r = refl
+since_grows test kept (x ∷ xs) r =
+    since_by test (test x) (since_from test [] xs) (since_from test (kept ++ x ∷ []) xs) r (since_from test [] (xs ++ r ∷ [])) (since_from test (kept ++ x ∷ []) (xs ++ r ∷ [])) (since_grows test [] xs r) (since_grows test (kept ++ x ∷ []) xs r)
+
 pub look_backs_grow : LookBacksGrow
 look_backs_grow = record {
   modes = λ kernel file rs r. folded_grows (mode_step kernel file) [] _ rs r;
@@ -77,4 +87,5 @@ look_backs_grow = record {
   fills = λ kernel file block rs r. folded_grows (filled_step kernel file block) [] _ rs r;
   versions = λ kernel file block ss s. folded_grows (outdated_step kernel file block) [] _ ss s;
   licences = λ file ss s. folded_grows (watch_step file) [] _ ss s;
+  sinces = λ test rs r. since_grows test [] rs r;
 }

@@ -1,12 +1,12 @@
 -- What holds of every trace.
-use Rattle.std.specs.Prelude.{◌≡◌, ℕ, ◌≤◌, ◌++◌, ◌∷◌, [], List}
+use Rattle.std.specs.Prelude.{◌≡◌, ℕ, ◌≤◌, ◌++◌, ◌∷◌, [], Bool, if◌then◌else◌, List}
 use Rattle.sprite_ids.specs.declared.names.FileId.{FileId}
 use Rattle.sprite_ids.specs.declared.names.BlockNo.{BlockNo}
 use Rattle.unix_calls.specs.declared.description.Description.{Description}
 use Rattle.unix_calls.specs.declared.event.Rec.{Rec}
 use Rattle.unix_calls.specs.After.{state_of}
 use Rattle.call_journal.specs.Journal.{journal_of}
-use Rattle.call_journal.specs.Past.{Past, Seen, past_of, seen_of}
+use Rattle.call_journal.specs.Past.{Past, Seen, past_of, seen_of, since_last}
 use Rattle.call_journal.specs.Files.{mode_step, mode_of, held_step, held_of, opens_step, opens_of}
 use Rattle.call_journal.specs.Formed.{issue_step, last_issue}
 use Rattle.call_journal.specs.Once.{progress_step, progress_of}
@@ -34,7 +34,7 @@ PastsAreTold = (c : Description) (trace : List Rec) → IsToldBy c trace (past_o
 
 -- what a place looks back on is told record by record: the modes of files at kernels and the stamps that they took, the blocks
 -- that they hold, where files are open, a process's last issue and how far it is with its calls, whether a file is called back, the
--- records before a block came in, whether its version is old, and what licenses a stop
+-- records before a block came in, whether its version is old, what licenses a stop, and the records since the last of a kind
 pub record LookBacksGrow : Type 0 where
   pub modes : (kernel : ℕ) (file : FileId) (rs : List Rec) (r : Rec) → mode_of kernel file (rs ++ r ∷ []) ≡ mode_step kernel file rs r (mode_of kernel file rs)
   pub stamps : (kernel : ℕ) (file : FileId) (rs : List Rec) (r : Rec) → last_stamp kernel file (rs ++ r ∷ []) ≡ stamp_step kernel file rs r (last_stamp kernel file rs)
@@ -46,3 +46,4 @@ pub record LookBacksGrow : Type 0 where
   pub fills : (kernel : ℕ) (file : FileId) (block : BlockNo) (rs : List Rec) (r : Rec) → before_filled kernel file block (rs ++ r ∷ []) ≡ filled_step kernel file block rs r (before_filled kernel file block rs)
   pub versions : (kernel : ℕ) (file : FileId) (block : BlockNo) (ss : List Seen) (s : Seen) → is_outdated kernel file block (ss ++ s ∷ []) ≡ outdated_step kernel file block ss s (is_outdated kernel file block ss)
   pub licences : (file : FileId) (ss : List Seen) (s : Seen) → watch_of file (ss ++ s ∷ []) ≡ watch_step file ss s (watch_of file ss)
+  pub sinces : (test : Rec → Bool) (rs : List Rec) (r : Rec) → since_last test (rs ++ r ∷ []) ≡ (if test r then [] else since_last test rs ++ r ∷ [])

@@ -1,5 +1,5 @@
--- Pieces of traces about the limits of tries, and about a kill that comes twice.
-use Rattle.std.specs.Prelude.{List, [], ◌∷◌, codes}
+-- Pieces of traces: about the limits of tries, a kill that comes twice, and what nothing forbids.
+use Rattle.std.specs.Prelude.{List, [], ◌∷◌, None, codes}
 use Rattle.link_plan.specs.declared.plan.Fate.TheVariants as fate
 use Rattle.process_machine.specs.declared.instruction.Operand.TheVariants.{Number}
 use Rattle.process_machine.specs.declared.instruction.SyscallName.TheVariants as name
@@ -89,3 +89,11 @@ killed_away =
 -- the request is first taken where the process is
 abbrev pub killed_there : List Rec
 killed_there = without 4 (without 6 killed_away)
+
+-- instructions of a process that was never born
+abbrev pub unborn_burst : List Rec
+unborn_burst = at 1 (event.Burst 1005 10000) ∷ []
+
+-- a packet to its own kernel
+abbrev pub sent_to_itself : List Rec
+sent_to_itself = at 1 (sends 1 1 None send.Other) ∷ at 1 (takes 1 1 None) ∷ []

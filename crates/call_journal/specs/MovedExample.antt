@@ -131,3 +131,16 @@ split_broadcast_trace = before 3 (at 1 (sends 1 2 None (send.Broadcast []))) mov
 -- the stream is closed with another mode than it was opened with
 abbrev pub other_mode_closed_trace : List Rec
 other_mode_closed_trace = moved_trace ++ at 3 (event.Closed (file 3 1) (stream 1 1) 2 mode.Both) ∷ []
+
+-- the stream may be written, and caching stops with its move: between its Opened and the Closed two kernels have it open
+abbrev pub stopped_move_trace : List Rec
+stopped_move_trace =
+    instead 12 (at 3 (event.Opened (file 3 1) (stream 1 1) 1 mode.Both))
+    (instead 26 (at 3 (event.Grant (file 3 1) 2 2 cache.Off))
+    (instead 27 (at 3 (event.Opened (file 3 1) (stream 1 1) 2 mode.Both))
+    (instead 28 (at 3 (event.Closed (file 3 1) (stream 1 1) 1 mode.Both))
+    (instead 32 (at 2 (event.Mode (file 3 1) 2 cache.Off)) moved_trace))))
+
+-- the same, where the source stays open
+abbrev pub stopped_beside_trace : List Rec
+stopped_beside_trace = without 28 stopped_move_trace

@@ -88,3 +88,7 @@ dropped_late_trace = before 41 (at 1 (event.Dropped (file 3 1) (block 0) cause.V
 -- the same, where the second open truncates nothing
 abbrev pub undropped_trace : List Rec
 undropped_trace = before 41 (at 1 (event.Dropped (file 3 1) (block 0) cause.Version)) untruncated_trace
+
+-- the second open gets the stream number of the first one
+abbrev pub same_number_trace : List Rec
+same_number_trace = instead 39 (at 3 (event.Opened (file 3 1) (stream 1 1) 1 mode.Write)) truncated_trace

@@ -31,11 +31,11 @@ ghost use Rattle.call_journal.specs.SharedExample.{shared_cluster, shared_trace,
 ghost use Rattle.call_journal.specs.UnreachedExample.{unreached_cluster, unreached_trace, seven_lost_trace, nothing_lost_trace, four_tries_trace};
 ghost use Rattle.call_journal.specs.KilledExample.{killed_cluster, killed_trace, unheeded_kill_trace, unkilled_trace, early_death_trace};
 ghost use Rattle.call_journal.specs.EvictedExample.{evicted_cluster, evicted_trace, stays_trace, frozen_trace, strayed_trace, frozen_twice_trace};
-ghost use Rattle.call_journal.specs.MovedExample.{moved_cluster, moved_trace, unleft_trace, target_closed_trace, other_source_trace, other_mode_trace, unopened_move_trace, open_mode_trace, strange_number_trace, open_elsewhere_trace, fetch_about_trace, broadcast_about_trace, split_broadcast_trace, other_mode_closed_trace};
+ghost use Rattle.call_journal.specs.MovedExample.{moved_cluster, moved_trace, unleft_trace, target_closed_trace, other_source_trace, other_mode_trace, unopened_move_trace, open_mode_trace, strange_number_trace, open_elsewhere_trace, fetch_about_trace, broadcast_about_trace, split_broadcast_trace, other_mode_closed_trace, stopped_move_trace, stopped_beside_trace};
 ghost use Rattle.call_journal.specs.PartedExample.{parted_cluster, parted_trace, parent_closed_trace, unparted_trace, shared_by_open_trace, other_shared_trace, operation_about_trace};
-ghost use Rattle.call_journal.specs.TruncatedExample.{truncated_cluster, truncated_trace, untruncated_trace, dropped_late_trace, undropped_trace};
+ghost use Rattle.call_journal.specs.TruncatedExample.{truncated_cluster, truncated_trace, untruncated_trace, dropped_late_trace, undropped_trace, same_number_trace};
 ghost use Rattle.call_journal.specs.DeviceExample.{device_cluster, device_trace, device_opened_trace, device_dropped_trace};
-ghost use Rattle.call_journal.specs.LimitedExample.{limited_cluster, tries_to_client, tries_to_server, sent_on_to_client, killed_away, killed_there};
+ghost use Rattle.call_journal.specs.LimitedExample.{limited_cluster, tries_to_client, tries_to_server, sent_on_to_client, killed_away, killed_there, unborn_burst, sent_to_itself};
 
 /// A file is read twice, the second time from the cache.
 pub fn reads_from_the_cache()
@@ -177,7 +177,14 @@ pub fn no_move_without_its_source()
 pub fn no_open_of_another_stream()
     ensures mode { formed moved_cluster open_mode_trace ≡ false }
     ensures number { formed moved_cluster strange_number_trace ≡ false }
+    ensures again { formed truncated_cluster same_number_trace ≡ false }
     ensures server { formed moved_cluster open_elsewhere_trace ≡ false }
+{}
+
+/// A stream on its way is no sharing: caching does not stop for it, but where its source stays open.
+pub fn no_stop_for_a_move()
+    ensures moved { caching_stops_only_for_sharing moved_cluster stopped_move_trace ≡ false }
+    ensures beside { caching_stops_only_for_sharing moved_cluster stopped_beside_trace ≡ true }
 {}
 
 /// A stream becomes shared for the move of that very stream, and its source isn't closed then.
@@ -201,6 +208,12 @@ pub fn limits_tries_to_servers()
     ensures server { expires_are_worth limited_cluster tries_to_server ≡ false }
     ensures client { expires_are_worth limited_cluster tries_to_client ≡ true }
     ensures sent { expires_are_worth limited_cluster sent_on_to_client ≡ true }
+{}
+
+/// Nothing forbids any count of instructions where no call comes, nor a packet of a kernel to itself.
+pub fn forbids_no_more()
+    ensures unborn { bursts_are_worth limited_cluster unborn_burst ≡ true }
+    ensures itself { formed limited_cluster sent_to_itself ≡ true }
 {}
 
 /// A call is not entered before its issue, nor twice; it returns with the reply that was entered; no process dies inside a call.

@@ -10,3 +10,4 @@ pub mod ProgramLaws
 pub mod RowLaws
 pub mod StageLaws
 pub mod TableLaws
+pub mod TextLaws

@@ -17,12 +17,11 @@ use Rattle.program_text.specs.declared.step.Jump.{Jump}
 use Rattle.program_text.specs.declared.step.Jump.TheVariants.{Always, Equal, Different, Less}
 use Rattle.program_text.specs.declared.step.Step.{Step}
 use Rattle.program_text.specs.declared.step.Step.TheVariants.{Plain, ToLabel}
-use Rattle.program_text.specs.declared.reading.Label.{Label as Defined}
 use Rattle.program_text.specs.declared.reading.Reading.{Reading}
 use Rattle.program_text.specs.Words.{same, lines_of, words_of, past_word, number_of}
 use Rattle.program_text.specs.Operands.{register_of, operands_of}
 use Rattle.program_text.specs.Calls.{process_calls, stream_calls, name_calls, among, call_in}
-use Rattle.program_text.specs.Labels.{label_in}
+use Rattle.program_text.specs.Labels.{label_in, defines}
 use Rattle.program_text.specs.Steps.{of_registers, with_register, of_two, branch_named, branch_of, call_with, sys_of, by_count, step_of}
 use Rattle.program_text.specs.Lines.{is_comment, page_count, label_or_step, line_by, line_of, text_of, pages_of}
 use Rattle.program_text.specs.Readings.{with_line, judged, unread}
@@ -180,23 +179,23 @@ record Suited (version : ℕ) (r : Reading) : Type 0 where
   steps : AllByRecursion (Suits version) r.steps
 
 -- one more line keeps that
-line_suited : (version : ℕ) (all : List (List ℕ)) (r : Reading) (l : Line) → Fits version l → Suited version r → Each (Suited version) (with_line all r l)
-line_suited version all r line.Blank p h = each_some (Suited version) r h
-line_suited version all r (line.Label label) p h = each_if (Suited version) _ _ _ (λ e. each_none (Suited version)) (λ e. each_some (Suited version) _ (record { pages = h.pages; steps = h.steps }))
-line_suited version all r (line.Pages pages) p h = each_if (Suited version) _ _ _ (λ e. each_none (Suited version)) (λ e. each_some (Suited version) _ (record { pages = p; steps = h.steps }))
-line_suited version all r (line.Data text) p h = each_if (Suited version) _ _ _ (λ e. each_some (Suited version) _ (record { pages = h.pages; steps = h.steps })) (λ e. each_none (Suited version))
-line_suited version all r (line.Code step) p h = each_if (Suited version) _ _ _ (λ e. each_some (Suited version) _ (record { pages = h.pages; steps = each_push (Suits version) r.steps step h.steps p })) (λ e. each_none (Suited version))
+line_suited : (version : ℕ) (defined : List ℕ → Bool) (r : Reading) (l : Line) → Fits version l → Suited version r → Each (Suited version) (with_line defined r l)
+line_suited version defined r line.Blank p h = each_some (Suited version) r h
+line_suited version defined r (line.Label label) p h = each_if (Suited version) _ _ _ (λ e. each_none (Suited version)) (λ e. each_some (Suited version) _ (record { pages = h.pages; steps = h.steps }))
+line_suited version defined r (line.Pages pages) p h = each_if (Suited version) _ _ _ (λ e. each_none (Suited version)) (λ e. each_some (Suited version) _ (record { pages = p; steps = h.steps }))
+line_suited version defined r (line.Data text) p h = each_if (Suited version) _ _ _ (λ e. each_some (Suited version) _ (record { pages = h.pages; steps = h.steps })) (λ e. each_none (Suited version))
+line_suited version defined r (line.Code step) p h = each_if (Suited version) _ _ _ (λ e. each_some (Suited version) _ (record { pages = h.pages; steps = each_push (Suits version) r.steps step h.steps p })) (λ e. each_none (Suited version))
 
 -- where the line is one
-more_suited : (version : ℕ) (all : List (List ℕ)) (r : Reading) (o : Option Line) → Each (Fits version) o → Suited version r → Each (Suited version) (option_and_then (with_line all r) o)
-more_suited version all r o p h = each_then (Fits version) (Suited version) (with_line all r) o p (λ l q. line_suited version all r l q h)
+more_suited : (version : ℕ) (defined : List ℕ → Bool) (r : Reading) (o : Option Line) → Each (Fits version) o → Suited version r → Each (Suited version) (option_and_then (with_line defined r) o)
+more_suited version defined r o p h = each_then (Fits version) (Suited version) (with_line defined r) o p (λ l q. line_suited version defined r l q h)
 
 -- all lines, one after another
-judged_suited : (version : ℕ) (all : List (List ℕ)) (n : ℕ) (o : Option Reading) (lines : List (List ℕ)) (r : Reading) → Each (Suited version) o → judged version all n o lines ≡ Ok r → Suited version r
-judged_suited version all n None lines r h e = cc
-judged_suited version all n (Some s) [] r h e = let same_one : s ≡ r = cc in subst (Suited version) same_one h.holds
-judged_suited version all n (Some s) (l ∷ lines) r h e =
-    judged_suited version all (n + 1) _ lines r (more_suited version all s (line_of version l) (by_fits version l (words_of l)) h.holds) e
+judged_suited : (version : ℕ) (defined : List ℕ → Bool) (n : ℕ) (o : Option Reading) (lines : List (List ℕ)) (r : Reading) → Each (Suited version) o → judged version defined n o lines ≡ Ok r → Suited version r
+judged_suited version defined n None lines r h e = cc
+judged_suited version defined n (Some s) [] r h e = let same_one : s ≡ r = cc in subst (Suited version) same_one h.holds
+judged_suited version defined n (Some s) (l ∷ lines) r h e =
+    judged_suited version defined (n + 1) _ lines r (more_suited version defined s (line_of version l) (by_fits version l (words_of l)) h.holds) e
 
 -- ---- the program
 
@@ -208,7 +207,7 @@ jump_called version place (Different a b) = refl
 jump_called version place (Less a b) = refl
 
 -- the instruction of a step that suits
-step_called : (version : ℕ) (labels : List Defined) (step : Step) → Suits version step → is_called version (aimed labels step) ≡ true
+step_called : (version : ℕ) (labels : List (List ℕ × ℕ)) (step : Step) → Suits version step → is_called version (aimed labels step) ≡ true
 step_called version labels (Plain instruction) h = h
 step_called version labels (ToLabel jump label) h = jump_called version _ jump
 
@@ -222,7 +221,7 @@ instruction_is version count (Sys called operands) h k = k
 instruction_is version count other h k = refl
 
 -- and all are
-code_is : (version count : ℕ) (labels : List Defined) (steps : List Step) → AllByRecursion (GoesWithin count) (map (aimed labels) steps) → AllByRecursion (Suits version) steps → list_all (is_instruction version count) (map (aimed labels) steps) ≡ true
+code_is : (version count : ℕ) (labels : List (List ℕ × ℕ)) (steps : List Step) → AllByRecursion (GoesWithin count) (map (aimed labels) steps) → AllByRecursion (Suits version) steps → list_all (is_instruction version count) (map (aimed labels) steps) ≡ true
 code_is version count labels [] h k = refl
 code_is version count labels (step ∷ steps) h k =
     and_from (is_instruction version count (aimed labels step)) (list_all (is_instruction version count) (map (aimed labels) steps))
@@ -257,7 +256,7 @@ finished_is version text (Err n) p is e = absurd (cc)
 finished_is version text (Ok r) p is e =
     let same_one : program_by r ≡ p = cc in
     subst (λ (q : Program). is_program version q ≡ true) same_one
-    (reading_is version r (reading_within version text r is) (judged_suited version (lines_of text) 0 (Some unread) (lines_of text) r (each_some (Suited version) unread (record { pages = tt; steps = tt })) is))
+    (reading_is version r (reading_within version text r is) (judged_suited version (defines (lines_of text)) 0 (Some unread) (lines_of text) r (each_some (Suited version) unread (record { pages = tt; steps = tt })) is))
 
 -- each program that a text writes is a program of that version
 pub program_is : (version : ℕ) (text : List ℕ) (p : Program) → program_of version text ≡ Ok p → is_program version p ≡ true

@@ -212,11 +212,15 @@ fn has_earlier(earlier: &[FileLine], path: &Path) -> bool
     false
 }
 
-/// The text so many times.
+/// The text so many times. Its room is taken once; an empty text takes none, and no turn.
 fn repeated(alloc: Global, text: &[u8], times: u32) -> Result<Bytes, NoMemory>
     ensures { IfOk result (λ bytes. bytes ≡ repeated text.now times) }
 {
-    let mut bytes = Bytes::new(alloc);
+    if text.is_empty() {
+        return Ok(Bytes::new(alloc));
+    }
+    let room = text.len().saturating_mul(times as usize);
+    let mut bytes = Bytes::of_vec(Vec::with_capacity(alloc, room)?);
     for time in 0..times {
         bytes.append(text)?;
     }

@@ -1,5 +1,5 @@
 -- Where a call stands, and how many copies of each call are in flight.
-use Rattle.std.proofs.Common.{arith, ◌≡◌, ℕ, zero, suc, ◌+◌, ◌-◌, ◌<◌, ◌≤◌, ◌==◌, nat_lt, Bool, true, false, ◌||◌, not, cond, List, [], ◌∷◌, ◌++◌, length, map, Option, Some, None, refl, sym, ap, subst, ◌∙◌, get_or, slice_set, ltb, min, ◌^◌, length-append, ⊎_elim}
+use Rattle.std.proofs.Common.{arith, ◌≡◌, ℕ, zero, suc, ◌+◌, ◌-◌, ◌<◌, ◌≤◌, ◌==◌, nat_lt, Bool, true, false, ◌||◌, not, cond, List, [], ◌∷◌, ◌++◌, length, map, Some, None, refl, sym, ap, subst, ◌∙◌, get_or, slice_set, ltb, min, ◌^◌, length-append, ⊎_elim}
 use Rattle.std.specs.List.{AllByRecursion, find, list_any, position, position_or_len, remove}
 use Rattle.std.proofs.lemmas.Bool.Decides.{nat_tests}
 use Rattle.std.proofs.lemmas.Bool.{cases_lt, eqb-true}
@@ -18,7 +18,6 @@ use Rattle.kernel_rpc.specs.Sound.{HasBegun, IsNumbered}
 use Rattle.kernel_rpc.specs.declared.table.CallTable.{CallTable}
 use Rattle.kernel_rpc.specs.Table.{Ascend, Kept, Stands, counts_of, flying_of}
 use Rattle.kernel_rpc.proofs.NumberLaws.{none_after}
-use Rattle.kernel_rpc.proofs.PartLaws.{eq_turned}
 use Rattle.kernel_rpc.proofs.SoundLaws.{each_within, other_copy}
 
 below : (first last : ℕ) (calls : List Call) → IsNumbered first calls last → (j : ℕ) (d : Call) → j < length calls → first < (get_or calls j d).tx.0

@@ -15,3 +15,4 @@ pub mod StepLaws
 pub mod OrderLaws
 pub mod TryLaws
 pub mod LossLaws
+pub mod ComeLaws

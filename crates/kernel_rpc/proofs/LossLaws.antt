@@ -1,25 +1,21 @@
 -- Where a timer may fire, a packet of its call was lost since the last sending.
-use Rattle.std.proofs.Common.{arith, ◌≡◌, ℕ, ◌+◌, ◌<◌, ◌≤◌, ◌==◌, Bool, true, false, ◌&&◌, ◌||◌, cond, List, [], ◌∷◌, ◌++◌, map, Option, Some, None, is_some, refl, sym, ap, subst, ◌∙◌}
+use Rattle.std.proofs.Common.{arith, ◌≡◌, ℕ, ◌+◌, ◌≤◌, ◌==◌, Bool, true, false, ◌&&◌, ◌||◌, cond, List, [], ◌∷◌, ◌++◌, map, Option, Some, None, refl, sym, ap, subst, ◌∙◌}
 use Rattle.std.specs.List.{AllByRecursion, find, list_any}
 use Rattle.std.proofs.lemmas.Bool.Decides.{nat_tests}
 use Rattle.std.proofs.lemmas.Bool.{eqb-true}
-use Rattle.sprite_ids.specs.declared.CopyNo.{CopyNo}
 use Rattle.sprite_ids.specs.declared.TxNo.{TxNo}
 use Rattle.sprite_ids.specs.Lists.{changed, less}
 use Rattle.sprite_ids.proofs.ListLaws.{each_push, some_is}
 use Rattle.link_plan.specs.declared.Fate.{Fate}
-use Rattle.link_plan.specs.declared.Fate.TheVariants.{Lost}
-use Rattle.kernel_rpc.specs.declared.call.Part.{Part}
 use Rattle.kernel_rpc.specs.declared.call.Part.TheVariants.{Waiting, Holding, Silent, Answered}
 use Rattle.kernel_rpc.specs.declared.call.Arrival.{Arrival}
 use Rattle.kernel_rpc.specs.declared.call.Arrival.TheVariants.{FirstRequest, FirstReply, AskedAgain, Past}
 use Rattle.kernel_rpc.specs.declared.call.Call.{Call}
 use Rattle.kernel_rpc.specs.declared.call.PacketCopy.{PacketCopy}
-use Rattle.kernel_rpc.specs.declared.call.Receiver.{Receiver}
 use Rattle.kernel_rpc.specs.Copies.{copies_by, requests}
-use Rattle.kernel_rpc.specs.Machine.{Machine, answered, arrival, arrival_at, arrival_back, arrival_of, call_of, copy_of, delivered_as, fresh, further, gave_up, holds, idle, is_call, is_copy, is_due, is_last, is_of_call, landed, may_fire, new_call, owner_of, part_of, replied, reply_to, request, resent, tried, with_part}
+use Rattle.kernel_rpc.specs.Machine.{Machine, answered, arrival, arrival_of, call_of, copy_of, delivered_as, fresh, further, gave_up, holds, idle, is_call, is_copy, is_last, is_of_call, landed, may_fire, new_call, owner_of, part_of, replied, reply_to, request, resent, tried}
 use Rattle.kernel_rpc.specs.Sound.{IsReadable, IsSound, OwnerStands, brings_on, is_reply_of}
-use Rattle.kernel_rpc.specs.Runs.{Act, Begin, Deliver, Answer, Silence, Expire, AsksAgain, AsksUnless, Counts, IsRun, MayAct, MayDeliver, after, delivered_by, expired_by, once_if}
+use Rattle.kernel_rpc.specs.Runs.{Act, Begin, Deliver, Answer, Silence, Expire, AsksAgain, AsksUnless, Counts, IsRun, MayAct, after, delivered_by, expired_by, once_if}
 use Rattle.kernel_rpc.specs.Histories.{EachLost, IsLostWhereDue, LostBeforeExpiry, is_asked_again, is_loss, lost_since, loses_again, loses_to}
 use Rattle.kernel_rpc.proofs.ArrivalLaws.{asked_again, first_request}
 use Rattle.kernel_rpc.proofs.BeginLaws.{kernels_fresh, may_answer_held, may_be_silent_apart}

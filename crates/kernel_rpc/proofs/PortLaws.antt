@@ -1,12 +1,12 @@
 -- A kernel has no more calls than were begun, so one of so many ports and one more is free.
-use Rattle.std.proofs.Common.{arith, ◌≡◌, ℕ, zero, suc, ◌+◌, ◌<◌, ◌≤◌, ◌==◌, Bool, true, false, ◌&&◌, ◌||◌, not, cond, List, [], ◌∷◌, length, refl, sym, ap, ◌∙◌}
+use Rattle.std.proofs.Common.{arith, ◌≡◌, ℕ, zero, suc, ◌+◌, ◌<◌, ◌≤◌, ◌==◌, Bool, true, false, ◌&&◌, ◌||◌, not, cond, List, [], ◌∷◌, length, get_or, refl, sym, ap, ◌∙◌}
 use Rattle.std.specs.List.{list_any}
 use Rattle.std.proofs.lemmas.Bool.Decides.{nat_tests}
-use Rattle.std.proofs.lemmas.Bool.{eqb-true}
 use Rattle.sprite_ids.specs.Lists.{less}
 use Rattle.kernel_rpc.specs.declared.call.Call.{Call}
-use Rattle.kernel_rpc.specs.Machine.{Machine, is_at_port, is_free}
-use Rattle.kernel_rpc.specs.Ports.{AreUsed}
+use Rattle.kernel_rpc.specs.Machine.{is_at_port}
+use Rattle.kernel_rpc.specs.Ports.{AreMarked}
+use Rattle.sprite_ids.proofs.OnceLaws.{or_false}
 use Rattle.kernel_rpc.specs.Sound.{IsNumbered}
 
 -- no more calls are unfinished than were begun
@@ -56,17 +56,15 @@ as_many_calls kernel (suc ports) calls used =
     let rest = as_many_calls kernel ports (less (is_at_port kernel ports) calls) (λ port under. other_stays (is_at_port kernel ports) (is_at_port kernel port) calls (λ call e. at_one_port kernel ports port call under e) (used port (omega arith))) in
     omega arith
 
-is_used : (b : Bool) → not b ≡ false → b ≡ true
-is_used true e = refl
-is_used false e = absurd (cc)
+all_marked : (used : List Bool) (port : ℕ) → list_any not used ≡ false → port < length used → get_or used port false ≡ true
+all_marked [] port e inside = absurd (omega arith)
+all_marked (first ∷ used) zero e inside = marked first (or_false (not first) (list_any not used) e).0 where
+  marked : (b : Bool) → not b ≡ false → b ≡ true
+  marked true e = refl
+  marked false e = absurd (cc)
+all_marked (first ∷ used) (suc port) e inside = all_marked used port (or_false (not first) (list_any not used) e).1 (omega arith)
 
-used_up_to : (machine : Machine) (kernel port : ℕ) → AreUsed machine kernel port → is_free machine kernel port ≡ false → (lower : ℕ) → lower < port + 1 → (b : Bool) → (lower == port) ≡ b → is_free machine kernel lower ≡ false
-used_up_to machine kernel port used last lower under true e = ap (is_free machine kernel) (eqb-true lower port e) ∙ last
-used_up_to machine kernel port used last lower under false e = used lower (grind (arith, nat_tests))
-
--- not every port up to the number of calls that were begun is used
-pub one_is_free : (machine : Machine) (kernel port : ℕ) → IsNumbered 0 machine.unfinished machine.begun → machine.begun ≤ port → AreUsed machine kernel port → is_free machine kernel port ≡ false → ⊥
-one_is_free machine kernel port numbered most used last =
-    let calls = as_many_calls kernel (port + 1) machine.unfinished (λ lower under. is_used (list_any (is_at_port kernel lower) machine.unfinished) (used_up_to machine kernel port used last lower under (lower == port) refl)) in
-    let begun = no_more_than_begun 0 machine.begun machine.unfinished numbered in
-    omega arith
+-- of one more ports than there are calls, one isn't marked
+pub one_is_free : (used : List Bool) (kernel : ℕ) (calls : List Call) → length used ≡ length calls + 1 → AreMarked used kernel calls → (b : Bool) → list_any not used ≡ b → list_any not used ≡ true
+one_is_free used kernel calls many marked true e = e
+one_is_free used kernel calls many marked false e = absurd (let most = as_many_calls kernel (length used) calls (λ port under. sym (marked port under) ∙ all_marked used port e under) in omega arith)

@@ -1,6 +1,6 @@
 -- A call is given up exactly at the eighth time that its timer fires.
-use Rattle.std.proofs.Common.{arith, ◌≡◌, ℕ, ◌+◌, ◌<◌, ◌≤◌, ◌==◌, nat_le, Bool, true, false, ◌&&◌, cond, List, [], ◌∷◌, ◌++◌, Option, Some, None, min, refl, sym, ap, subst, ◌∙◌}
-use Rattle.std.specs.List.{AllByRecursion, find}
+use Rattle.std.proofs.Common.{arith, ◌≡◌, ℕ, ◌+◌, ◌<◌, ◌≤◌, ◌==◌, Bool, true, false, ◌&&◌, cond, List, [], ◌∷◌, Option, Some, None, min, refl, sym, ap, subst, ◌∙◌}
+use Rattle.std.specs.List.{AllByRecursion}
 use Rattle.std.proofs.lemmas.Bool.Decides.{nat_tests}
 use Rattle.std.proofs.lemmas.Bool.{eqb-true}
 use Rattle.sprite_ids.specs.declared.TxNo.{TxNo}
@@ -15,8 +15,8 @@ use Rattle.kernel_rpc.specs.declared.call.Arrival.TheVariants.{FirstRequest, Fir
 use Rattle.kernel_rpc.specs.declared.call.Call.{Call}
 use Rattle.kernel_rpc.specs.declared.call.PacketCopy.{PacketCopy}
 use Rattle.kernel_rpc.specs.Machine.{Machine, answered, arrival, call_of, copy_of, delivered_as, further, gave_up, idle, is_call, is_last, is_last_of, landed, lost_more, new_call, replied, resent, tried}
-use Rattle.kernel_rpc.specs.Runs.{Act, Begin, Deliver, Answer, Silence, Expire, AsksAgain, Counts, IsRun, MayAct, after, delivered_by, expired_by, gives_up, gives_up_by}
-use Rattle.kernel_rpc.specs.Histories.{AfterSeven, EachAfterSeven, GivenUpAtEighth, expires, times_expired}
+use Rattle.kernel_rpc.specs.Runs.{Act, Begin, Deliver, Answer, Silence, Expire, AsksAgain, Counts, IsRun, MayAct, after, delivered_by, expired_by, gives_up_by}
+use Rattle.kernel_rpc.specs.Histories.{AfterSeven, EachAfterSeven, GivenUpAtEighth, times_expired}
 use Rattle.kernel_rpc.proofs.CopyLaws.{each_without}
 use Rattle.kernel_rpc.proofs.NumberLaws.{each_changed, each_dropped}
 use Rattle.kernel_rpc.proofs.RunLaws.{Ordered, ordered_after, unfinished_replied}
@@ -39,7 +39,7 @@ record Counted (before : List Act) (machine : Machine) : Type 0 where
   calls : AllByRecursion (Tried before) machine.unfinished
   none : NoneBefore before machine.begun
 
-each_kept : (P : Call → Type 0) (p : Call → Bool) (f : Call → Call) → ((call : Call) → P call → P (f call)) → (calls : List Call) → AllByRecursion P calls → AllByRecursion P (changed p f calls)
+pub each_kept : (P : Call → Type 0) (p : Call → Bool) (f : Call → Call) → ((call : Call) → P call → P (f call)) → (calls : List Call) → AllByRecursion P calls → AllByRecursion P (changed p f calls)
 each_kept P p f keep [] h = tt
 each_kept P p f keep (call ∷ calls) h = elim (p call) as (λ b. AllByRecursion P (cond b (f call ∷ calls) (call ∷ changed p f calls))) [ true ↦ (keep call h.0, h.1) | false ↦ (h.0, each_kept P p f keep calls h.1) ]
 

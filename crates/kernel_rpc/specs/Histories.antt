@@ -1,5 +1,5 @@
 -- What holds at each place of a run.
-use Rattle.std.specs.Prelude.{◌≡◌, ℕ, ◌+◌, ◌<◌, ◌≤◌, ◌==◌, Bool, true, false, ◌&&◌, ◌||◌, if◌then◌else◌, List, [], ◌∷◌, Option, Some, None}
+use Rattle.std.specs.Prelude.{◌≡◌, ℕ, ◌+◌, ◌*◌, ◌<◌, ◌≤◌, ◌==◌, Bool, true, false, ◌&&◌, ◌||◌, not, if◌then◌else◌, List, [], ◌∷◌, Option, Some, None}
 use Rattle.std.specs.List.{list_any}
 use Rattle.sprite_ids.specs.declared.CopyNo.{CopyNo}
 use Rattle.sprite_ids.specs.declared.TxNo.{TxNo}
@@ -7,9 +7,10 @@ use Rattle.link_plan.specs.declared.Fate.{Fate}
 use Rattle.link_plan.specs.declared.Fate.TheVariants.{Once, Lost, Twice, Late}
 use Rattle.kernel_rpc.specs.declared.call.Arrival.{Arrival}
 use Rattle.kernel_rpc.specs.declared.call.Arrival.TheVariants.{FirstRequest, FirstReply, AskedAgain, Past}
+use Rattle.kernel_rpc.specs.declared.call.Call.{Call}
 use Rattle.kernel_rpc.specs.declared.call.PacketCopy.{PacketCopy}
-use Rattle.kernel_rpc.specs.Machine.{Machine, arrival, call_of, copy_of, idle, is_copy, may_expire, owner_of}
-use Rattle.kernel_rpc.specs.Runs.{Act, Begin, Deliver, Answer, Silence, Expire, Counts, IsRun, after, gives_up}
+use Rattle.kernel_rpc.specs.Machine.{Machine, arrival, call_of, copy_of, idle, is_copy, is_last, may_expire, owner_of}
+use Rattle.kernel_rpc.specs.Runs.{Act, Begin, Deliver, Answer, Silence, Expire, Counts, IsRun, after, gives_up, once_if}
 
 -- the machine after a run
 abbrev pub reached : Machine → List (Act × Counts) → Machine
@@ -100,3 +101,47 @@ EachLost lost machine (first ∷ rest) = IsLostWhereDue lost machine × EachLost
 -- last
 abbrev pub LostBeforeExpiry : Type 0
 LostBeforeExpiry = (counts : Counts) (steps : List (Act × Counts)) → IsRun idle counts steps → EachLost (λ tx. false) idle steps
+
+-- how many items pass a test
+abbrev pub how_many : {X : Type 0} → (X → Bool) → List X → ℕ
+how_many p [] = 0
+how_many p (x ∷ xs) = if p x then 1 + how_many p xs else how_many p xs
+
+-- whether a copy is one of that call's request to that kernel
+abbrev pub is_request_of : ℕ → ℕ → PacketCopy → Bool
+is_request_of tx kernel copy = (copy.tx.0 == tx) && (not copy.reply && (copy.to == kernel))
+
+-- whether a looked-up copy passes a test
+abbrev pub passes : (PacketCopy → Bool) → Option PacketCopy → Bool
+passes p None = false
+passes p (Some copy) = p copy
+
+-- whether a copy that passes the test comes to its receiver
+abbrev pub brings : (PacketCopy → Bool) → Machine → Act → Bool
+brings p machine (Begin from port servers owner body tries about before sent) = false
+brings p machine (Deliver number given) = passes p (copy_of machine number)
+brings p machine (Answer tx body given) = false
+brings p machine (Silence tx at) = false
+brings p machine (Expire tx sent) = false
+
+-- whether the timer of a looked-up call of that number fires, and isn't its last one
+abbrev pub sends_by : ℕ → TxNo → Option Call → Bool
+sends_by tx key None = false
+sends_by tx key (Some call) = (key.0 == tx) && not (is_last call)
+
+-- whether the request of the call of that number is sent
+abbrev pub sends : ℕ → Machine → Act → Bool
+sends tx machine (Begin from port servers owner body tries about before sent) = machine.begun + 1 == tx
+sends tx machine (Deliver number given) = false
+sends tx machine (Answer key body given) = false
+sends tx machine (Silence key at) = false
+sends tx machine (Expire key sent) = sends_by tx key (call_of machine key)
+
+-- how many steps of a run pass a test
+abbrev pub times : (Machine → Act → Bool) → Machine → List (Act × Counts) → ℕ
+times p machine [] = 0
+times p machine (first ∷ rest) = once_if (p machine first.0) + times p (after machine first.0) rest
+
+-- in each run, at most two copies of a call's request come to a kernel for each time that it was sent
+abbrev pub TwoRequestsEach : Type 0
+TwoRequestsEach = (counts : Counts) (steps : List (Act × Counts)) (tx kernel : ℕ) → IsRun idle counts steps → times (brings (is_request_of tx kernel)) idle steps ≤ 2 * times (sends tx) idle steps

@@ -1,5 +1,5 @@
 ghost use Rattle.kernel_rpc.specs.Runs.{GivenUpForCause, RepliesAtMostOnce, RequestsAtMostOnce, StaysUntilAnswered};
-ghost use Rattle.kernel_rpc.specs.Histories.{CopiesDiffer, GivenUpAtEighth, LostBeforeExpiry, NumbersAreNew};
+ghost use Rattle.kernel_rpc.specs.Histories.{CopiesDiffer, GivenUpAtEighth, LostBeforeExpiry, NumbersAreNew, TwoRequestsEach};
 ghost use Rattle.kernel_rpc.specs.Steps.{AnswerIsStep, BeginIsStep, BroadcastIsStep, DeliverIsStep, ExpireIsStep, SilentIsStep};
 
 use link_plan::Link;
@@ -53,4 +53,9 @@ pub fn given_up_at_the_eighth_try()
 /// its request was sent last, that sending included.
 pub fn a_packet_is_lost_before_a_timer_fires()
     ensures { LostBeforeExpiry }
+{}
+
+/// A law: in each run, at most two copies of a call's request come to a kernel for each time that it was sent.
+pub fn requests_come_twice_at_most()
+    ensures { TwoRequestsEach }
 {}

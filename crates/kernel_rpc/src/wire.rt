@@ -14,6 +14,7 @@ use crate::bodies::{kept_reply, message_of};
 use crate::call::{Arrival, Call, CallState, Part, Receiver};
 use crate::calls::{find_call, is_last, place_of};
 use crate::copies::{find_copy, land};
+use crate::ports::least_port;
 use crate::queries::{
     due_of, has_due, has_request, is_due, is_used, offered, state_in, state_past,
 };
@@ -332,17 +333,15 @@ impl<M: Message + Drop, L: Link> Wire<M, L> {
     }
 
     /// The least port at which the kernel has no unfinished call. There always is one, since no more calls are unfinished than
-    /// were begun; it is at most their number.
-    pub fn free_port(&self, kernel: Kernel) -> u32
-        ensures free { is_free self.now.machine kernel result ≡ true }
-        ensures least { AreUsed self.now.machine kernel result }
+    /// were begun; it is at most their number. It goes over the unfinished calls once. The one error is want of memory.
+    pub fn free_port(&self, alloc: Global, kernel: Kernel) -> Result<u32, NoMemory>
+        ensures free { IfOk result (λ port. is_free self.now.machine kernel port ≡ true) }
+        ensures least { IfOk result (AreUsed self.now.machine kernel) }
     {
-        for port in 0..=self.table.begun {
-            if self.is_free(kernel, port) {
-                return port;
-            }
-        }
-        unreachable!()
+        // No more calls are unfinished than were begun, so their ports can be counted.
+        let _most = self.begun();
+        let port = least_port(alloc, self.table.unfinished.as_slice(), kernel)?;
+        Ok(port)
     }
 
     /// Whether the owner of the call has its request, and so may answer.

@@ -18,6 +18,16 @@ pub record Asks : Type 0 where
   pub waiting : List Ask
   pub masters : ℕ
 
+-- the number of a kind
+abbrev pub kind_number : AskKind → ℕ
+kind_number Read = 1
+kind_number Write = 2
+kind_number Ioctl = 3
+
+-- what the master's call that takes the ask is told
+abbrev pub told : Ask → Reply
+told ask = Value (kind_number ask.kind) (length ask.bytes) ask.bytes
+
 -- the most bytes of an answer to an ask of that kind and length
 abbrev pub most_of : AskKind → ℕ → ℕ
 most_of Read length = length

@@ -1,4 +1,4 @@
-use crate::ask::{Answer, Ask};
+use crate::ask::{Answer, Ask, kind_number};
 use crate::device::Device;
 use crate::end::{PutEnd, TakeEnd};
 use process_machine::Reply;
@@ -143,5 +143,27 @@ fn a_master_answers_asks_in_order(rt: HostRuntime) -> Result<(), Fail> {
         assert!(rt; asks[0].number == 5 && asks[1].number == 6);
     }
     assert!(rt; !device.alive());
+    Ok(())
+}
+
+// Whether the ask of that kind tells the master so.
+fn tells(alloc: Global, kind: AskKind, number: u8) -> Result<bool, Fail> {
+    let ask = ask_of(alloc, kind, 1, 0, b"ab")?;
+    match ask.told(alloc)? {
+        Reply::Value {
+            first,
+            second,
+            bytes,
+        } => Ok(first == u64::from(number) && second == 2 && bytes.as_slice() == b"ab".as_slice()),
+        Reply::Error(_) => Ok(false),
+    }
+}
+
+#[test]
+fn an_ask_tells_its_kind(rt: HostRuntime) -> Result<(), Fail> {
+    assert!(rt; kind_number(AskKind::Ioctl) == 3);
+    assert!(rt; tells(rt.alloc(), AskKind::Read, 1)?);
+    assert!(rt; tells(rt.alloc(), AskKind::Write, 2)?);
+    assert!(rt; tells(rt.alloc(), AskKind::Ioctl, 3)?);
     Ok(())
 }

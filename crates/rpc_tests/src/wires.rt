@@ -203,7 +203,7 @@ fn broadcast(alloc: Global, wire: &mut Wire<Bytes, PlanLink>) -> Result<Seen, Fa
     let other = Kernel::new(2).ok_or("kernel 2")?;
     let owner = Kernel::new(3).ok_or("kernel 3")?;
     let body = Bytes::of_slice(alloc, b"ask")?;
-    let port = wire.free_port(from);
+    let port = wire.free_port(alloc, from)?;
     if from == other || from == owner || other == owner || wire.begun() == u32::MAX {
         return Err("no call may begin")?;
     }

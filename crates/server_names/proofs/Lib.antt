@@ -1,4 +1,5 @@
 pub mod DirectoryLaws
+pub mod FoundLaws
 pub mod ListingLaws
 pub mod WalkLaws
 pub mod WayLaws

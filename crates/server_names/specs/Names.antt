@@ -1,6 +1,6 @@
 -- The names of one domain, below its root.
-use Rattle.std.specs.Prelude.{◌≡◌, ℕ, ◌+◌, ◌-◌, ◌==◌, nat_lt, nat_eq, Bool, true, false, if◌then◌else◌, List, [], ◌∷◌, ◌++◌, length, take, slice_get, Option, Some, None, Result, Ok, Err}
-use Rattle.std.specs.List.{flat_map}
+use Rattle.std.specs.Prelude.{◌≡◌, ℕ, ◌+◌, ◌-◌, ◌≤◌, ◌==◌, nat_lt, nat_eq, Bool, true, false, if◌then◌else◌, List, [], ◌∷◌, ◌++◌, length, take, slice_get, Option, Some, None, Result, Ok, Err}
+use Rattle.std.specs.List.{AllByRecursion, flat_map}
 use Rattle.std.specs.List.Sorted.{IsPermutation, IsSorted}
 use Rattle.std.specs.Ordering.{nat_cmp}
 use Rattle.std.specs.Map.{keys_of, lookup, remove_entry, set_value}
@@ -258,3 +258,17 @@ booted tree path entry = and_then (with_way tree [] (parent path)) (λ next. ent
 abbrev pub hung_all : Tree → List (List (List ℕ)) → Result Tree NameEnd
 hung_all tree [] = Ok tree
 hung_all tree (link ∷ links) = and_then (booted tree link (Link link)) (λ next. hung_all next links)
+
+-- each of the entries has a name of its own
+abbrev pub AreOnce : Listed → Type 0
+AreOnce [] = Unit {0}
+AreOnce (first ∷ rest) = (lookup (is_part first.0) rest ≡ None) × AreOnce rest
+
+-- what each directory keeps
+pub record IsDirectory (entries : Listed) : Type 0 where
+  pub few : length entries ≤ 256
+  pub once : AreOnce entries
+
+-- what the names of a domain keep
+abbrev pub IsSound : Tree → Type 0
+IsSound tree = AllByRecursion (λ directory. IsDirectory directory.1) tree

@@ -5,9 +5,11 @@
 mod answers;
 mod directories;
 mod end;
+mod laws;
 mod name;
 mod names;
 
 pub use end::NameEnd;
+pub use laws::{made_is_found, removed_is_gone};
 pub use name::{Entry, Name, Node};
 pub use names::Names;

@@ -30,9 +30,9 @@ impl Names {
     /// The names of a domain in which others hang at these paths below its root: a remote link at each of them, and the
     /// directories above it.
     ///
-    /// A remote link hangs directly in a directory. So Exists comes where a link's path is the root, is there twice or is
-    /// one above another link, Redirect where it lies below another link, and TooMany where a directory would have more
-    /// than 256 entries (this project).
+    /// A remote link hangs directly in a directory. So Exists comes where a link's path is the root or is one above an
+    /// earlier link, Redirect where it is that of an earlier link or lies below it, and TooMany where a directory would have
+    /// more than 256 entries (this project).
     pub fn new(alloc: Global, links: &[Path]) -> Result<Names, NameEnd>
         ensures answer { Answers (done result) (done (hung_all [] links.now)) }
         ensures ok { IfOk result (λ names. hung_all [] links.now ≡ Ok names) }

@@ -33,6 +33,17 @@ reply_shape (replies.Moved x y) = form 10 (optional grant before number32) (x, y
 reply_shape (replies.Page x) = form 11 text x
 reply_shape replies.Gone = form 12 nothing tt
 
+-- what is read behind the numbers from 7 on
+abbrev pub later_rows : List (Row ReplyBody)
+later_rows =
+    row 7 grant replies.Again ∷
+    row 8 (number32 before text) (λ p. replies.Block p.0 p.1) ∷
+    row 9 flushed replies.Flushed ∷
+    row 10 (optional grant before number32) (λ p. replies.Moved p.0 p.1) ∷
+    row 11 text replies.Page ∷
+    row 12 nothing (λ x. replies.Gone) ∷
+    []
+
 abbrev pub reply_rows : List (Row ReplyBody)
 reply_rows =
     row 1 nothing (λ x. replies.Done) ∷
@@ -41,13 +52,7 @@ reply_rows =
     row 4 path replies.Redirect ∷
     row 5 opened_reply replies.Opened ∷
     row 6 value_reply replies.Value ∷
-    row 7 grant replies.Again ∷
-    row 8 (number32 before text) (λ p. replies.Block p.0 p.1) ∷
-    row 9 flushed replies.Flushed ∷
-    row 10 (optional grant before number32) (λ p. replies.Moved p.0 p.1) ∷
-    row 11 text replies.Page ∷
-    row 12 nothing (λ x. replies.Gone) ∷
-    []
+    later_rows
 
 abbrev pub reply : Codec ReplyBody
 reply = tagged reply_shape reply_rows

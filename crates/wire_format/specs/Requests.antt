@@ -113,6 +113,28 @@ request_shape (requests.PageOut x) = form 17 page_out_request x
 request_shape (requests.PageIn x y) = form 18 (pid before byte) (x, y)
 request_shape (requests.Launch x) = form 19 launch_request x
 
+-- what is read behind the numbers from 14 on
+abbrev pub last_rows : List (Row Request)
+last_rows =
+    row 14 (pid before kernel) (λ p. requests.Place p.0 p.1) ∷
+    row 15 pid requests.Killed ∷
+    row 16 ask_request requests.Ask ∷
+    row 17 page_out_request requests.PageOut ∷
+    row 18 (pid before byte) (λ p. requests.PageIn p.0 p.1) ∷
+    row 19 launch_request requests.Launch ∷
+    []
+
+-- what is read behind the numbers from 8 on
+abbrev pub later_rows : List (Row Request)
+later_rows =
+    row 8 fetch_request requests.Fetch ∷
+    row 9 write_back_request requests.WriteBack ∷
+    row 10 callback_request requests.Callback ∷
+    row 11 move_request requests.Move ∷
+    row 12 transfer_request requests.Transfer ∷
+    row 13 home_request requests.Home ∷
+    last_rows
+
 abbrev pub request_rows : List (Row Request)
 request_rows =
     row 1 nothing (λ x. requests.Echo) ∷
@@ -122,19 +144,7 @@ request_rows =
     row 5 make_request requests.Make ∷
     row 6 close_request requests.Close ∷
     row 7 op_request requests.Op ∷
-    row 8 fetch_request requests.Fetch ∷
-    row 9 write_back_request requests.WriteBack ∷
-    row 10 callback_request requests.Callback ∷
-    row 11 move_request requests.Move ∷
-    row 12 transfer_request requests.Transfer ∷
-    row 13 home_request requests.Home ∷
-    row 14 (pid before kernel) (λ p. requests.Place p.0 p.1) ∷
-    row 15 pid requests.Killed ∷
-    row 16 ask_request requests.Ask ∷
-    row 17 page_out_request requests.PageOut ∷
-    row 18 (pid before byte) (λ p. requests.PageIn p.0 p.1) ∷
-    row 19 launch_request requests.Launch ∷
-    []
+    later_rows
 
 abbrev pub request : Codec Request
 request = tagged request_shape request_rows

@@ -27,6 +27,12 @@ pub struct AskRequest {
     pub fd: Descriptor,
 }
 
+// The fields, as they stand one behind another.
+type Parts = (
+    Pid,
+    (u32, (DeviceId, (AskKind, (u32, (Bytes, Descriptor))))),
+);
+
 impl Field for AskRequest {
     ghost codec = { ask_request };
 
@@ -43,14 +49,17 @@ impl Field for AskRequest {
     }
 
     fn read_from(alloc: Global, from: &mut Reader) -> Result<AskRequest, FieldEnd> {
+        let (pid, (number, (device, (kind, (length, (bytes, fd)))))) = Parts::read_from(
+            alloc, from,
+        )?;
         Ok(AskRequest {
-            pid: Pid::read_from(alloc, from)?,
-            number: u32::read_from(alloc, from)?,
-            device: DeviceId::read_from(alloc, from)?,
-            kind: AskKind::read_from(alloc, from)?,
-            length: u32::read_from(alloc, from)?,
-            bytes: Bytes::read_from(alloc, from)?,
-            fd: Descriptor::read_from(alloc, from)?,
+            pid,
+            number,
+            device,
+            kind,
+            length,
+            bytes,
+            fd,
         })
     }
 }

@@ -26,6 +26,12 @@ pub struct CarriedStream {
     pub grants: u32,
 }
 
+// The fields, as they stand one behind another.
+type Parts = (
+    StreamNo,
+    (Target, (CarriedMode, (Option<u32>, (Option<Grant>, u32)))),
+);
+
 impl Field for CarriedStream {
     ghost codec = { carried_stream };
 
@@ -41,13 +47,14 @@ impl Field for CarriedStream {
     }
 
     fn read_from(alloc: Global, from: &mut Reader) -> Result<CarriedStream, FieldEnd> {
+        let (stream, (object, (mode, (offset, (grant, grants))))) = Parts::read_from(alloc, from)?;
         Ok(CarriedStream {
-            stream: StreamNo::read_from(alloc, from)?,
-            object: Target::read_from(alloc, from)?,
-            mode: CarriedMode::read_from(alloc, from)?,
-            offset: Option::<u32>::read_from(alloc, from)?,
-            grant: Option::<Grant>::read_from(alloc, from)?,
-            grants: u32::read_from(alloc, from)?,
+            stream,
+            object,
+            mode,
+            offset,
+            grant,
+            grants,
         })
     }
 }

@@ -12,10 +12,11 @@ use std::alloc::Global;
 pub trait Field: Sized {
     ghost codec: { Codec Self };
 
-    /// Puts the value's spelling at the end. The one error is want of memory; a part of the spelling may be there then.
+    /// Puts the value's spelling at the end. The one error is want of memory, which is also the answer where a text or a
+    /// list is too long to be spelled: so what is put fits. After an error a part of the spelling may be there.
     fn put(&self, out: &mut Vec<u8>) -> Result<(), NoMemory>
-        requires { codec.Fits self.now }
-        ensures { OnOk result (out.new.items ≡ out.old.items ++ codec.spelled self.now) };
+        ensures bytes { OnOk result (out.new.items ≡ out.old.items ++ codec.spelled self.now) }
+        ensures fits { OnOk result (codec.Fits self.now) };
 
     /// The value that is spelled at the front of the bytes that are left, which is read then. NotSpelled comes exactly
     /// where no value is spelled there; some bytes may be read then.
@@ -27,8 +28,8 @@ pub trait Field: Sized {
 
 /// Puts a form's number and what the form holds at the end. The one error is want of memory; a part may be there then.
 pub(crate) fn put_form<T: Field>(out: &mut Vec<u8>, tag: u8, value: &T) -> Result<(), NoMemory>
-    requires { T.codec.Fits value.now }
-    ensures { OnOk result (out.new.items ≡ out.old.items ++ tag ∷ T.codec.spelled value.now) }
+    ensures bytes { OnOk result (out.new.items ≡ out.old.items ++ tag ∷ T.codec.spelled value.now) }
+    ensures fits { OnOk result (T.codec.Fits value.now) }
 {
     out.push(tag)?;
     value.put(out)

@@ -29,6 +29,21 @@ pub struct LaunchRequest {
     pub killed: bool,
 }
 
+// The fields, as they stand one behind another.
+type Parts = (
+    Pid,
+    (
+        u32,
+        (
+            u8,
+            (
+                Path,
+                (Items<(Descriptor, StreamNo)>, (Items<CarriedStream>, bool)),
+            ),
+        ),
+    ),
+);
+
 impl Field for LaunchRequest {
     ghost codec = { launch_request };
 
@@ -45,14 +60,17 @@ impl Field for LaunchRequest {
     }
 
     fn read_from(alloc: Global, from: &mut Reader) -> Result<LaunchRequest, FieldEnd> {
+        let (pid, (number, (program, (cwd, (fds, (streams, killed)))))) = Parts::read_from(
+            alloc, from,
+        )?;
         Ok(LaunchRequest {
-            pid: Pid::read_from(alloc, from)?,
-            number: u32::read_from(alloc, from)?,
-            program: u8::read_from(alloc, from)?,
-            cwd: Path::read_from(alloc, from)?,
-            fds: Items::<(Descriptor, StreamNo)>::read_from(alloc, from)?,
-            streams: Items::<CarriedStream>::read_from(alloc, from)?,
-            killed: bool::read_from(alloc, from)?,
+            pid,
+            number,
+            program,
+            cwd,
+            fds,
+            streams,
+            killed,
         })
     }
 }

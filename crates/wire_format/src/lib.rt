@@ -69,6 +69,3 @@ pub use target::Target;
 pub use transfer_request::TransferRequest;
 pub use value_reply::ValueReply;
 pub use write_back_request::WriteBackRequest;
-
-#[cfg(test)]
-mod tests;

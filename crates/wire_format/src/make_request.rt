@@ -28,6 +28,12 @@ pub struct MakeRequest {
     pub text: Bytes,
 }
 
+// The fields, as they stand one behind another.
+type Parts = (
+    Pid,
+    (u32, (StreamNo, (Path, (DeviceId, (Descriptor, Bytes))))),
+);
+
 impl Field for MakeRequest {
     ghost codec = { make_request };
 
@@ -44,14 +50,17 @@ impl Field for MakeRequest {
     }
 
     fn read_from(alloc: Global, from: &mut Reader) -> Result<MakeRequest, FieldEnd> {
+        let (pid, (number, (stream, (path, (device, (fd, text)))))) = Parts::read_from(
+            alloc, from,
+        )?;
         Ok(MakeRequest {
-            pid: Pid::read_from(alloc, from)?,
-            number: u32::read_from(alloc, from)?,
-            stream: StreamNo::read_from(alloc, from)?,
-            path: Path::read_from(alloc, from)?,
-            device: DeviceId::read_from(alloc, from)?,
-            fd: Descriptor::read_from(alloc, from)?,
-            text: Bytes::read_from(alloc, from)?,
+            pid,
+            number,
+            stream,
+            path,
+            device,
+            fd,
+            text,
         })
     }
 }

@@ -25,6 +25,9 @@ pub struct MoveRequest {
     pub grants: u32,
 }
 
+// The fields, as they stand one behind another.
+type Parts = (StreamNo, (Target, (Kernel, (bool, (Option<u32>, u32)))));
+
 impl Field for MoveRequest {
     ghost codec = { move_request };
 
@@ -40,13 +43,14 @@ impl Field for MoveRequest {
     }
 
     fn read_from(alloc: Global, from: &mut Reader) -> Result<MoveRequest, FieldEnd> {
+        let (stream, (object, (to, (kept, (offset, grants))))) = Parts::read_from(alloc, from)?;
         Ok(MoveRequest {
-            stream: StreamNo::read_from(alloc, from)?,
-            object: Target::read_from(alloc, from)?,
-            to: Kernel::read_from(alloc, from)?,
-            kept: bool::read_from(alloc, from)?,
-            offset: Option::<u32>::read_from(alloc, from)?,
-            grants: u32::read_from(alloc, from)?,
+            stream,
+            object,
+            to,
+            kept,
+            offset,
+            grants,
         })
     }
 }

@@ -30,6 +30,18 @@ pub struct NameRequest {
     pub second_text: Option<Bytes>,
 }
 
+// The fields, as they stand one behind another.
+type Parts = (
+    Pid,
+    (
+        u32,
+        (
+            NameOp,
+            (Path, (Option<Path>, (u32, (Bytes, Option<Bytes>)))),
+        ),
+    ),
+);
+
 impl Field for NameRequest {
     ghost codec = { name_request };
 
@@ -47,15 +59,18 @@ impl Field for NameRequest {
     }
 
     fn read_from(alloc: Global, from: &mut Reader) -> Result<NameRequest, FieldEnd> {
+        let (pid, (number, (op, (path, (second, (max, (text, second_text))))))) = Parts::read_from(
+            alloc, from,
+        )?;
         Ok(NameRequest {
-            pid: Pid::read_from(alloc, from)?,
-            number: u32::read_from(alloc, from)?,
-            op: NameOp::read_from(alloc, from)?,
-            path: Path::read_from(alloc, from)?,
-            second: Option::<Path>::read_from(alloc, from)?,
-            max: u32::read_from(alloc, from)?,
-            text: Bytes::read_from(alloc, from)?,
-            second_text: Option::<Bytes>::read_from(alloc, from)?,
+            pid,
+            number,
+            op,
+            path,
+            second,
+            max,
+            text,
+            second_text,
         })
     }
 }

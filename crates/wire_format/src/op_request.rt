@@ -35,6 +35,24 @@ pub struct OpRequest {
     pub fd: Descriptor,
 }
 
+// The fields, as they stand one behind another.
+type Parts = (
+    Pid,
+    (
+        u32,
+        (
+            FileId,
+            (
+                u32,
+                (
+                    StreamNo,
+                    (FileOp, (Option<u32>, (u32, (Bytes, Descriptor)))),
+                ),
+            ),
+        ),
+    ),
+);
+
 impl Field for OpRequest {
     ghost codec = { op_request };
 
@@ -54,17 +72,19 @@ impl Field for OpRequest {
     }
 
     fn read_from(alloc: Global, from: &mut Reader) -> Result<OpRequest, FieldEnd> {
+        let (pid, (number, (file, (stamp, (stream, (op, (offset, (length, (bytes, fd))))))))) =
+            Parts::read_from(alloc, from)?;
         Ok(OpRequest {
-            pid: Pid::read_from(alloc, from)?,
-            number: u32::read_from(alloc, from)?,
-            file: FileId::read_from(alloc, from)?,
-            stamp: u32::read_from(alloc, from)?,
-            stream: StreamNo::read_from(alloc, from)?,
-            op: FileOp::read_from(alloc, from)?,
-            offset: Option::<u32>::read_from(alloc, from)?,
-            length: u32::read_from(alloc, from)?,
-            bytes: Bytes::read_from(alloc, from)?,
-            fd: Descriptor::read_from(alloc, from)?,
+            pid,
+            number,
+            file,
+            stamp,
+            stream,
+            op,
+            offset,
+            length,
+            bytes,
+            fd,
         })
     }
 }

@@ -29,6 +29,9 @@ pub struct OpeningRequest {
     pub text: Bytes,
 }
 
+// The fields, as they stand one behind another.
+type Parts = (Pid, (u32, (StreamNo, (Path, (u8, (Descriptor, Bytes))))));
+
 impl Field for OpeningRequest {
     ghost codec = { opening_request };
 
@@ -45,14 +48,15 @@ impl Field for OpeningRequest {
     }
 
     fn read_from(alloc: Global, from: &mut Reader) -> Result<OpeningRequest, FieldEnd> {
+        let (pid, (number, (stream, (path, (flags, (fd, text)))))) = Parts::read_from(alloc, from)?;
         Ok(OpeningRequest {
-            pid: Pid::read_from(alloc, from)?,
-            number: u32::read_from(alloc, from)?,
-            stream: StreamNo::read_from(alloc, from)?,
-            path: Path::read_from(alloc, from)?,
-            flags: u8::read_from(alloc, from)?,
-            fd: Descriptor::read_from(alloc, from)?,
-            text: Bytes::read_from(alloc, from)?,
+            pid,
+            number,
+            stream,
+            path,
+            flags,
+            fd,
+            text,
         })
     }
 }

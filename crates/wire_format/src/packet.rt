@@ -46,8 +46,8 @@ impl Packet {
 
     // Puts the kind and what stands before the body at the end.
     fn put_header(&self, out: &mut Vec<u8>, kind: u8) -> Result<(), NoMemory>
-        requires { header.Fits (self.now.from, (self.now.to, self.now.tx)) }
-        ensures { OnOk result (out.new.items ≡ out.old.items ++ kind ∷ header.spelled (self.now.from, (self.now.to, self.now.tx))) }
+        ensures bytes { OnOk result (out.new.items ≡ out.old.items ++ kind ∷ header.spelled (self.now.from, (self.now.to, self.now.tx))) }
+        ensures fits { OnOk result (header.Fits (self.now.from, (self.now.to, self.now.tx))) }
     {
         out.push(kind)?;
         self.from.put(out)?;

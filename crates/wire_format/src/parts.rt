@@ -1,5 +1,5 @@
-ghost use Rattle.std.specs.Prelude.{◌≡◌, ◌++◌, OnOk};
-ghost use Rattle.wire_format.specs.Codec.{◌before◌, Takes, items_read, listed, optional, text};
+ghost use Rattle.std.specs.Prelude.{◌≡◌, ◌++◌, ◌<◌, ◌^◌, OnOk};
+ghost use Rattle.wire_format.specs.Codec.{◌before◌, Takes, items_read, listed, number32, optional, text};
 ghost use Rattle.std.specs.List.{AllByRecursion, flat_map};
 ghost use Rattle.wire_format.specs.CodecLaws.{before_is, optional_is};
 ghost use Rattle.wire_format.specs.ListLaws.{listed_is, text_is};
@@ -37,8 +37,7 @@ impl Field for Bytes {
     ghost law = { text_is };
 
     fn put(&self, out: &mut Vec<u8>) -> Result<(), NoMemory> {
-        let len = self.len() as u32;
-        len.put(out)?;
+        put_count(out, self.len())?;
         out.extend_from_slice(self.as_slice())?;
         Ok(())
     }
@@ -58,7 +57,7 @@ impl<T: Field + Drop> Field for Items<T> {
     ghost law = { listed_is T.law };
 
     fn put(&self, out: &mut Vec<u8>) -> Result<(), NoMemory> {
-        (self.len() as u32).put(out)?;
+        put_count(out, self.len())?;
         put_items(out, self.as_slice())
     }
 
@@ -68,10 +67,21 @@ impl<T: Field + Drop> Field for Items<T> {
     }
 }
 
+// Puts how many bytes or items follow; 2^32 or more are too many to be spelled.
+fn put_count(out: &mut Vec<u8>, count: usize) -> Result<(), NoMemory>
+    ensures bytes { OnOk result (out.new.items ≡ out.old.items ++ number32.spelled count) }
+    ensures fits { OnOk result (count < 2 ^ 32) }
+{
+    match u32::try_from(count) {
+        Ok(count) => count.put(out),
+        Err(_) => Err(NoMemory),
+    }
+}
+
 // Puts the items, one behind another.
 pub(crate) fn put_items<T: Field>(out: &mut Vec<u8>, items: &[T]) -> Result<(), NoMemory>
-    requires { AllByRecursion T.codec.Fits items.now }
-    ensures { OnOk result (out.new.items ≡ out.old.items ++ flat_map T.codec.spelled items.now) }
+    ensures bytes { OnOk result (out.new.items ≡ out.old.items ++ flat_map T.codec.spelled items.now) }
+    ensures fit { OnOk result (AllByRecursion T.codec.Fits items.now) }
 {
     for item in items {
         item.put(out)?;

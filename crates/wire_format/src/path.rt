@@ -17,6 +17,7 @@ impl Field for Path {
     ghost law = { path_is };
 
     fn put(&self, out: &mut Vec<u8>) -> Result<(), NoMemory> {
+        let _within_limits = self.parts();
         let text = self.text(*out.allocator())?;
         Bytes::of_vec(text).put(out)
     }

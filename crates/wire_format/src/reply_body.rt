@@ -1,4 +1,5 @@
-ghost use Rattle.wire_format.specs.Replies.{reply};
+ghost use Rattle.wire_format.specs.Codec.{Takes, row_read};
+ghost use Rattle.wire_format.specs.Replies.{later_rows, reply};
 ghost use Rattle.wire_format.specs.ReplyLaws.{reply_is};
 
 use crate::field::{Field, put_form};
@@ -90,7 +91,8 @@ impl Field for ReplyBody {
     }
 
     fn read_from(alloc: Global, from: &mut Reader) -> Result<ReplyBody, FieldEnd> {
-        match u8::read_from(alloc, from)? {
+        let tag = u8::read_from(alloc, from)?;
+        match tag {
             1 => Ok(ReplyBody::Done),
             2 => Ok(ReplyBody::Here {
                 path: Path::read_from(alloc, from)?,
@@ -103,18 +105,29 @@ impl Field for ReplyBody {
             }),
             5 => Ok(ReplyBody::Opened(OpenedReply::read_from(alloc, from)?)),
             6 => Ok(ReplyBody::Value(ValueReply::read_from(alloc, from)?)),
+            _ => ReplyBody::read_later(alloc, tag, from),
+        }
+    }
+}
+
+impl ReplyBody {
+    // Reads the fields of a form that has that number, 7 or more.
+    fn read_later(alloc: Global, tag: u8, from: &mut Reader) -> Result<ReplyBody, FieldEnd>
+        ensures { Takes (row_read later_rows tag from.old) result from.new }
+    {
+        match tag {
             7 => Ok(ReplyBody::Again {
                 grant: Grant::read_from(alloc, from)?,
             }),
-            8 => Ok(ReplyBody::Block {
-                stamp: u32::read_from(alloc, from)?,
-                bytes: Bytes::read_from(alloc, from)?,
-            }),
+            8 => {
+                let (stamp, bytes) = <(u32, Bytes)>::read_from(alloc, from)?;
+                Ok(ReplyBody::Block { stamp, bytes })
+            }
             9 => Ok(ReplyBody::Flushed(Flushed::read_from(alloc, from)?)),
-            10 => Ok(ReplyBody::Moved {
-                grant: Option::<Grant>::read_from(alloc, from)?,
-                grants: u32::read_from(alloc, from)?,
-            }),
+            10 => {
+                let (grant, grants) = <(Option<Grant>, u32)>::read_from(alloc, from)?;
+                Ok(ReplyBody::Moved { grant, grants })
+            }
             11 => Ok(ReplyBody::Page {
                 bytes: Bytes::read_from(alloc, from)?,
             }),

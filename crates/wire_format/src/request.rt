@@ -1,5 +1,6 @@
 ghost use Rattle.std.specs.Prelude.{◌≡◌};
-ghost use Rattle.wire_format.specs.Requests.{about_of, request};
+ghost use Rattle.wire_format.specs.Codec.{Takes, row_read};
+ghost use Rattle.wire_format.specs.Requests.{about_of, last_rows, later_rows, request};
 ghost use Rattle.wire_format.specs.RequestLaws.{request_is};
 
 use crate::ask_request::AskRequest;
@@ -131,7 +132,8 @@ impl Field for Request {
     }
 
     fn read_from(alloc: Global, from: &mut Reader) -> Result<Request, FieldEnd> {
-        match u8::read_from(alloc, from)? {
+        let tag = u8::read_from(alloc, from)?;
+        match tag {
             1 => Ok(Request::Echo),
             2 => Ok(Request::Prefix {
                 path: Path::read_from(alloc, from)?,
@@ -141,25 +143,45 @@ impl Field for Request {
             5 => Ok(Request::Make(MakeRequest::read_from(alloc, from)?)),
             6 => Ok(Request::Close(CloseRequest::read_from(alloc, from)?)),
             7 => Ok(Request::Op(OpRequest::read_from(alloc, from)?)),
+            _ => Request::read_later(alloc, tag, from),
+        }
+    }
+}
+
+impl Request {
+    // Reads the fields of a form that has that number, 8 or more.
+    fn read_later(alloc: Global, tag: u8, from: &mut Reader) -> Result<Request, FieldEnd>
+        ensures { Takes (row_read later_rows tag from.old) result from.new }
+    {
+        match tag {
             8 => Ok(Request::Fetch(FetchRequest::read_from(alloc, from)?)),
             9 => Ok(Request::WriteBack(WriteBackRequest::read_from(alloc, from)?)),
             10 => Ok(Request::Callback(CallbackRequest::read_from(alloc, from)?)),
             11 => Ok(Request::Move(MoveRequest::read_from(alloc, from)?)),
             12 => Ok(Request::Transfer(TransferRequest::read_from(alloc, from)?)),
             13 => Ok(Request::Home(HomeRequest::read_from(alloc, from)?)),
-            14 => Ok(Request::Place {
-                pid: Pid::read_from(alloc, from)?,
-                kernel: Kernel::read_from(alloc, from)?,
-            }),
+            _ => Request::read_last(alloc, tag, from),
+        }
+    }
+
+    // Reads the fields of a form that has that number, 14 or more.
+    fn read_last(alloc: Global, tag: u8, from: &mut Reader) -> Result<Request, FieldEnd>
+        ensures { Takes (row_read last_rows tag from.old) result from.new }
+    {
+        match tag {
+            14 => {
+                let (pid, kernel) = <(Pid, Kernel)>::read_from(alloc, from)?;
+                Ok(Request::Place { pid, kernel })
+            }
             15 => Ok(Request::Killed {
                 pid: Pid::read_from(alloc, from)?,
             }),
             16 => Ok(Request::Ask(AskRequest::read_from(alloc, from)?)),
             17 => Ok(Request::PageOut(PageOutRequest::read_from(alloc, from)?)),
-            18 => Ok(Request::PageIn {
-                pid: Pid::read_from(alloc, from)?,
-                page: u8::read_from(alloc, from)?,
-            }),
+            18 => {
+                let (pid, page) = <(Pid, u8)>::read_from(alloc, from)?;
+                Ok(Request::PageIn { pid, page })
+            }
             19 => Ok(Request::Launch(LaunchRequest::read_from(alloc, from)?)),
             _ => Err(FieldEnd::NotSpelled),
         }

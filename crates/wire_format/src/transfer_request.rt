@@ -32,6 +32,24 @@ pub struct TransferRequest {
     pub moving: bool,
 }
 
+// The fields, as they stand one behind another.
+type Parts = (
+    Pid,
+    (
+        u32,
+        (
+            Image,
+            (
+                Path,
+                (
+                    Items<(Descriptor, StreamNo)>,
+                    (Items<CarriedStream>, (bool, bool)),
+                ),
+            ),
+        ),
+    ),
+);
+
 impl Field for TransferRequest {
     ghost codec = { transfer_request };
 
@@ -49,15 +67,18 @@ impl Field for TransferRequest {
     }
 
     fn read_from(alloc: Global, from: &mut Reader) -> Result<TransferRequest, FieldEnd> {
+        let (pid, (number, (image, (cwd, (fds, (streams, (killed, moving))))))) = Parts::read_from(
+            alloc, from,
+        )?;
         Ok(TransferRequest {
-            pid: Pid::read_from(alloc, from)?,
-            number: u32::read_from(alloc, from)?,
-            image: Image::read_from(alloc, from)?,
-            cwd: Path::read_from(alloc, from)?,
-            fds: Items::<(Descriptor, StreamNo)>::read_from(alloc, from)?,
-            streams: Items::<CarriedStream>::read_from(alloc, from)?,
-            killed: bool::read_from(alloc, from)?,
-            moving: bool::read_from(alloc, from)?,
+            pid,
+            number,
+            image,
+            cwd,
+            fds,
+            streams,
+            killed,
+            moving,
         })
     }
 }

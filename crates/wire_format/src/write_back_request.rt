@@ -22,6 +22,9 @@ pub struct WriteBackRequest {
     pub bytes: Bytes,
 }
 
+// The fields, as they stand one behind another.
+type Parts = (FileId, (u32, (BlockNo, (u32, Bytes))));
+
 impl Field for WriteBackRequest {
     ghost codec = { write_back_request };
 
@@ -36,12 +39,13 @@ impl Field for WriteBackRequest {
     }
 
     fn read_from(alloc: Global, from: &mut Reader) -> Result<WriteBackRequest, FieldEnd> {
+        let (file, (stamp, (block, (size, bytes)))) = Parts::read_from(alloc, from)?;
         Ok(WriteBackRequest {
-            file: FileId::read_from(alloc, from)?,
-            stamp: u32::read_from(alloc, from)?,
-            block: BlockNo::read_from(alloc, from)?,
-            size: u32::read_from(alloc, from)?,
-            bytes: Bytes::read_from(alloc, from)?,
+            file,
+            stamp,
+            block,
+            size,
+            bytes,
         })
     }
 }

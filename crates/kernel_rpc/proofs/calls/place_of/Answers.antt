@@ -1,5 +1,4 @@
-use Rattle.std.proofs.Common.{arith, rules, ltb, ltb-true, ltb-false, ◌≡◌, true, false, get_or, subst, sym, ap, ◌∙◌}
-use Rattle.std.proofs.lemmas.Bool.Decides.{nat_tests}
+use Rattle.std.proofs.Common.{arith, rules, ltb, ◌≡◌, true, get_or, subst, sym, ◌∙◌}
 use Rattle.std.proofs.lemmas.List.Sorted.{IsPartitionPoint-from_clause, IsPartitionedBy-ltb}
 use Rattle.kernel_rpc.specs.declared.call.Call.{Call}
 use Rattle.kernel_rpc.specs.Machine.{is_call}

@@ -1,5 +1,4 @@
-use Rattle.std.proofs.Common.{◌≡◌, ◌++◌, ◌∷◌, [], ◌-◌, length, length-append, List, arith, sym, ap, ◌∙◌}
-use Rattle.kernel_rpc.specs.declared.call.Call.{Call}
+use Rattle.std.proofs.Common.{◌≡◌, ◌++◌, ◌∷◌, [], ◌-◌, length, length-append, arith, sym, ap, ◌∙◌}
 use Rattle.kernel_rpc.specs.declared.call.PacketCopy.{PacketCopy}
 use Rattle.kernel_rpc.specs.Copies.{requests}
 use Rattle.kernel_rpc.specs.Machine.{Machine}

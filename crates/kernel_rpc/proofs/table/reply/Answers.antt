@@ -1,10 +1,9 @@
-use Rattle.std.proofs.Common.{◌≡◌, ◌++◌, ◌+◌, List, Some, refl, sym, ap, subst, ◌∙◌, arith, length}
-use Rattle.std.specs.List.{AllByRecursion, find}
+use Rattle.std.proofs.Common.{◌≡◌, ◌++◌, ◌+◌, List, Some, sym, ap, subst, ◌∙◌, arith, length}
 use Rattle.link_plan.specs.Counts.{IsAsked}
 use Rattle.sprite_ids.proofs.OnceLaws.{found_there}
 use Rattle.kernel_rpc.specs.declared.call.PacketCopy.{PacketCopy}
 use Rattle.kernel_rpc.specs.Copies.{copies_by}
-use Rattle.kernel_rpc.specs.Machine.{Machine, call_of, is_call, replied, reply_to}
+use Rattle.kernel_rpc.specs.Machine.{call_of, is_call, replied}
 use Rattle.kernel_rpc.specs.Links.{AsksBack}
 use Rattle.kernel_rpc.specs.Table.{counts_of, machine_of}
 use Rattle.kernel_rpc.proofs.CopyLaws.{each_by}

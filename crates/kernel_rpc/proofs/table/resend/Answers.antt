@@ -9,7 +9,7 @@ use Rattle.kernel_rpc.specs.declared.call.PacketCopy.{PacketCopy}
 use Rattle.kernel_rpc.specs.declared.call.Receiver.{Receiver}
 use Rattle.kernel_rpc.specs.Copies.{requests}
 use Rattle.kernel_rpc.specs.Links.{AsksAll}
-use Rattle.kernel_rpc.specs.Machine.{Machine, call_of, is_call, request, resent, tried}
+use Rattle.kernel_rpc.specs.Machine.{call_of, is_call, request, resent, tried}
 use Rattle.kernel_rpc.specs.Table.{counts_of, machine_of}
 use Rattle.kernel_rpc.proofs.CopyLaws.{each_request}
 use Rattle.kernel_rpc.proofs.CountLaws.{counted_set, placed_is, raised_counts}

@@ -1,4 +1,4 @@
-use Rattle.std.proofs.Common.{◌≡◌, List, Some, refl, sym, ap, subst, ◌∙◌}
+use Rattle.std.proofs.Common.{◌≡◌, List, Some, refl, sym, ap, ◌∙◌}
 use Rattle.std.specs.List.{position}
 use Rattle.sprite_ids.specs.Lists.{changed}
 use Rattle.sprite_ids.proofs.OnceLaws.{changed_here}

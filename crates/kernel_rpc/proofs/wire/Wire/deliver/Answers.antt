@@ -11,7 +11,7 @@ use Rattle.kernel_rpc.specs.Links.{AsksBack}
 use Rattle.kernel_rpc.specs.Results.{Delivers}
 use Rattle.kernel_rpc.specs.Sound.{Sound}
 use Rattle.kernel_rpc.specs.Table.{counts_of, machine_of}
-use Rattle.kernel_rpc.proofs.ArrivalLaws.{first_request, first_reply, asked_again}
+use Rattle.kernel_rpc.proofs.ArrivalLaws.{first_request, asked_again}
 use Rattle.kernel_rpc.proofs.CountLaws.{counted_stray}
 use Rattle.kernel_rpc.proofs.LandLaws.{flying_is, take_request_sound, take_reply_sound, take_again_sound, past_sound}
 use Rattle.kernel_rpc.proofs.wire.Wire.deliver.Goals as goal

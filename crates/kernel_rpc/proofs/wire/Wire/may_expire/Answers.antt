@@ -2,7 +2,6 @@ use Rattle.std.proofs.Common.{◌≡◌, None, Some, sym, ap, ◌∙◌}
 use Rattle.std.specs.List.{position}
 use Rattle.sprite_ids.proofs.OnceLaws.{found_there, none_found, nothing_found}
 use Rattle.kernel_rpc.specs.Machine.{call_of, is_call, may_fire}
-use Rattle.kernel_rpc.specs.Sound.{Wired}
 use Rattle.kernel_rpc.specs.Table.{machine_of}
 use Rattle.kernel_rpc.proofs.wire.Wire.may_expire.Goals as goal
 

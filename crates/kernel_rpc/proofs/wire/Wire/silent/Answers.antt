@@ -1,4 +1,4 @@
-use Rattle.std.proofs.Common.{IsSome, Some, refl, subst, sym}
+use Rattle.std.proofs.Common.{IsSome, refl, subst, sym}
 use Rattle.kernel_rpc.specs.Machine.{call_of}
 use Rattle.kernel_rpc.specs.Bodies.{Reads}
 use Rattle.kernel_rpc.specs.Sound.{Sound}
