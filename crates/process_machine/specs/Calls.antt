@@ -1,5 +1,5 @@
 -- The system call at which an image stands.
-use Rattle.std.specs.Prelude.{ℕ, ◌≤◌, ◌%◌, List, length, Option, Some, None, slice_get}
+use Rattle.std.specs.Prelude.{ℕ, ◌%◌, List, Option, Some, None, slice_get}
 use Rattle.sprite_ids.specs.declared.errno.Errno.{Errno}
 use Rattle.process_machine.specs.declared.arguments.Arguments.{Arguments}
 use Rattle.process_machine.specs.declared.instruction.Instruction.{Instruction}
@@ -8,8 +8,6 @@ use Rattle.process_machine.specs.declared.instruction.SyscallName.{SyscallName}
 use Rattle.process_machine.specs.declared.instruction.SyscallName.TheVariants as name
 use Rattle.process_machine.specs.declared.call.Call.{Call}
 use Rattle.process_machine.specs.declared.call.Call.TheVariants.{Print, Exit, Getpid, Getppid, Host, Tick, Fork, Exec, Wait, Kill, OpenFile, Close, Dup, Read, Write, Seek, Size, Sync, Stat, Mkdir, Rmdir, Unlink, Rename, List as ListCall, Chdir, Migrate, PdMake, PdGet, PdPut, Ioctl, Rexec, Refused, BadStep}
-use Rattle.process_machine.specs.declared.call.Reply.{Reply}
-use Rattle.process_machine.specs.declared.call.Reply.TheVariants.{Value, Error}
 use Rattle.process_machine.specs.declared.program.Program.{Program}
 use Rattle.process_machine.specs.Machine.{Machine}
 use Rattle.process_machine.specs.Memory.{bytes_at}
@@ -67,17 +65,3 @@ call_in _ m = BadStep
 -- the call at which the image stands, of use at a `sys`
 abbrev pub call_at : Program → Machine → Call
 call_at p m = call_in (slice_get p.code m.counter) m
-
--- how many bytes an answer to that call may have
-abbrev pub room_of : Call → ℕ
-room_of (Host max) = max
-room_of (Read fd count) = count
-room_of (ListCall path max) = max
-room_of (PdGet fd max) = max
-room_of (Ioctl fd command bytes) = length bytes
-room_of _ = 0
-
--- the answer's bytes are no more than the call has room for
-abbrev pub Fits : Call → Reply → Type 0
-Fits call (Value first second bytes) = length bytes ≤ room_of call
-Fits call (Error errno) = Unit {0}

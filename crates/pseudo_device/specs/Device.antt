@@ -6,6 +6,7 @@ use Rattle.process_machine.specs.declared.Reply.TheVariants.{Value, Error}
 use Rattle.pseudo_device.specs.declared.ask.Ask.{Ask}
 use Rattle.sprite_ids.specs.declared.AskKind.{AskKind}
 use Rattle.sprite_ids.specs.declared.AskKind.TheVariants.{Read, Write, Ioctl}
+use Rattle.sprite_ids.specs.AskKind.{ask_number}
 use Rattle.pseudo_device.specs.declared.ask.Answer.{Answer}
 use Rattle.pseudo_device.specs.declared.end.TakeEnd.{TakeEnd}
 use Rattle.pseudo_device.specs.declared.end.TakeEnd.TheVariants.{Busy, Empty, Long, NoMemory}
@@ -18,15 +19,9 @@ pub record Asks : Type 0 where
   pub waiting : List Ask
   pub masters : ℕ
 
--- the number of a kind
-abbrev pub kind_number : AskKind → ℕ
-kind_number Read = 1
-kind_number Write = 2
-kind_number Ioctl = 3
-
 -- what the master's call that takes the ask is told
 abbrev pub told : Ask → Reply
-told ask = Value (kind_number ask.kind) (length ask.bytes) ask.bytes
+told ask = Value (ask_number ask.kind) (length ask.bytes) ask.bytes
 
 -- the most bytes of an answer to an ask of that kind and length
 abbrev pub most_of : AskKind → ℕ → ℕ

@@ -1,5 +1,5 @@
 ghost use Rattle.std.specs.Prelude.{◌≡◌, IfOk};
-ghost use Rattle.pseudo_device.specs.Device.{kind_number, most, takes, reply_of, told};
+ghost use Rattle.pseudo_device.specs.Device.{most, takes, reply_of, told};
 
 use process_machine::Reply;
 use sprite_ids::{AskKind, Bytes, Copying, Errno, NoMemory, Pid};
@@ -42,18 +42,6 @@ impl Copying for Ask {
     }
 }
 
-/// The number of a kind, in packets and in what the master's process gets: 1 for a read, 2 for a write, 3 for a command
-/// (this project).
-pub fn kind_number(kind: AskKind) -> u8
-    ensures { result ≡ kind_number kind }
-{
-    match kind {
-        AskKind::Read => 1,
-        AskKind::Write => 2,
-        AskKind::Ioctl => 3,
-    }
-}
-
 impl Ask {
     /// The reply of the master's call that takes the ask: the number of its kind, how many bytes it has, and the bytes. The
     /// one error is want of memory.
@@ -61,7 +49,7 @@ impl Ask {
         ensures { IfOk result (λ reply. reply ≡ told self.now) }
     {
         Ok(Reply::Value {
-            first: u64::from(kind_number(self.kind)),
+            first: u64::from(self.kind.number()),
             second: self.bytes.len() as u64,
             bytes: self.bytes.copy(alloc)?,
         })

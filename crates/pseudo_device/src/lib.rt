@@ -6,7 +6,7 @@ mod ask;
 mod device;
 mod end;
 
-pub use ask::{Answer, Ask, kind_number};
+pub use ask::{Answer, Ask};
 pub use device::Device;
 pub use end::{PutEnd, TakeEnd};
 

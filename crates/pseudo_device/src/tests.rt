@@ -1,4 +1,4 @@
-use crate::ask::{Answer, Ask, kind_number};
+use crate::ask::{Answer, Ask};
 use crate::device::Device;
 use crate::end::{PutEnd, TakeEnd};
 use process_machine::Reply;
@@ -161,7 +161,6 @@ fn tells(alloc: Global, kind: AskKind, number: u8) -> Result<bool, Fail> {
 
 #[test]
 fn an_ask_tells_its_kind(rt: HostRuntime) -> Result<(), Fail> {
-    assert!(rt; kind_number(AskKind::Ioctl) == 3);
     assert!(rt; tells(rt.alloc(), AskKind::Read, 1)?);
     assert!(rt; tells(rt.alloc(), AskKind::Write, 2)?);
     assert!(rt; tells(rt.alloc(), AskKind::Ioctl, 3)?);
