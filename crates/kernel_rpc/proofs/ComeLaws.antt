@@ -18,9 +18,9 @@ use Rattle.kernel_rpc.specs.Copies.{copies_by, requests}
 use Rattle.kernel_rpc.specs.Machine.{Machine, answered, arrival, call_of, copy_of, delivered_as, further, gave_up, idle, is_call, is_copy, is_last, landed, new_call, replied, reply_to, request, resent, tried, with_part}
 use Rattle.kernel_rpc.specs.Runs.{Act, Begin, Deliver, Answer, Silence, Expire, AsksAgain, AsksUnless, Counts, IsRun, MayAct, after, delivered_by, expired_by, once_if}
 use Rattle.kernel_rpc.specs.Servers.{AreApart}
-use Rattle.kernel_rpc.specs.Histories.{TwoRequestsEach, brings, how_many, is_request_of, passes, sends, sends_by, times}
+use Rattle.kernel_rpc.specs.Histories.{TwoRepliesEach, TwoRequestsEach, brings, how_many, is_asked_again, is_reply_for, is_request_of, passes, replies, replies_again, sends, sends_by, times}
 use Rattle.kernel_rpc.proofs.BeginLaws.{kernels_fresh}
-use Rattle.kernel_rpc.proofs.CopyLaws.{each_by, each_without}
+use Rattle.kernel_rpc.proofs.CopyLaws.{each_by, each_request, each_without}
 use Rattle.kernel_rpc.proofs.LandLaws.{flying_is}
 use Rattle.kernel_rpc.proofs.PartLaws.{and_false}
 use Rattle.kernel_rpc.proofs.RunLaws.{unfinished_replied}
@@ -187,3 +187,70 @@ run_few tx kernel machine counts (first ∷ rest) run h =
 -- at most two copies of a request come for each time that it was sent
 pub two_requests_each : TwoRequestsEach
 two_requests_each counts steps tx kernel run = (let few = run_few tx kernel idle counts steps run tt in omega arith)
+
+-- a packet has two copies at most, here of a reply
+two_by : (tx : ℕ) (given : Fate) (copy : PacketCopy) → how_many (is_reply_for tx) (copies_by given copy) ≤ 2 * once_if (is_reply_for tx copy)
+two_by tx Once copy = elim (is_reply_for tx copy) as (λ b. cond b (1 + 0) 0 ≤ 2 * once_if b) [ true ↦ omega arith | false ↦ omega arith ]
+two_by tx Lost copy = omega arith
+two_by tx Twice copy = elim (is_reply_for tx copy) as (λ b. cond b (1 + cond b (1 + 0) 0) (cond b (1 + 0) 0) ≤ 2 * once_if b) [ true ↦ omega arith | false ↦ omega arith ]
+two_by tx Late copy = elim (is_reply_for tx copy) as (λ b. cond b (1 + 0) 0 ≤ 2 * once_if b) [ true ↦ omega arith | false ↦ omega arith ]
+
+two_replied : (tx : ℕ) (key : TxNo) (o : Option Call) (given : Fate) (machine : Machine) → call_of machine key ≡ o → how_many (is_reply_for tx) (replied o given machine).copies ≤ how_many (is_reply_for tx) machine.copies + 2 * once_if (key.0 == tx)
+two_replied tx key None given machine found = omega arith
+two_replied tx key (Some call) given machine found =
+    let packet = reply_to call machine.next_copy in
+    let two = two_by tx given packet in
+    let most = first_most (call.tx.0 == tx) true in
+    let same : once_if (call.tx.0 == tx) ≡ once_if (key.0 == tx) = ap (λ n. once_if (n == tx)) (eqb-true call.tx.0 key.0 (found_is key call machine.unfinished found)) in
+    let all = many_append (is_reply_for tx) machine.copies (copies_by given packet) in
+    omega arith
+
+again_both : (a b : Bool) → b ≡ true → once_if a ≤ once_if (a && b)
+again_both true true e = omega arith
+again_both true false e = absurd (cc)
+again_both false b e = omega arith
+
+arrived_two : (a : Arrival) (tx : ℕ) (copy : PacketCopy) (given : Fate) (machine : Machine) → how_many (is_reply_for tx) (delivered_as a copy given (landed copy machine)).copies ≤ how_many (is_reply_for tx) (less (is_copy copy.number) machine.copies) + 2 * once_if ((copy.tx.0 == tx) && is_asked_again a)
+arrived_two FirstRequest tx copy given machine = omega arith
+arrived_two FirstReply tx copy given machine = omega arith
+arrived_two AskedAgain tx copy given machine =
+    let two = two_replied tx copy.tx (call_of (landed copy machine) copy.tx) given (landed copy machine) refl in
+    let most = again_both (copy.tx.0 == tx) true refl in
+    omega arith
+arrived_two Past tx copy given machine = omega arith
+
+delivered_two : (o : Option PacketCopy) (tx : ℕ) (given : Fate) (machine : Machine) → ((copy : PacketCopy) → o ≡ Some copy → copy_of machine copy.number ≡ Some copy) → once_if (passes (is_reply_for tx) o) + how_many (is_reply_for tx) (delivered_by o given machine).copies ≤ how_many (is_reply_for tx) machine.copies + 2 * once_if (replies_again tx machine o)
+delivered_two None tx given machine flying = omega arith
+delivered_two (Some copy) tx given machine flying =
+    let left = arrived_two (arrival machine copy) tx copy given machine in
+    let one = many_less (is_reply_for tx) (is_copy copy.number) copy machine.copies (flying copy refl) in
+    omega arith
+
+none_sent : (tx : ℕ) (packet : PacketCopy) (number : ℕ) (sent : List (ℕ × Fate)) (copies : List PacketCopy) → packet.reply ≡ false → how_many (is_reply_for tx) (copies ++ requests packet number sent) ≡ how_many (is_reply_for tx) copies
+none_sent tx packet number sent copies e =
+    let away : is_reply_for tx packet ≡ false = ap (λ b. (packet.tx.0 == tx) && b) e ∙ and_false (packet.tx.0 == tx) in
+    let none = many_none (is_reply_for tx) (requests packet number sent) (each_request (λ copy. is_reply_for tx copy ≡ false) packet number sent (λ n to late. away) (λ n to. away)) in
+    let all = many_append (is_reply_for tx) copies (requests packet number sent) in
+    omega arith
+
+expired_two : (o : Option Call) (tx : ℕ) (key : TxNo) (sent : List (ℕ × Fate)) (machine : Machine) → how_many (is_reply_for tx) (expired_by key o sent machine).copies ≡ how_many (is_reply_for tx) machine.copies
+expired_two None tx key sent machine = refl
+expired_two (Some call) tx key sent machine = elim (is_last call) as (λ b. how_many (is_reply_for tx) (cond b (gave_up key machine) (resent key (Some call) sent machine)).copies ≡ how_many (is_reply_for tx) machine.copies) [ true ↦ refl | false ↦ none_sent tx (request call machine.next_copy call.owner) machine.next_copy sent machine.copies refl ]
+
+step_two : (tx : ℕ) (machine : Machine) (act : Act) → once_if (brings (is_reply_for tx) machine act) + how_many (is_reply_for tx) (after machine act).copies ≤ how_many (is_reply_for tx) machine.copies + 2 * once_if (replies tx machine act)
+step_two tx machine (Begin from port servers owner body tries about before sent) = (let same = none_sent tx (request (new_call machine from port servers owner body tries about before) machine.next_copy owner) machine.next_copy sent machine.copies refl in omega arith)
+step_two tx machine (Deliver number given) = (let two = delivered_two (copy_of machine number) tx given machine (λ copy found. flying_is number copy machine.copies found) in omega arith)
+step_two tx machine (Answer key body given) = (let two = two_replied tx key (call_of machine key) given machine refl in omega arith)
+step_two tx machine (Silence key at) = omega arith
+step_two tx machine (Expire key sent) = (let same = expired_two (call_of machine key) tx key sent machine in omega arith)
+
+run_two : (tx : ℕ) (machine : Machine) (steps : List (Act × Counts)) → times (brings (is_reply_for tx)) machine steps ≤ how_many (is_reply_for tx) machine.copies + 2 * times (replies tx) machine steps
+run_two tx machine [] = omega arith
+run_two tx machine (first ∷ rest) =
+    let here = step_two tx machine first.0 in
+    let later = run_two tx (after machine first.0) rest in
+    omega arith
+
+-- at most two copies of a reply come for each time that it was sent
+pub two_replies_each : TwoRepliesEach
+two_replies_each counts steps tx run = (let two = run_two tx idle steps in omega arith)

@@ -145,3 +145,24 @@ times p machine (first ∷ rest) = once_if (p machine first.0) + times p (after 
 -- in each run, at most two copies of a call's request come to a kernel for each time that it was sent
 abbrev pub TwoRequestsEach : Type 0
 TwoRequestsEach = (counts : Counts) (steps : List (Act × Counts)) (tx kernel : ℕ) → IsRun idle counts steps → times (brings (is_request_of tx kernel)) idle steps ≤ 2 * times (sends tx) idle steps
+
+-- whether a copy is one of that call's reply
+abbrev pub is_reply_for : ℕ → PacketCopy → Bool
+is_reply_for tx copy = (copy.tx.0 == tx) && copy.reply
+
+-- whether a looked-up copy has the reply of the call of that number sent again
+abbrev pub replies_again : ℕ → Machine → Option PacketCopy → Bool
+replies_again tx machine None = false
+replies_again tx machine (Some copy) = (copy.tx.0 == tx) && is_asked_again (arrival machine copy)
+
+-- whether the reply of the call of that number is sent
+abbrev pub replies : ℕ → Machine → Act → Bool
+replies tx machine (Begin from port servers owner body tries about before sent) = false
+replies tx machine (Deliver number given) = replies_again tx machine (copy_of machine number)
+replies tx machine (Answer key body given) = key.0 == tx
+replies tx machine (Silence key at) = false
+replies tx machine (Expire key sent) = false
+
+-- in each run, at most two copies of a call's reply come for each time that it was sent
+abbrev pub TwoRepliesEach : Type 0
+TwoRepliesEach = (counts : Counts) (steps : List (Act × Counts)) (tx : ℕ) → IsRun idle counts steps → times (brings (is_reply_for tx)) idle steps ≤ 2 * times (replies tx) idle steps

@@ -1,5 +1,5 @@
 ghost use Rattle.kernel_rpc.specs.Runs.{GivenUpForCause, RepliesAtMostOnce, RequestsAtMostOnce, StaysUntilAnswered};
-ghost use Rattle.kernel_rpc.specs.Histories.{CopiesDiffer, GivenUpAtEighth, LostBeforeExpiry, NumbersAreNew, TwoRequestsEach};
+ghost use Rattle.kernel_rpc.specs.Histories.{CopiesDiffer, GivenUpAtEighth, LostBeforeExpiry, NumbersAreNew, TwoRepliesEach, TwoRequestsEach};
 ghost use Rattle.kernel_rpc.specs.Steps.{AnswerIsStep, BeginIsStep, BroadcastIsStep, DeliverIsStep, ExpireIsStep, SilentIsStep};
 
 use link_plan::Link;
@@ -55,7 +55,9 @@ pub fn a_packet_is_lost_before_a_timer_fires()
     ensures { LostBeforeExpiry }
 {}
 
-/// A law: in each run, at most two copies of a call's request come to a kernel for each time that it was sent.
-pub fn requests_come_twice_at_most()
-    ensures { TwoRequestsEach }
+/// A law: in each run, at most two copies of a call's request come to a kernel for each time that it was sent, and at most two of
+/// its reply to the caller for each time that that was sent.
+pub fn packets_come_twice_at_most()
+    ensures requests { TwoRequestsEach }
+    ensures replies { TwoRepliesEach }
 {}
