@@ -3,7 +3,7 @@ use Rattle.std.proofs.Common.{rules, tests, ◌≡◌, ℕ, ◌≤◌, Bool, tru
 use Rattle.std.specs.List.{AllByRecursion}
 use Rattle.std.proofs.lemmas.Bool.{and_parts}
 use Rattle.sprite_ids.specs.declared.StreamNo.{StreamNo}
-use Rattle.stream_table.specs.declared.entries.Entry.{Entry}
+use Rattle.stream_table.specs.Entries.{Entry}
 use Rattle.stream_table.specs.declared.stream.Stream.{Stream}
 use Rattle.sprite_ids.specs.Lists.{put, without}
 use Rattle.stream_table.specs.Owners.{is_number}

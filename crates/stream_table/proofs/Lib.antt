@@ -3,3 +3,4 @@ pub mod FoundLaws
 pub mod OwnerLaws
 pub mod ReferLaws
 pub mod TableLaws
+pub mod MapLaws

@@ -2,12 +2,12 @@
 use Rattle.std.proofs.Common.{rules, tests, ◌≡◌, ℕ, ◌==◌, true, false, cond, List, sym, ap}
 use Rattle.std.proofs.lemmas.Bool.{eqb-true}
 use Rattle.std.proofs.lemmas.Bool.Decides.{eqb_tells}
-use Rattle.stream_table.specs.declared.owners.Owner.{Owner}
+use Rattle.stream_table.specs.Owners.{Owner}
 use Rattle.sprite_ids.specs.Lists.{put, without}
 use Rattle.stream_table.specs.Owners.{is_owner, same_owner, is_used, kept}
 use Rattle.sprite_ids.proofs.OnceLaws.{IsSameness}
 
-eq_turned : (a b : ℕ) → (a == b) ≡ (b == a)
+pub eq_turned : (a b : ℕ) → (a == b) ≡ (b == a)
 eq_turned a b = search (rules, tests, eqb_tells a b, eqb_tells b a)
 
 owners_joined : (x y : Owner) → same_owner x y ≡ true → (z : Owner) → same_owner x z ≡ same_owner y z

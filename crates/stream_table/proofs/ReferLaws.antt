@@ -3,7 +3,7 @@ use Rattle.std.proofs.Common.{◌≡◌, ℕ, zero, suc, ◌<◌, ◌||◌, Bool
 use Rattle.std.specs.List.{list_any}
 use Rattle.std.proofs.lemmas.List.Quantifiers.{position-Some}
 use Rattle.sprite_ids.specs.declared.StreamNo.{StreamNo}
-use Rattle.stream_table.specs.declared.owners.Owner.{Owner}
+use Rattle.stream_table.specs.Owners.{Owner}
 use Rattle.sprite_ids.specs.Lists.{put, without, EachOnce}
 use Rattle.stream_table.specs.Owners.{is_number, names, is_free, is_taken, is_used, is_owner, same_owner, refers, is_referred, numbers_or, numbers_of, named, descriptor, kept}
 use Rattle.sprite_ids.proofs.OnceLaws.{nothing_found, passes, any_split, any_put, any_set, at_most_one, or_false}

@@ -4,8 +4,8 @@ use Rattle.std.specs.List.{AllByRecursion, list_any}
 use Rattle.std.proofs.lemmas.Bool.Decides.{eqb_tells}
 use Rattle.sprite_ids.specs.declared.StreamNo.{StreamNo}
 use Rattle.sprite_ids.proofs.ListLaws.{each_filter, get_set_other}
-use Rattle.stream_table.specs.declared.entries.Entry.{Entry}
-use Rattle.stream_table.specs.declared.owners.Owner.{Owner}
+use Rattle.stream_table.specs.Entries.{Entry}
+use Rattle.stream_table.specs.Owners.{Owner}
 use Rattle.stream_table.specs.declared.stream.Stream.{Stream}
 use Rattle.stream_table.specs.declared.stream.Place.{Place}
 use Rattle.stream_table.specs.declared.stream.Carried.{Carried}

@@ -1,15 +1,25 @@
 -- The open streams with their locks.
-use Rattle.std.specs.Prelude.{ℕ, ◌==◌, nat_le, Bool, true, false, List, Option, Some, None, is_some}
+use Rattle.std.specs.Prelude.{ℕ, ◌==◌, nat_le, Bool, true, false, List, map, Option, Some, None, is_some}
 use Rattle.std.specs.List.{find, list_all, list_any}
 use Rattle.sprite_ids.specs.declared.StreamNo.{StreamNo}
 use Rattle.sprite_ids.specs.declared.Object.{Object}
 use Rattle.sprite_ids.specs.declared.Object.TheVariants.{File, Device, Master}
-use Rattle.stream_table.specs.declared.entries.Entry.{Entry}
+use Rattle.stream_table.specs.declared.entries.Known.{Known}
 use Rattle.stream_table.specs.declared.stream.Stream.{Stream}
 use Rattle.stream_table.specs.declared.stream.Place.{Place}
 use Rattle.stream_table.specs.declared.stream.Place.TheVariants.{Local, Shared}
 use Rattle.sprite_ids.specs.Lists.{put, without}
 use Rattle.stream_table.specs.Owners.{is_number}
+
+-- a stream, by its number: it is here while a descriptor leads to it, which it has then, or a process holds its lock
+pub record Entry : Type 0 where
+  pub number : StreamNo
+  pub stream : Option Stream
+  pub holder : Option ℕ
+
+-- the streams of a map, in its order
+abbrev pub entries_in : List (StreamNo × Known) → List Entry
+entries_in entries = map (λ (e : StreamNo × Known). record { number = e.0; stream = e.1.stream; holder = e.1.holder }) entries
 
 -- whether the entry is of that stream
 abbrev pub is_of : StreamNo → Entry → Bool
@@ -62,6 +72,10 @@ is_roomy None = true
 -- whether more grants of each stream may be added
 abbrev pub has_room : List Entry → Bool
 has_room entries = list_all (λ entry. is_roomy entry.stream) entries
+
+-- likewise of what is known of a stream
+abbrev pub is_low : Known → Bool
+is_low known = is_roomy known.stream
 
 -- the offset 0, kept here
 abbrev pub is_start : Place → Bool

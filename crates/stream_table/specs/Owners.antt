@@ -1,9 +1,18 @@
 -- The processes with their descriptors.
-use Rattle.std.specs.Prelude.{ℕ, ◌==◌, Bool, true, false, ◌&&◌, if◌then◌else◌, List, Option, Some, None, replicate, slice_get}
+use Rattle.std.specs.Prelude.{ℕ, ◌==◌, Bool, true, false, ◌&&◌, if◌then◌else◌, List, map, Option, Some, None, replicate, slice_get}
 use Rattle.std.specs.List.{find, list_any}
 use Rattle.sprite_ids.specs.declared.StreamNo.{StreamNo}
-use Rattle.stream_table.specs.declared.owners.Owner.{Owner}
+use Rattle.stream_table.specs.declared.owners.Descriptors.{Descriptors}
 use Rattle.sprite_ids.specs.Lists.{put, without}
+
+-- a process that has descriptors, with the stream of each of them, from 0 to 15
+pub record Owner : Type 0 where
+  pub pid : ℕ
+  pub numbers : List (Option StreamNo)
+
+-- the processes of a map, in its order
+abbrev pub owners_in : List (ℕ × Descriptors) → List Owner
+owners_in entries = map (λ (e : ℕ × Descriptors). record { pid = e.0; numbers = e.1.numbers }) entries
 
 -- whether the second is that stream
 abbrev pub is_number : StreamNo → StreamNo → Bool
@@ -43,6 +52,10 @@ refers number owner = list_any (names number) owner.numbers
 -- whether a descriptor leads to that stream
 abbrev pub is_referred : List Owner → StreamNo → Bool
 is_referred owners number = list_any (refers number) owners
+
+-- whether one of these descriptors leads to that stream
+abbrev pub leads_to : StreamNo → Descriptors → Bool
+leads_to number descriptors = list_any (names number) descriptors.numbers
 
 -- no descriptor in use
 abbrev pub nothing : List (Option StreamNo)

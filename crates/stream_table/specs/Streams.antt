@@ -4,8 +4,9 @@ use Rattle.std.specs.List.{AllByRecursion, position}
 use Rattle.sprite_ids.specs.declared.StreamNo.{StreamNo}
 use Rattle.stream_table.specs.declared.end.StreamEnd.{StreamEnd}
 use Rattle.stream_table.specs.declared.end.StreamEnd.TheVariants.{BadFd, TooMany, NoMemory}
-use Rattle.stream_table.specs.declared.entries.Entry.{Entry}
-use Rattle.stream_table.specs.declared.owners.Owner.{Owner}
+use Rattle.stream_table.specs.Entries.{Entry}
+use Rattle.stream_table.specs.Owners.{Owner}
+use Rattle.stream_table.specs.declared.arrival.Came.{Came}
 use Rattle.stream_table.specs.declared.stream.Stream.{Stream}
 use Rattle.stream_table.specs.declared.stream.Carried.{Carried}
 use Rattle.sprite_ids.specs.Lists.{put, EachOnce}
@@ -138,6 +139,18 @@ numbers_in carried = fold (λ numbers item. slice_set numbers item.fd (Some item
 -- the stream that arrives, with the grants of the one that was here before
 abbrev pub merged : List Entry → Carried → Entry
 merged before item = record { number = item.number; stream = Some (record item.stream { grants = item.stream.grants + grants_in (stream_of before item.number) }); holder = holder_of before item.number }
+
+-- what is known of that stream from then on
+abbrev pub came_as : List Entry → Carried → Came
+came_as before item = record { number = item.number; known = record { stream = (merged before item).stream; holder = (merged before item).holder } }
+
+-- a stream that came, as an entry
+abbrev pub as_entry : Came → Entry
+as_entry came = record { number = came.number; stream = came.known.stream; holder = came.known.holder }
+
+-- the streams after all that came was put in
+abbrev pub put_all : List Entry → List Came → List Entry
+put_all entries came = fold (λ entries one. put (is_of one.number) (as_entry one) entries) entries came
 
 -- the streams after these arrived; of each, the grants that were here before are added once
 abbrev pub arrived : List Entry → List Carried → List Entry

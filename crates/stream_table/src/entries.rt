@@ -1,64 +1,60 @@
-ghost use Rattle.std.specs.Prelude.{◌≡◌, IsTrue, IsOk, OnOk, OnErr};
-ghost use Rattle.std.specs.List.{find, list_any, position};
+ghost use Rattle.std.specs.Prelude.{◌≡◌, ◌≤◌, ◌<◌, ◌+◌, IsTrue, IsOk, OnOk, OnErr};
+ghost use Rattle.std.specs.List.{list_all};
+ghost use Rattle.indexmap.specs.IndexMap.{spare, values};
 ghost use Rattle.sprite_ids.specs.Lists.{put, without, EachOnce};
-ghost use Rattle.stream_table.specs.Entries.{is_of, is_listed, same_entry, stream_of, holder_of, grants_of, has_room, left};
+ghost use Rattle.stream_table.specs.Entries.{entries_in, is_of, is_listed, same_entry, stream_of, holder_of, grants_of, has_room, is_low, left};
 
 use crate::stream::Stream;
-use sprite_ids::{NoMemory, Pid, StreamNo};
+use indexmap::IndexMap;
+use sprite_ids::{NoMemory, Object, Pid, StreamNo};
 
 /// The most grants of a stream at which more may be added (this project).
 const ROOM: u32 = 2_000_000_000;
 
-/// An open stream, by its number. It stays while a descriptor leads to it or a process holds its lock.
+/// What is known of a stream. It stays while a descriptor leads to it or a process holds its lock.
 #[derive(Clone, Copy, Debug, PartialEq, Eq)]
-pub struct Entry {
-    pub number: StreamNo,
+pub struct Known {
     /// None where no descriptor leads to it any more.
     pub stream: Option<Stream>,
     /// The process that holds its lock.
     pub holder: Option<Pid>,
 }
 
-// Where the stream stands.
-fn place_of(entries: &[Entry], number: &StreamNo) -> Option<usize>
-    ensures { result ≡ position (is_of number.now) entries.now }
-{
-    entries.iter().position(|entry| entry.number == *number)
-}
-
-// What is known of the stream.
-fn entry_of(entries: &[Entry], number: &StreamNo) -> Option<Entry>
-    ensures { result ≡ find (is_of number.now) entries.now }
-{
-    match place_of(entries, number) {
-        Some(at) => Some(entries[at]),
-        None => None,
+impl Known {
+    // Whether more grants of it may be added.
+    fn is_low(&self) -> bool
+        ensures { result ≡ is_low self.now }
+    {
+        match self.stream {
+            Some(stream) => stream.grants <= ROOM,
+            None => true,
+        }
     }
 }
 
 // The open stream of that number.
-pub(crate) fn stream_of(entries: &[Entry], number: &StreamNo) -> Option<Stream>
-    ensures { result ≡ stream_of entries.now number.now }
+pub(crate) fn stream_of(entries: &IndexMap<StreamNo, Known>, number: &StreamNo) -> Option<Stream>
+    ensures { result ≡ stream_of (entries_in entries.now.entries) number.now }
 {
-    match entry_of(entries, number) {
-        Some(entry) => entry.stream,
+    match entries.get(number) {
+        Some(known) => known.stream,
         None => None,
     }
 }
 
 // The process that holds the stream's lock.
-pub(crate) fn holder_of(entries: &[Entry], number: &StreamNo) -> Option<Pid>
-    ensures { result ≡ holder_of entries.now number.now }
+pub(crate) fn holder_of(entries: &IndexMap<StreamNo, Known>, number: &StreamNo) -> Option<Pid>
+    ensures { result ≡ holder_of (entries_in entries.now.entries) number.now }
 {
-    match entry_of(entries, number) {
-        Some(entry) => entry.holder,
+    match entries.get(number) {
+        Some(known) => known.holder,
         None => None,
     }
 }
 
 // How many grants of the stream this kernel received.
-pub(crate) fn grants_of(entries: &[Entry], number: &StreamNo) -> u32
-    ensures { result ≡ grants_of entries.now number.now }
+pub(crate) fn grants_of(entries: &IndexMap<StreamNo, Known>, number: &StreamNo) -> u32
+    ensures { result ≡ grants_of (entries_in entries.now.entries) number.now }
 {
     match stream_of(entries, number) {
         Some(stream) => stream.grants,
@@ -67,59 +63,67 @@ pub(crate) fn grants_of(entries: &[Entry], number: &StreamNo) -> u32
 }
 
 // Whether more grants may be added to each stream.
-pub(crate) fn have_room(entries: &[Entry]) -> bool
-    ensures { result ≡ has_room entries.now }
+pub(crate) fn have_room(entries: &IndexMap<StreamNo, Known>) -> bool
+    ensures { result ≡ has_room (entries_in entries.now.entries) }
 {
-    entries.iter().all(|entry| match entry.stream {
-        Some(stream) => stream.grants <= ROOM,
-        None => true,
-    })
+    are_roomy(entries)
 }
 
-// The entry in the place of the one of its number, or at the end.
-pub(crate) fn put(entries: &mut Vec<Entry>, entry: Entry) -> Result<(), NoMemory>
-    ensures ok { OnOk result (entries.new.items ≡ put (is_of entry.number) entry entries.old.items) }
-    ensures err { OnErr result (entries.new.items ≡ entries.old.items) }
-    ensures listed { IsTrue (is_listed entries.old.items entry.number) → IsOk result }
+// The same of what is known of each.
+fn are_roomy(entries: &IndexMap<StreamNo, Known>) -> bool
+    ensures { result ≡ list_all is_low (values entries.now) }
 {
-    match place_of(entries.as_slice(), &entry.number) {
-        Some(at) => entries[at] = entry,
-        None => entries.extend_from_slice(&[entry])?,
-    }
+    entries.values().all(|known| known.is_low())
+}
+
+// What is known of the stream in the place of what was known, or at the end.
+pub(crate) fn put(
+    entries: &mut IndexMap<StreamNo, Known>,
+    number: &StreamNo,
+    known: Known,
+) -> Result<(), NoMemory>
+    ensures ok { OnOk result (entries_in entries.new.entries ≡ put (is_of number.now) (record { number = number.now; stream = known.stream; holder = known.holder }) (entries_in entries.old.entries)) }
+    ensures err { OnErr result (entries.new.entries ≡ entries.old.entries) }
+    ensures listed { IsTrue (is_listed (entries_in entries.old.entries) number.now) → IsOk result }
+    ensures room { 0 < spare entries.old → IsOk result }
+    ensures left { spare entries.old ≤ spare entries.new + 1 }
+{
+    // The tool must be told of the types inside: it doesn't find these by itself.
+    let hint: (Option<Object>, Option<Stream>, Option<Pid>) = (None, None, None);
+    entries.insert(*number, known)?;
+    let _used = hint;
     Ok(())
 }
 
-// The entry in the place of the one of its number, which is there.
-pub(crate) fn change(entries: &mut Vec<Entry>, entry: Entry)
-    requires { IsTrue (is_listed entries.old.items entry.number) }
-    ensures { entries.new.items ≡ put (is_of entry.number) entry entries.old.items }
+// What is known of the stream in the place of what was known; something was.
+pub(crate) fn change(entries: &mut IndexMap<StreamNo, Known>, number: &StreamNo, known: Known)
+    requires { IsTrue (is_listed (entries_in entries.old.entries) number.now) }
+    ensures { entries_in entries.new.entries ≡ put (is_of number.now) (record { number = number.now; stream = known.stream; holder = known.holder }) (entries_in entries.old.entries) }
 {
-    match put(entries, entry) {
+    match put(entries, number, known) {
         Ok(()) => {}
         Err(_) => unreachable!(),
     }
 }
 
-// Takes the entry of that number away, where there is one.
-pub(crate) fn take_off(entries: &mut Vec<Entry>, number: &StreamNo)
-    requires { EachOnce same_entry entries.old.items }
-    ensures { entries.new.items ≡ without (is_of number.now) entries.old.items }
+// Takes the stream away, where it is there.
+pub(crate) fn take_off(entries: &mut IndexMap<StreamNo, Known>, number: &StreamNo)
+    requires { EachOnce same_entry (entries_in entries.old.entries) }
+    ensures { entries_in entries.new.entries ≡ without (is_of number.now) (entries_in entries.old.entries) }
 {
-    if let Some(at) = place_of(entries.as_slice(), number) {
-        entries.remove(at);
-    }
+    entries.shift_remove(number);
 }
 
 // No descriptor leads to the stream any more.
-pub(crate) fn leave(entries: &mut Vec<Entry>, number: &StreamNo)
-    requires { EachOnce same_entry entries.old.items }
-    ensures { entries.new.items ≡ left entries.old.items number.now }
+pub(crate) fn leave(entries: &mut IndexMap<StreamNo, Known>, number: &StreamNo)
+    requires { EachOnce same_entry (entries_in entries.old.entries) }
+    ensures { entries_in entries.new.entries ≡ left (entries_in entries.old.entries) number.now }
 {
-    match holder_of(entries.as_slice(), number) {
+    match holder_of(entries, number) {
         Some(holder) => change(
             entries,
-            Entry {
-                number: *number,
+            number,
+            Known {
                 stream: None,
                 holder: Some(holder),
             },

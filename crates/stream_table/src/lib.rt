@@ -10,8 +10,6 @@ mod stream;
 mod streams;
 
 pub use end::StreamEnd;
-pub use entries::Entry;
-pub use owners::Owner;
 pub use stream::{Carried, Place, Stream};
 pub use streams::Streams;
 

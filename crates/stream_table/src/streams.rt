@@ -6,12 +6,16 @@ ghost use Rattle.stream_table.specs.Owners.{is_used, is_referred, numbers_of, de
 ghost use Rattle.stream_table.specs.Entries.{is_listed, is_placed, may_be_at, stream_of, holder_of, has_room, has_lock, placed, locked, unlocked};
 ghost use Rattle.stream_table.specs.Streams.{Table, free, added, dup_answer, dupped, forked, closed, closed_stream, is_last, numbered, carried_of, closed_all, arriving, same_fd, IsAddCause};
 
-use crate::arrival::{arrived, carried_from, numbers_in};
+use crate::arrival::{arrive, carried_from, numbers_in};
 use crate::end::StreamEnd;
-use crate::entries::{Entry, change, have_room, holder_of, leave, put, stream_of, take_off};
+use crate::entries::{Known, change, have_room, holder_of, leave, put, stream_of, take_off};
 use crate::owners;
-use crate::owners::{Owner, is_referred, is_used, keep, lowest_free, make_room, numbers_of};
+use crate::owners::{
+    Descriptors, descriptor, descriptors_of, give, is_referred, is_used, lowest_free, make_room,
+    release,
+};
 use crate::stream::{Carried, Place, Stream};
+use indexmap::IndexMap;
 use sprite_ids::{NoMemory, Pid, StreamNo};
 use std::alloc::Global;
 use std::marker::Model;
@@ -20,18 +24,20 @@ use std::marker::Model;
 #[derive(Debug, Drop)]
 pub struct Streams {
     alloc: Global,
-    owners: Vec<Owner>,
-    entries: Vec<Entry>,
+    owners: IndexMap<Pid, Descriptors>,
+    entries: IndexMap<StreamNo, Known>,
 }
 
 impl Model for Streams {
+    ghost use Rattle.stream_table.specs.Owners.{owners_in};
+    ghost use Rattle.stream_table.specs.Entries.{entries_in};
     ghost use Rattle.stream_table.specs.Streams.{Table, IsTable};
 
     ghost Value = { Table };
 
-    ghost view = { λ streams. record { owners = streams.owners.items; entries = streams.entries.items } };
+    ghost view = { λ streams. record { owners = owners_in streams.owners.entries; entries = entries_in streams.entries.entries } };
 
-    ghost invariant = { λ streams. IsTable streams.owners.items streams.entries.items };
+    ghost invariant = { λ streams. IsTable (owners_in streams.owners.entries) (entries_in streams.entries.entries) };
 }
 
 impl Streams {
@@ -41,8 +47,8 @@ impl Streams {
     {
         Streams {
             alloc,
-            owners: Vec::new(alloc),
-            entries: Vec::new(alloc),
+            owners: IndexMap::new(alloc),
+            entries: IndexMap::new(alloc),
         }
     }
 
@@ -50,7 +56,7 @@ impl Streams {
     pub fn room(&self) -> bool
         ensures { result ≡ has_room self.now.entries }
     {
-        have_room(self.entries.as_slice())
+        have_room(&self.entries)
     }
 
     /// Gives the process a descriptor of the stream, the lowest free one. The stream is from then on the one that is handed
@@ -65,20 +71,17 @@ impl Streams {
         ensures refused { IfErr result (IsAddCause (free self.old.owners pid)) }
         ensures err { OnErr result (self.new ≡ self.old) }
     {
-        let mut numbers = numbers_of(self.owners.as_slice(), pid);
-        let Some(fd) = lowest_free(&numbers) else {
+        let Some(fd) = lowest_free(&self.owners, pid) else {
             return Err(StreamEnd::TooMany);
         };
         make_room(&mut self.owners)?;
-        let holder = holder_of(self.entries.as_slice(), &number);
-        let entry = Entry {
-            number,
+        let holder = holder_of(&self.entries, &number);
+        let known = Known {
             stream: Some(stream),
             holder,
         };
-        numbers[fd] = Some(number);
-        put(&mut self.entries, entry)?;
-        owners::put(&mut self.owners, Owner { pid, numbers });
+        put(&mut self.entries, &number, known)?;
+        give(&mut self.owners, pid, fd, &number);
         Ok(fd as u8)
     }
 
@@ -86,18 +89,15 @@ impl Streams {
     pub fn has_descriptors(&self, pid: Pid) -> bool
         ensures { result ≡ is_used (numbers_of self.now.owners pid) }
     {
-        is_used(&numbers_of(self.owners.as_slice(), pid))
+        is_used(&self.owners, pid)
     }
 
     /// The stream that the process's descriptor leads to; None exactly where that isn't one of 0 to 15 that is in use.
     pub fn get(&self, pid: Pid, fd: u64) -> Option<StreamNo>
-        ensures { result ≡ descriptor self.now.owners pid fd }
+        ensures number { result ≡ descriptor self.now.owners pid fd }
+        ensures few { IfSome result (λ number. fd < 16) }
     {
-        let numbers = numbers_of(self.owners.as_slice(), pid);
-        match numbers.get(fd as usize) {
-            Some(known) => *known,
-            None => None,
-        }
+        descriptor(&self.owners, pid, fd)
     }
 
     /// The stream of that number; None exactly where no descriptor here leads to it. It takes no memory.
@@ -106,7 +106,7 @@ impl Streams {
         ensures referred { is_some result ≡ is_referred self.now.owners number }
         ensures placed { IfSome result (λ stream. IsTrue (is_placed stream)) }
     {
-        stream_of(self.entries.as_slice(), &number)
+        stream_of(&self.entries, &number)
     }
 
     /// Gives the process a second descriptor of the stream that this one leads to, the lowest free one. BadFd comes exactly
@@ -118,12 +118,10 @@ impl Streams {
         let Some(number) = self.get(pid, fd) else {
             return Err(StreamEnd::BadFd);
         };
-        let mut numbers = numbers_of(self.owners.as_slice(), pid);
-        let Some(free) = lowest_free(&numbers) else {
+        let Some(free) = lowest_free(&self.owners, pid) else {
             return Err(StreamEnd::TooMany);
         };
-        numbers[free] = Some(number);
-        owners::put(&mut self.owners, Owner { pid, numbers });
+        give(&mut self.owners, pid, free, &number);
         Ok(free as u8)
     }
 
@@ -133,18 +131,12 @@ impl Streams {
         ensures ok { OnOk result (self.new ≡ forked self.old parent child) }
         ensures err { OnErr result (self.new ≡ self.old) }
     {
-        let numbers = numbers_of(self.owners.as_slice(), parent);
-        if !is_used(&numbers) || is_used(&numbers_of(self.owners.as_slice(), child)) {
+        if !is_used(&self.owners, parent) || is_used(&self.owners, child) {
             return Ok(());
         }
         make_room(&mut self.owners)?;
-        owners::put(
-            &mut self.owners,
-            Owner {
-                pid: child,
-                numbers,
-            },
-        );
+        let descriptors = descriptors_of(&self.owners, parent);
+        owners::put(&mut self.owners, child, descriptors);
         Ok(())
     }
 
@@ -157,13 +149,11 @@ impl Streams {
         ensures table { self.new ≡ closed self.old pid fd }
     {
         let number = self.get(pid, u64::from(fd))?;
-        let mut numbers = numbers_of(self.owners.as_slice(), pid);
-        numbers[usize::from(fd)] = None;
-        keep(&mut self.owners, Owner { pid, numbers });
-        if is_referred(self.owners.as_slice(), &number) {
+        release(&mut self.owners, pid, usize::from(fd));
+        if is_referred(&self.owners, &number) {
             return None;
         }
-        let stream = stream_of(self.entries.as_slice(), &number);
+        let stream = stream_of(&self.entries, &number);
         leave(&mut self.entries, &number);
         numbered(number, stream)
     }
@@ -180,14 +170,14 @@ impl Streams {
         ensures listed { IsTrue (is_listed self.old.entries stream) → IsOk result }
         ensures referred { IsTrue (is_referred self.old.owners stream) → IsOk result }
     {
-        if let Some(holder) = holder_of(self.entries.as_slice(), &stream) {
+        if let Some(holder) = holder_of(&self.entries, &stream) {
             return Ok(holder == pid);
         }
-        let known = stream_of(self.entries.as_slice(), &stream);
+        let known = stream_of(&self.entries, &stream);
         put(
             &mut self.entries,
-            Entry {
-                number: stream,
+            &stream,
+            Known {
                 stream: known,
                 holder: Some(pid),
             },
@@ -199,18 +189,18 @@ impl Streams {
     pub fn holder(&self, stream: StreamNo) -> Option<Pid>
         ensures { result ≡ holder_of self.now.entries stream }
     {
-        holder_of(self.entries.as_slice(), &stream)
+        holder_of(&self.entries, &stream)
     }
 
     /// Frees the stream's lock, where a process has it. It takes no memory.
     pub fn unlock(&mut self, stream: StreamNo)
         ensures { self.new ≡ record self.old { entries = unlocked self.old.entries stream } }
     {
-        match stream_of(self.entries.as_slice(), &stream) {
+        match stream_of(&self.entries, &stream) {
             Some(known) => change(
                 &mut self.entries,
-                Entry {
-                    number: stream,
+                &stream,
+                Known {
                     stream: Some(known),
                     holder: None,
                 },
@@ -225,13 +215,13 @@ impl Streams {
         requires { IsTrue (may_be_at place (stream_of self.old.entries stream)) }
         ensures { self.new ≡ record self.old { entries = placed self.old.entries stream place } }
     {
-        if let Some(known) = stream_of(self.entries.as_slice(), &stream) {
-            let holder = holder_of(self.entries.as_slice(), &stream);
+        if let Some(known) = stream_of(&self.entries, &stream) {
+            let holder = holder_of(&self.entries, &stream);
             let moved = Stream { place, ..known };
             change(
                 &mut self.entries,
-                Entry {
-                    number: stream,
+                &stream,
+                Known {
                     stream: Some(moved),
                     holder,
                 },
@@ -272,11 +262,9 @@ impl Streams {
         if carried.is_empty() {
             return Ok(());
         }
-        let numbers = numbers_in(carried);
-        let entries = arrived(self.alloc, self.entries.as_slice(), carried)?;
         make_room(&mut self.owners)?;
-        owners::put(&mut self.owners, Owner { pid, numbers });
-        self.entries = entries;
+        arrive(self.alloc, &mut self.entries, carried)?;
+        owners::put(&mut self.owners, pid, numbers_in(carried));
         Ok(())
     }
 
@@ -284,8 +272,8 @@ impl Streams {
     fn carried(&self, pid: Pid) -> Result<Vec<Carried>, NoMemory>
         ensures { IfOk result (λ carried. carried.items ≡ carried_of self.now pid) }
     {
-        let numbers = numbers_of(self.owners.as_slice(), pid);
-        carried_from(self.alloc, self.entries.as_slice(), &numbers)
+        let descriptors = descriptors_of(&self.owners, pid);
+        carried_from(self.alloc, &self.entries, &descriptors.numbers)
     }
 }
 

@@ -1,4 +1,4 @@
-ghost use Rattle.std.specs.Prelude.{IsTrue, IfSome};
+ghost use Rattle.std.specs.Prelude.{◌≡◌, IsTrue, IfSome};
 ghost use Rattle.stream_table.specs.Entries.{is_placed};
 
 use crate::end::StreamEnd;
@@ -173,64 +173,79 @@ fn descriptors_lead_to_streams(rt: HostRuntime) -> Result<(), Fail> {
     Ok(())
 }
 
-// A process takes two descriptors of stream 5 and one of stream 6 along: at its new place stream 5 was here before.
-#[test]
-fn streams_move_with_a_process(rt: HostRuntime) -> Result<(), Fail> {
-    let mut streams = Streams::new(rt.alloc());
-    let pid = process(1).ok_or("process 1001")?;
-    let kernel = Kernel::new(1).ok_or("kernel 1")?;
-    let other = process(2).ok_or("process 1002")?;
-    let object = Object::File(FileId {
-        server: kernel,
-        number: 3,
-    });
-    let here = Stream {
-        object,
+// A stream of one file of kernel 2, with that many grants.
+fn file_stream(place: Place, grants: u32) -> Option<Stream>
+    ensures placed { IfSome result (λ stream. IsTrue (is_placed stream)) }
+    ensures grants { IfSome result (λ stream. stream.grants ≡ grants) }
+{
+    let server = Kernel::new(2)?;
+    Some(Stream {
+        object: Object::File(FileId { server, number: 3 }),
         mode: Mode::Both,
-        place: Place::Local(7),
-        grants: 2,
+        place,
+        grants,
         append: false,
-    };
-    streams.add(other, StreamNo { kernel, number: 5 }, here)?;
-    let came = Stream {
-        object,
-        mode: Mode::Both,
-        place: Place::Shared,
-        grants: 3,
-        append: false,
-    };
+    })
+}
+
+// The process brings two descriptors of stream 5 and one of stream 6 along.
+fn arrives(streams: &mut Streams, pid: Pid) -> Option<bool> {
+    let came = file_stream(Place::Shared, 3)?;
+    let other = file_stream(Place::Local(7), 2)?;
     let carried = [
         Carried {
             fd: 15,
-            number: StreamNo { kernel, number: 5 },
+            number: named(5)?,
             stream: came,
         },
         Carried {
             fd: 2,
-            number: StreamNo { kernel, number: 5 },
+            number: named(5)?,
             stream: came,
         },
         Carried {
             fd: 4,
-            number: StreamNo { kernel, number: 6 },
-            stream: here,
+            number: named(6)?,
+            stream: other,
         },
     ];
     if streams.has_descriptors(pid) || !streams.room() {
-        return Err(Fail::from("a process without descriptors"));
+        return None;
     }
-    streams.put_all(pid, &carried)?;
-    assert!(rt; streams.has_descriptors(pid));
-    let five = streams
-        .stream(StreamNo { kernel, number: 5 })
-        .ok_or("stream 5")?;
-    assert!(rt; five.grants == 5 && five.place == Place::Shared);
-    let taken = streams.take_all(pid)?;
-    assert_eq!(rt; taken.len(), 3);
-    assert!(rt; taken[0].fd == 2 && taken[0].number.number == 5 && taken[0].stream.grants == 5);
-    assert!(rt; taken[1].fd == 4 && taken[1].number.number == 6 && taken[1].stream.grants == 2);
-    assert!(rt; taken[2].fd == 15 && taken[2].number.number == 5 && taken[2].stream.grants == 5);
-    assert!(rt; streams.stream(StreamNo { kernel, number: 6 }).is_none());
-    assert!(rt; streams.stream(StreamNo { kernel, number: 5 }).is_some());
+    Some(streams.put_all(pid, &carried).is_ok())
+}
+
+// Whether the descriptor with its stream is that one, with that many grants.
+fn is_carried(item: &Carried, fd: u8, number: u32, grants: u32) -> bool {
+    item.fd == fd && item.number.number == number && item.stream.grants == grants
+}
+
+// Whether these three leave, in ascending order.
+fn are_carried(taken: &[Carried]) -> bool {
+    taken.len() == 3
+        && is_carried(&taken[0], 2, 5, 4)
+        && is_carried(&taken[1], 4, 6, 2)
+        && is_carried(&taken[2], 15, 5, 4)
+}
+
+// Whether the process leaves with them.
+fn leaves(streams: &mut Streams, pid: Pid) -> bool {
+    match streams.take_all(pid) {
+        Ok(taken) => are_carried(taken.as_slice()),
+        Err(_) => false,
+    }
+}
+
+// At its new place stream 5 was here before, with one grant: it has the grants of both, and the place that it came with.
+#[test]
+fn streams_move_with_a_process(rt: HostRuntime) -> Result<(), Fail> {
+    let mut streams = Streams::new(rt.alloc());
+    let pid = process(1).ok_or("process 1001")?;
+    assert!(rt; does(&mut streams, Step::Add(2, 5, Ok(0))) == Some(true));
+    assert!(rt; arrives(&mut streams, pid) == Some(true));
+    assert!(rt; does(&mut streams, Step::At(5, Some(Place::Shared))) == Some(true));
+    assert!(rt; leaves(&mut streams, pid));
+    assert!(rt; does(&mut streams, Step::At(6, None)) == Some(true));
+    assert!(rt; does(&mut streams, Step::At(5, Some(Place::Shared))) == Some(true));
     Ok(())
 }

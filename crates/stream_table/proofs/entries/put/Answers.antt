@@ -1,22 +1,11 @@
-use Rattle.std.proofs.Common.{position, sym, ap, ◌∙◌, true≢false}
-use Rattle.stream_table.specs.Entries.{is_of}
-use Rattle.sprite_ids.proofs.OnceLaws.{put_here, put_last, none_found}
+use Rattle.std.proofs.Common.{sym, ap, ◌∙◌, is_some, true≢false}
+use Rattle.stream_table.specs.Entries.{entries_in}
+use Rattle.stream_table.proofs.MapLaws.{entry_put, entry_listed}
 use Rattle.stream_table.proofs.entries.put.Goals as goal
 
-pub returns-in_err-extend_from_slice-in-None-clause-listed : goal.returns-in_err-extend_from_slice-in-None-clause-listed
-returns-in_err-extend_from_slice-in-None-clause-listed c =
-    let p = is_of c.args.entry.number in
-    let place = ap (position p) (sym c.as_slice.ensures.value) ∙ sym c.place_of.ensures ∙ c.in-None.is in
-    λ there. absurd (true≢false (sym there ∙ none_found p c.args.entries.now.items place))
+pub returns-clause-ok : goal.returns-clause-ok
+returns-clause-ok c = ap entries_in c.in_ok-insert.ensures.entries ∙ entry_put c.args.entries.now.entries c.args.number.now c.args.known
 
-pub returns-in-Some-clause-ok : goal.returns-in-Some-clause-ok
-returns-in-Some-clause-ok c =
-    let p = is_of c.args.entry.number in
-    let place = ap (position p) (sym c.as_slice.ensures.value) ∙ sym c.place_of.ensures ∙ c.in-Some.is in
-    put_here p c.args.entry c.args.entries.now.items c.in-Some.at c.index_mut.result.now place
-
-pub returns-in_ok-extend_from_slice-in-None-clause-ok : goal.returns-in_ok-extend_from_slice-in-None-clause-ok
-returns-in_ok-extend_from_slice-in-None-clause-ok c =
-    let p = is_of c.args.entry.number in
-    let place = ap (position p) (sym c.as_slice.ensures.value) ∙ sym c.place_of.ensures ∙ c.in-None.is in
-    c.in_ok-extend_from_slice-in-None.ensures.items ∙ sym (put_last p c.args.entry c.args.entries.now.items (none_found p c.args.entries.now.items place))
+pub returns-in_err-insert-clause-listed : goal.returns-in_err-insert-clause-listed
+returns-in_err-insert-clause-listed c =
+    λ there. absurd (true≢false (sym there ∙ entry_listed c.args.entries.now.entries c.args.number.now ∙ ap is_some c.in_err-insert.ensures.absent))

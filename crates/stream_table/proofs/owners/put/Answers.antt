@@ -1,23 +1,12 @@
-use Rattle.std.proofs.Common.{position, sym, ap, ◌∙◌, arith}
-use Rattle.stream_table.specs.Owners.{is_owner}
-use Rattle.sprite_ids.proofs.OnceLaws.{put_here, put_last, none_found}
+use Rattle.std.proofs.Common.{Bool, true, false, ◌≡◌, refl, sym, true≢false}
+use Rattle.std.specs.List.{list_any}
+use Rattle.stream_table.specs.Owners.{owners_in, is_owner}
 use Rattle.stream_table.proofs.owners.put.Goals as goal
+
+either : (b : Bool) → (b ≡ true → ⊥) → (b ≡ false → ⊥) → ⊥
+either true f g = f refl
+either false f g = g refl
 
 pub unreachable-requires : goal.unreachable-requires
 unreachable-requires c =
-    let p = is_owner c.args.owner.pid in
-    let place = ap (position p) (sym c.as_slice.ensures.value) ∙ sym c.place_of.ensures ∙ c.in-None.is in
-    let room = c.requires (none_found p c.args.owners.now.items place) in
-    omega (arith, room, c.in-Err.ensures.full)
-
-pub returns-in-Some : goal.returns-in-Some
-returns-in-Some c =
-    let p = is_owner c.args.owner.pid in
-    let place = ap (position p) (sym c.as_slice.ensures.value) ∙ sym c.place_of.ensures ∙ c.in-Some.is in
-    put_here p c.args.owner c.args.owners.now.items c.in-Some.at c.index_mut.result.now place
-
-pub returns-in-Ok : goal.returns-in-Ok
-returns-in-Ok c =
-    let p = is_owner c.args.owner.pid in
-    let place = ap (position p) (sym c.as_slice.ensures.value) ∙ sym c.place_of.ensures ∙ c.in-None.is in
-    c.in-Ok.ensures.items ∙ sym (put_last p c.args.owner c.args.owners.now.items (none_found p c.args.owners.now.items place))
+    either (list_any (is_owner c.args.pid) (owners_in c.args.owners.now.entries)) (λ there. true≢false (sym (c.in-Err.ensures.there there))) (λ none. true≢false (sym (c.in-Err.ensures.room (c.requires none))))

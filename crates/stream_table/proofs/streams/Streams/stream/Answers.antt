@@ -1,6 +1,6 @@
 use Rattle.std.proofs.Common.{Some, None, Option, ◌≡◌, true, IfSome, IsTrue, ap, ◌∙◌}
 use Rattle.stream_table.specs.declared.stream.Stream.{Stream}
-use Rattle.stream_table.specs.Entries.{is_of, is_placed, is_placed_in, stream_of}
+use Rattle.stream_table.specs.Entries.{entries_in, is_of, is_placed, is_placed_in}
 use Rattle.stream_table.proofs.FoundLaws.{placed_found}
 use Rattle.stream_table.proofs.streams.Streams.stream.Goals as goal
 
@@ -10,5 +10,4 @@ if_placed None h = tt
 
 pub returns-clause-placed : goal.returns-clause-placed
 returns-clause-placed c =
-    let found = c.stream_of.ensures ∙ ap (λ es. stream_of es c.args.number) c.as_slice.ensures.value in
-    if_placed c.stream_of.result (ap is_placed_in found ∙ placed_found (is_of c.args.number) c.self.inside.entries.items c.self.invariant.are_placed)
+    if_placed c.stream_of.result (ap is_placed_in c.stream_of.ensures ∙ placed_found (is_of c.args.number) (entries_in c.self.inside.entries.entries) c.self.invariant.are_placed)
