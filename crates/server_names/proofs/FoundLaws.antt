@@ -9,9 +9,10 @@ use Rattle.sprite_ids.specs.declared.Errno.TheVariants.{NoEntry}
 use Rattle.server_names.specs.declared.end.NameEnd.{NameEnd}
 use Rattle.server_names.specs.declared.end.NameEnd.TheVariants.{Errno as Refused}
 use Rattle.server_names.specs.declared.name.Node.{Node}
+use Rattle.server_names.specs.declared.name.Node.TheVariants.{Dir}
 use Rattle.server_names.specs.declared.name.Entry.{Entry}
 use Rattle.server_names.specs.declared.name.Entry.TheVariants.{Node as Named, Link}
-use Rattle.server_names.specs.Names.{Tree, Listed, is_at, is_part, or_empty, entries_in, entry_in, entry_at, parent, last_of, listed, unlisted, goes_on, passed, walked, named, freed, found, roomy, make_answer, put, made, removable_found, remove_answer, removed, AreOnce, IsDirectory, IsSound}
+use Rattle.server_names.specs.Names.{Tree, Listed, is_at, is_part, or_empty, entries_in, entry_in, entry_at, parent, last_of, listed, unlisted, goes_on, passed, walked, named, freed, found, roomy, make_answer, put, made, removable_found, remove_answer, removed, renamable, renamed_found, renamed_node, renamed, rename_target, AreOnce, IsDirectory, IsSound}
 
 -- ---- look-ups
 
@@ -298,3 +299,91 @@ sound_made tree path entry h sound =
     let can = can_be_made tree path h in
     let entries = entries_in tree (parent path) in
     sound_given tree (parent path) (entries ++ (last_of path, entry) ∷ []) (directory_push entries (last_of path) entry can.room can.free (directory_in tree (parent path) sound)) sound
+
+few_moved : (es : Listed) (t : List ℕ → Bool) (v : Entry) (part : List ℕ) (entry : Entry) → lookup t es ≡ Some v → length (remove_entry t (es ++ (part, entry) ∷ [])) ≡ length es
+few_moved [] t v part entry h = cc
+few_moved (e ∷ es) t v part entry h =
+    let more = length-append es ((part, entry) ∷ []) in
+    elim (cases_Bool (t e.0)) [
+      | inl here ↦ ap (λ b. length (cond b (es ++ (part, entry) ∷ []) (e ∷ remove_entry t (es ++ (part, entry) ∷ [])))) here ∙ omega arith
+      | inr on ↦ ap (λ b. length (cond b (es ++ (part, entry) ∷ []) (e ∷ remove_entry t (es ++ (part, entry) ∷ [])))) on ∙ ap suc (few_moved es t v part entry (sym (look_on t e es on) ∙ h))
+    ]
+
+-- a directory's entries given and then given anew
+sound_set_given : (tree : Tree) (d : List (List ℕ)) (v w : Listed) → IsDirectory w → IsSound tree → IsSound (set_value (is_at d) (insert_entry is_at tree d v) w)
+sound_set_given [] d v w is sound = subst (λ b. IsSound (cond b ((d, w) ∷ []) ((d, v) ∷ []))) (sym (path_itself d)) (is, tt)
+sound_set_given (e ∷ es) d v w is sound =
+    elim (cases_Bool (is_at d e.0)) [
+      | inl here ↦ subst (λ b. IsSound (set_value (is_at d) (cond b ((e.0, v) ∷ es) (e ∷ insert_entry is_at es d v)) w)) (sym here)
+          (subst (λ b. IsSound (cond b ((e.0, w) ∷ es) ((e.0, v) ∷ set_value (is_at d) es w))) (sym here) (is, sound.1))
+      | inr on ↦ subst (λ b. IsSound (set_value (is_at d) (cond b ((e.0, v) ∷ es) (e ∷ insert_entry is_at es d v)) w)) (sym on)
+          (subst (λ b. IsSound (cond b ((e.0, w) ∷ insert_entry is_at es d v) (e ∷ set_value (is_at d) (insert_entry is_at es d v) w))) (sym on) (sound.0, sound_set_given es d v w is sound.1))
+    ]
+
+-- an entry that changes its name within its directory
+sound_moved : (tree : Tree) (d : List (List ℕ)) (old new : List ℕ) (v entry : Entry) → entry_in tree d old ≡ Some v → entry_in tree d new ≡ None → IsSound tree → IsSound (unlisted (listed tree d new entry) d old)
+sound_moved tree d old new v entry there free sound =
+    let es = entries_in tree d in
+    let more = es ++ (new, entry) ∷ [] in
+    let is = directory_in tree d sound in
+    let kept : IsDirectory (remove_entry (is_part old) more) = record {
+      few = let same = few_moved es (is_part old) v new entry there in let few = is.few in omega arith;
+      once = once_less more (is_part old) (once_push es new entry free is.once);
+    } in
+    subst (λ (w : Listed). IsSound (set_value (is_at d) (listed tree d new entry) (remove_entry (is_part old) w))) (sym (given_here tree d more))
+    (sound_set_given tree d more (remove_entry (is_part old) more) kept sound)
+
+abbrev node_of : Result Node NameEnd → Node
+node_of (Ok node) = node
+node_of (Err end) = Dir
+
+ok_is : (x y : Node) → (◌≡◌ {A = Result Node NameEnd} (Ok x) (Ok y)) → x ≡ y
+ok_is x y e = ap node_of e
+
+named_is : (o : Option Entry) (node : Node) → named o ≡ Ok node → o ≡ Some (Named node)
+named_is None node h = cc
+named_is (Some (Named n)) node h = ap (λ m. Some (Named m)) (ok_is n node h)
+named_is (Some (Link path)) node h = cc
+
+renamed_parts : (r : Result Node NameEnd) (target : Result (Unit {0}) NameEnd) (node : Node) → renamed_found r target ≡ Ok node → (r ≡ Ok node) × ((renamable node ≡ Ok tt) × (target ≡ Ok tt))
+renamed_parts (Err end) target node h = cc
+renamed_parts (Ok n) target node h =
+    let first = goes_parts (renamable n) (goes_on target (Ok n)) node h in
+    let second = goes_parts target (Ok n) node first.1 in
+    (second.1, (subst (λ (m : Node). renamable m ≡ Ok tt) (ok_is n node second.1) first.0, second.0))
+
+found_entry : (tree : Tree) (path : List (List ℕ)) (node : Node) → found tree path ≡ Ok node → renamable node ≡ Ok tt → entry_at tree path ≡ Some (Named node)
+found_entry tree path node h may =
+    elim (cases_Bool (length path == 0)) [
+      | inl root ↦ absurd (
+          let dir : Dir ≡ node = ok_is Dir node (sym (cond-true (length path == 0) _ _ root) ∙ h) in
+          let refused = ap renamable dir ∙ may in cc)
+      | inr below ↦
+          let walk = goes_parts (walked tree [] (parent path)) (named (entry_at tree path)) node (sym (cond-false (length path == 0) _ _ below) ∙ h) in
+          named_is (entry_at tree path) node walk.1
+    ]
+
+pub sound_renamed : (tree : Tree) (old new : List (List ℕ)) (node : Node) → renamed_node tree old new ≡ Ok node → IsSound tree → IsSound (renamed tree old new node)
+sound_renamed tree old new node h sound =
+    let parts = renamed_parts (found tree old) (rename_target tree old new) node h in
+    let from = found_entry tree old node parts.0 parts.1.0 in
+    let above = parent old in
+    let below = parent new in
+    let room = cond (is_at above below) (Ok tt) (roomy tree below) in
+    elim (cases_Bool (length new == 0)) [
+      | inl root ↦ absurd (let refused = sym (cond-true (length new == 0) _ _ root) ∙ parts.1.1 in cc)
+      | inr on ↦
+          let walk = goes_parts (walked tree [] below) (goes_on (freed (entry_at tree new)) room) tt (sym (cond-false (length new == 0) _ _ on) ∙ parts.1.1) in
+          let last = goes_parts (freed (entry_at tree new)) room tt walk.1 in
+          let free = freed_none (entry_at tree new) last.0 in
+          elim (cases_Bool (is_at above below)) [
+            | inl same ↦
+                let one = path_is above below same in
+                subst (λ (d : List (List ℕ)). IsSound (unlisted (listed tree below (last_of new) (Named node)) d (last_of old))) (sym one)
+                (sound_moved tree below (last_of old) (last_of new) (Named node) (Named node) (subst (λ (d : List (List ℕ)). entry_in tree d (last_of old) ≡ Some (Named node)) one from) free sound)
+            | inr apart ↦
+                let fits = room_of tree below (sym (cond-false (is_at above below) _ _ apart) ∙ last.1) in
+                sound_unlisted (made tree new node) above (last_of old)
+                (sound_given tree below (entries_in tree below ++ (last_of new, Named node) ∷ []) (directory_push (entries_in tree below) (last_of new) (Named node) fits free (directory_in tree below sound)) sound)
+          ]
+    ]

@@ -19,11 +19,13 @@ pub struct Names {
 }
 
 impl Model for Names {
-    ghost use Rattle.server_names.specs.Names.{Tree};
+    ghost use Rattle.server_names.specs.Names.{Tree, IsSound};
 
     ghost Value = { Tree };
 
     ghost view = { λ names. names.tree };
+
+    ghost invariant = { λ names. IsSound names.tree };
 }
 
 impl Names {
@@ -77,10 +79,7 @@ impl Names {
         ensures ok { OnOk result (self.new ≡ made self.old path.now node) }
         ensures err { OnErr result (self.new ≡ self.old) }
     {
-        let path = path.parts();
-        self.tree.makeable(path)?;
-        self.tree.put(path, Entry::Node(node))?;
-        Ok(())
+        self.enter(path.parts(), Entry::Node(node))
     }
 
     /// Takes the name away, and answers what it named: with `directory` a directory without entries, else a file or a
