@@ -470,8 +470,10 @@ fn is_row(row: usize, packet: &Packet) -> bool {
     fits && packet.tx.0 == 1 && packet.is_reply() == (row > 18)
 }
 
-fn is_copied(alloc: Global, packet: &Packet) -> Result<bool, NoMemory> {
-    Ok(packet.copy(alloc)? == *packet)
+// Whether a copy of the packet is that of the row.
+fn is_copied(alloc: Global, row: usize, packet: &Packet) -> Result<bool, NoMemory> {
+    let copy = packet.copy(alloc)?;
+    Ok(is_row(row, &copy))
 }
 
 fn is_spelled(alloc: Global, packet: &Packet, bytes: &[u8]) -> Result<bool, NoMemory> {
@@ -480,7 +482,7 @@ fn is_spelled(alloc: Global, packet: &Packet, bytes: &[u8]) -> Result<bool, NoMe
 
 // Whether the packet is that of the row, is copied, and is spelled so.
 fn is_whole(alloc: Global, row: usize, packet: &Packet, bytes: &[u8]) -> Result<bool, NoMemory> {
-    Ok(is_row(row, packet) && is_copied(alloc, packet)? && is_spelled(alloc, packet, bytes)?)
+    Ok(is_row(row, packet) && is_copied(alloc, row, packet)? && is_spelled(alloc, packet, bytes)?)
 }
 
 // Whether the bytes are read as the packet of that row, which is spelled so again.
