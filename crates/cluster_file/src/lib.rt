@@ -20,6 +20,3 @@ mod tables;
 pub use cluster::read_description;
 pub use laws::{described_is_lawful, described_or_refused, refused_once};
 pub use refusal::{FileEnd, Refusal};
-
-#[cfg(test)]
-mod tests;

@@ -1,6 +1,6 @@
 mod worked;
 
-use crate::{FileEnd, read_description};
+use cluster_file::{FileEnd, read_description};
 use sprite_ids::NoMemory;
 use std::alloc::Global;
 use std::test::Fail;
