@@ -33,6 +33,3 @@ pub use source_memory::MemSource;
 pub use source_std::StdSource;
 pub use write_end::WriteEnd;
 pub use writing::write_all;
-
-#[cfg(test)]
-mod tests;

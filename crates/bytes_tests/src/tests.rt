@@ -1,19 +1,9 @@
 ghost use Rattle.std.specs.Prelude.{◌≤◌};
 
-use crate::failed::Failed;
-use crate::message::Message;
-use crate::null_sink::NullSink;
-use crate::plain_source::PlainSource;
-use crate::read_end::ReadEnd;
-use crate::reading::read_all;
-use crate::sink::Sink;
-use crate::sink_memory::MemSink;
-use crate::sink_std::StdSink;
-use crate::source::Source;
-use crate::source_memory::MemSource;
-use crate::source_std::StdSource;
-use crate::write_end::WriteEnd;
-use crate::writing::write_all;
+use sprite_bytes::{
+    Failed, MemSink, MemSource, Message, NullSink, PlainSource, ReadEnd, Sink, Source, StdSink,
+    StdSource, WriteEnd, read_all, write_all,
+};
 use sprite_ids::Bytes;
 use std::alloc::{AllocError, Global};
 use std::io;
