@@ -91,47 +91,77 @@ fn reading(
     }
 }
 
-// (bytes in the source, bytes per read, number of the read that fails, limit, answer, bytes left in the source)
+// Bytes in the source, bytes per read, number of the read that fails, limit, answer, bytes left in the source.
+type ReadRow = (usize, usize, u64, usize, Result<usize, ReadEnd>, usize);
+
+const READS: [ReadRow; 19] = [
+    (0, 1, 0, 0, Ok(0), 0),
+    (0, 1, 1, 0, Err(FAULT), 0),
+    (10, 1, 0, 10, Ok(10), 0),
+    (10, 1, 0, 11, Ok(10), 0),
+    (10, 1, 0, 9, Err(ReadEnd::TooLong), 0),
+    (10, 1, 0, 8, Err(ReadEnd::TooLong), 1),
+    (10, 1, 0, 0, Err(ReadEnd::TooLong), 9),
+    (10, 1, 10, 8, Err(ReadEnd::TooLong), 1),
+    (10, 1, 9, 8, Err(FAULT), 2),
+    (10, 3, 3, 10, Err(FAULT), 4),
+    (10, 3, 4, 10, Err(FAULT), 1),
+    (10, 3, 5, 10, Err(FAULT), 0),
+    (10, 3, 6, 10, Ok(10), 0),
+    (10, 3, 0, 7, Err(ReadEnd::TooLong), 2),
+    (10, usize::MAX, 2, usize::MAX, Err(FAULT), 0),
+    (10, usize::MAX, 3, usize::MAX, Ok(10), 0),
+    (5000, usize::MAX, 0, 5000, Ok(5000), 0),
+    (5000, usize::MAX, 0, 4999, Err(ReadEnd::TooLong), 0),
+    (5000, usize::MAX, 0, 4000, Err(ReadEnd::TooLong), 999),
+];
+
+fn is_read(alloc: Global, row: &ReadRow) -> Result<bool, Fail> {
+    let (count, piece, failing, limit, answer, left) = row;
+    if *piece == 0 {
+        return Ok(false);
+    }
+    let (came, rest) = reading(alloc, *count, *piece, *failing, *limit)?;
+    Ok(came == *answer && rest == *left)
+}
+
+fn first_other_read(alloc: Global, rows: &[ReadRow]) -> Result<Option<usize>, Fail> {
+    for (place, row) in rows.iter().enumerate() {
+        if !is_read(alloc, row)? {
+            return Ok(Some(place));
+        }
+    }
+    Ok(None)
+}
+
 #[test]
 fn sources_are_read_to_their_end(rt: HostRuntime) -> Result<(), Fail> {
-    let rows = [
-        (0, 1, 0, 0, Ok(0), 0),
-        (0, 1, 1, 0, Err(FAULT), 0),
-        (10, 1, 0, 10, Ok(10), 0),
-        (10, 1, 0, 11, Ok(10), 0),
-        (10, 1, 0, 9, Err(ReadEnd::TooLong), 0),
-        (10, 1, 0, 8, Err(ReadEnd::TooLong), 1),
-        (10, 1, 0, 0, Err(ReadEnd::TooLong), 9),
-        (10, 1, 10, 8, Err(ReadEnd::TooLong), 1),
-        (10, 1, 9, 8, Err(FAULT), 2),
-        (10, 3, 3, 10, Err(FAULT), 4),
-        (10, 3, 4, 10, Err(FAULT), 1),
-        (10, 3, 5, 10, Err(FAULT), 0),
-        (10, 3, 6, 10, Ok(10), 0),
-        (10, 3, 0, 7, Err(ReadEnd::TooLong), 2),
-        (10, usize::MAX, 2, usize::MAX, Err(FAULT), 0),
-        (10, usize::MAX, 3, usize::MAX, Ok(10), 0),
-        (5000, usize::MAX, 0, 5000, Ok(5000), 0),
-        (5000, usize::MAX, 0, 4999, Err(ReadEnd::TooLong), 0),
-        (5000, usize::MAX, 0, 4000, Err(ReadEnd::TooLong), 999),
-    ];
-    for (count, piece, failing, limit, answer, left) in rows {
-        assert!(rt; 1 <= piece);
-        let came = reading(rt.alloc(), count, piece, failing, limit)?;
-        assert_eq!(rt; came, (answer, left), "{count} {piece} {failing} {limit}");
-    }
+    assert_eq!(rt; first_other_read(rt.alloc(), &READS)?, None);
     Ok(())
 }
 
-// The same for each of the eleven reads of ten bytes in turn, one byte at a time.
+// Ten bytes that are read one by one, where the read of that number fails.
+fn fails_at(alloc: Global, failing: u8) -> Result<bool, Fail> {
+    if failing > 11 {
+        return Ok(false);
+    }
+    let (came, rest) = reading(alloc, 10, 1, failing as u64, 10)?;
+    Ok(came == Err(FAULT) && rest == 11 - (failing as usize))
+}
+
+fn first_that_passes(alloc: Global, last: u8) -> Result<Option<u8>, Fail> {
+    for failing in 1..last {
+        if !fails_at(alloc, failing)? {
+            return Ok(Some(failing));
+        }
+    }
+    Ok(None)
+}
+
+// Each of the eleven reads in turn.
 #[test]
 fn each_read_may_fail(rt: HostRuntime) -> Result<(), Fail> {
-    for failing in 1..12_u8 {
-        let left = 11 - (failing as usize);
-        let came = reading(rt.alloc(), 10, 1, failing as u64, 10)?;
-        assert_eq!(rt; came, (Err(FAULT), left), "read {failing}");
-    }
-    assert_eq!(rt; reading(rt.alloc(), 10, 1, 12, 10)?, (Ok(10), 0));
+    assert_eq!(rt; first_that_passes(rt.alloc(), 12)?, None);
     Ok(())
 }
 
@@ -164,59 +194,94 @@ fn writing(
     Ok((answer, written.len()))
 }
 
-// (bytes to write, room, bytes per write, number of the write that fails, answer, bytes in the sink)
+// Bytes to write, room, bytes per write, number of the write that fails, whether all are written, bytes in the sink.
+type WriteRow = (usize, usize, usize, u64, bool, usize);
+
+const WRITES: [WriteRow; 18] = [
+    (0, 0, 1, 1, true, 0),
+    (33, 1000, 10, 0, true, 33),
+    (33, 1000, 10, 1, false, 0),
+    (33, 1000, 10, 2, false, 10),
+    (33, 1000, 10, 3, false, 20),
+    (33, 1000, 10, 4, false, 30),
+    (33, 1000, 10, 5, true, 33),
+    (4, 4, 1, 1, false, 0),
+    (4, 4, 1, 2, false, 1),
+    (4, 4, 1, 3, false, 2),
+    (4, 4, 1, 4, false, 3),
+    (4, 4, 1, 5, true, 4),
+    (33, 33, 10, 0, true, 33),
+    (33, 32, 10, 0, false, 32),
+    (33, 30, 10, 4, false, 30),
+    (33, 0, 10, 0, false, 0),
+    (33, 33, usize::MAX, 0, true, 33),
+    (33, 12, usize::MAX, 0, false, 12),
+];
+
+fn is_written(alloc: Global, row: &WriteRow) -> Result<bool, Fail> {
+    let (count, room, piece, failing, whole, written) = row;
+    if *piece == 0 {
+        return Ok(false);
+    }
+    let (came, held) = writing(alloc, *count, *room, *piece, *failing)?;
+    let wanted = if *whole {
+        Ok(())
+    } else {
+        Err(stopped(*written))
+    };
+    Ok(came == wanted && held == *written)
+}
+
+fn first_other_write(alloc: Global, rows: &[WriteRow]) -> Result<Option<usize>, Fail> {
+    for (place, row) in rows.iter().enumerate() {
+        if !is_written(alloc, row)? {
+            return Ok(Some(place));
+        }
+    }
+    Ok(None)
+}
+
 #[test]
 fn bytes_are_written_to_the_last(rt: HostRuntime) -> Result<(), Fail> {
-    let rows = [
-        (0, 0, 1, 1, Ok(()), 0),
-        (33, 1000, 10, 0, Ok(()), 33),
-        (33, 1000, 10, 1, Err(stopped(0)), 0),
-        (33, 1000, 10, 2, Err(stopped(10)), 10),
-        (33, 1000, 10, 3, Err(stopped(20)), 20),
-        (33, 1000, 10, 4, Err(stopped(30)), 30),
-        (33, 1000, 10, 5, Ok(()), 33),
-        (4, 4, 1, 1, Err(stopped(0)), 0),
-        (4, 4, 1, 2, Err(stopped(1)), 1),
-        (4, 4, 1, 3, Err(stopped(2)), 2),
-        (4, 4, 1, 4, Err(stopped(3)), 3),
-        (4, 4, 1, 5, Ok(()), 4),
-        (33, 33, 10, 0, Ok(()), 33),
-        (33, 32, 10, 0, Err(stopped(32)), 32),
-        (33, 30, 10, 4, Err(stopped(30)), 30),
-        (33, 0, 10, 0, Err(stopped(0)), 0),
-        (33, 33, usize::MAX, 0, Ok(()), 33),
-        (33, 12, usize::MAX, 0, Err(stopped(12)), 12),
-    ];
-    for (count, room, piece, failing, answer, written) in rows {
-        assert!(rt; 1 <= piece);
-        let came = writing(rt.alloc(), count, room, piece, failing)?;
-        assert_eq!(rt; came, (answer, written), "{count} {room} {piece} {failing}");
-    }
+    assert_eq!(rt; first_other_write(rt.alloc(), &WRITES)?, None);
     Ok(())
+}
+
+fn faults_in(source: &mut MemSource, alloc: Global, before: u64, now: u64) -> bool {
+    read_all(alloc, source, 3) == Err(ReadEnd::Fault { before, now })
+}
+
+fn stops_in(sink: &mut MemSink, written: usize, before: u64, now: u64) -> bool {
+    let end = WriteEnd {
+        written,
+        before,
+        now,
+    };
+    write_all(sink, b"abcd") == Err(end)
 }
 
 // The counts go on from call to call.
 #[test]
-fn faults_are_counted_on(rt: HostRuntime) -> Result<(), Fail> {
+fn faults_of_a_source_are_counted_on(rt: HostRuntime) -> Result<(), Fail> {
     let alloc = rt.alloc();
     let mut source = MemSource::new(numbered(alloc, 3)?, Vec::from_slice(alloc, &[1, 2])?);
-    for (before, now) in [(0, 1), (1, 2)] {
-        let end = ReadEnd::Fault { before, now };
-        assert_eq!(rt; read_all(alloc, &mut source, 3), Err(end));
-    }
-    assert_eq!(rt; read_all(alloc, &mut source, 3)?, numbered(alloc, 3)?);
-    assert_eq!(rt; source.faults(), 2);
+    assert!(rt; faults_in(&mut source, alloc, 0, 1));
+    assert!(rt; faults_in(&mut source, alloc, 1, 2));
+    assert!(rt; read_all(alloc, &mut source, 3)? == numbered(alloc, 3)?);
+    assert!(rt; source.faults() == 2);
+    Ok(())
+}
+
+#[test]
+fn faults_of_a_sink_are_counted_on(rt: HostRuntime) -> Result<(), Fail> {
+    let alloc = rt.alloc();
     let mut sink = MemSink::new(alloc, 4, 1, Vec::from_slice(alloc, &[2, 3])?)?;
-    for (written, before, now) in [(1, 0, 1), (0, 1, 2), (3, 2, 3), (0, 3, 4)] {
-        let end = WriteEnd {
-            written,
-            before,
-            now,
-        };
-        assert_eq!(rt; write_all(&mut sink, b"abcd"), Err(end));
-    }
-    assert_eq!(rt; write_all(&mut sink, b""), Ok(()));
-    assert_eq!(rt; sink.into_vec(), Vec::from_slice(alloc, b"aabc")?);
+    assert!(rt; stops_in(&mut sink, 1, 0, 1));
+    assert!(rt; stops_in(&mut sink, 0, 1, 2));
+    assert!(rt; stops_in(&mut sink, 3, 2, 3));
+    assert!(rt; stops_in(&mut sink, 0, 3, 4));
+    assert!(rt; write_all(&mut sink, b"") == Ok(()));
+    assert!(rt; sink.into_vec().as_slice() == b"aabc".as_slice());
     Ok(())
 }
 
@@ -224,12 +289,11 @@ fn faults_are_counted_on(rt: HostRuntime) -> Result<(), Fail> {
 fn plain_and_null_never_fail(rt: HostRuntime) -> Result<(), Fail> {
     let alloc = rt.alloc();
     let mut source = PlainSource::new(numbered(alloc, 3000)?);
-    assert_eq!(rt; read_all(alloc, &mut source, 3000)?, numbered(alloc, 3000)?);
-    assert_eq!(rt; read_all(alloc, &mut source, 0)?.len(), 0);
-    assert_eq!(rt; source.faults(), 0);
+    assert!(rt; read_all(alloc, &mut source, 3000)? == numbered(alloc, 3000)?);
+    assert!(rt; read_all(alloc, &mut source, 0)?.is_empty());
+    assert!(rt; source.faults() == 0);
     let mut sink = NullSink;
-    assert_eq!(rt; write_all(&mut sink, b"abc"), Ok(()));
-    assert_eq!(rt; sink.faults(), 0);
+    assert!(rt; write_all(&mut sink, b"abc") == Ok(()) && sink.faults() == 0);
     Ok(())
 }
 
@@ -237,27 +301,27 @@ fn plain_and_null_never_fail(rt: HostRuntime) -> Result<(), Fail> {
 fn std_readers_are_sources(rt: HostRuntime) -> Result<(), Fail> {
     let alloc = rt.alloc();
     let mut slice = StdSource::new(b"sprite".as_slice());
-    assert_eq!(rt; read_all(alloc, &mut slice, 5), Err(ReadEnd::TooLong));
+    assert!(rt; read_all(alloc, &mut slice, 5) == Err(ReadEnd::TooLong));
     let mut slice = StdSource::new(b"sprite".as_slice());
-    assert_eq!(rt;
-        read_all(alloc, &mut slice, 6)?,
-        Vec::from_slice(alloc, b"sprite")?
-    );
-    assert_eq!(rt; slice.faults(), 0);
-    assert_eq!(rt; slice.into_inner().len(), 0);
-    let mut faulty = StdSource::new(Faulty { calls: 0 });
+    assert!(rt; read_all(alloc, &mut slice, 6)?.as_slice() == b"sprite".as_slice());
+    assert!(rt; slice.faults() == 0 && slice.into_inner().is_empty());
+    Ok(())
+}
+
+fn reads_on(source: &mut StdSource<Faulty>, answer: Result<usize, Failed>, faults: u64) -> bool {
     let mut buf = [0; 8];
-    for (answer, faults) in [
-        (Ok(1), 0),
-        (Err(Failed), 1),
-        (Err(Failed), 2),
-        (Ok(0), 2),
-        (Ok(1), 2),
-    ] {
-        assert_eq!(rt; faulty.read(&mut buf), answer);
-        assert_eq!(rt; faulty.faults(), faults);
-    }
-    assert_eq!(rt; faulty.into_inner().calls, 5);
+    source.read(&mut buf) == answer && source.faults() == faults
+}
+
+#[test]
+fn std_readers_faults_are_counted(rt: HostRuntime) -> Result<(), Fail> {
+    let mut faulty = StdSource::new(Faulty { calls: 0 });
+    assert!(rt; reads_on(&mut faulty, Ok(1), 0));
+    assert!(rt; reads_on(&mut faulty, Err(Failed), 1));
+    assert!(rt; reads_on(&mut faulty, Err(Failed), 2));
+    assert!(rt; reads_on(&mut faulty, Ok(0), 2));
+    assert!(rt; reads_on(&mut faulty, Ok(1), 2));
+    assert!(rt; faulty.into_inner().calls == 5);
     Ok(())
 }
 
@@ -265,24 +329,33 @@ fn std_readers_are_sources(rt: HostRuntime) -> Result<(), Fail> {
 fn std_writers_are_sinks(rt: HostRuntime) -> Result<(), Fail> {
     let alloc = rt.alloc();
     let mut vector = StdSink::new(Vec::new(alloc));
-    assert_eq!(rt; write_all(&mut vector, b"spr"), Ok(()));
-    assert_eq!(rt; write_all(&mut vector, b"ite"), Ok(()));
-    assert_eq!(rt; vector.faults(), 0);
-    assert_eq!(rt; vector.into_inner(), Vec::from_slice(alloc, b"sprite")?);
+    assert!(rt; write_all(&mut vector, b"spr") == Ok(()));
+    assert!(rt; write_all(&mut vector, b"ite") == Ok(()));
+    assert!(rt; vector.faults() == 0);
+    assert!(rt; vector.into_inner().as_slice() == b"sprite".as_slice());
     let mut faulty = StdSink::new(Faulty { calls: 0 });
-    for (piece, answer, faults) in [
-        (b"ab".as_slice(), Ok(1), 0),
-        (b"b", Err(Failed), 1),
-        (b"b", Err(Failed), 2),
-        (b"b", Err(Failed), 3),
-        (b"", Ok(0), 3),
-        (b"b", Ok(1), 3),
-    ] {
-        assert_eq!(rt; faulty.write(piece), answer);
-        assert_eq!(rt; faulty.faults(), faults);
-    }
+    assert!(rt; write_all(&mut faulty, b"abcd") == Err(stopped(1)));
+    Ok(())
+}
+
+fn writes_on(
+    sink: &mut StdSink<Faulty>,
+    piece: &[u8],
+    answer: Result<usize, Failed>,
+    faults: u64,
+) -> bool {
+    sink.write(piece) == answer && sink.faults() == faults
+}
+
+#[test]
+fn std_writers_faults_are_counted(rt: HostRuntime) -> Result<(), Fail> {
     let mut faulty = StdSink::new(Faulty { calls: 0 });
-    assert_eq!(rt; write_all(&mut faulty, b"abcd"), Err(stopped(1)));
+    assert!(rt; writes_on(&mut faulty, b"ab", Ok(1), 0));
+    assert!(rt; writes_on(&mut faulty, b"b", Err(Failed), 1));
+    assert!(rt; writes_on(&mut faulty, b"b", Err(Failed), 2));
+    assert!(rt; writes_on(&mut faulty, b"b", Err(Failed), 3));
+    assert!(rt; writes_on(&mut faulty, b"", Ok(0), 3));
+    assert!(rt; writes_on(&mut faulty, b"b", Ok(1), 3));
     Ok(())
 }
 
