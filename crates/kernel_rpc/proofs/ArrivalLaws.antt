@@ -64,6 +64,24 @@ pub asked_again : (copy : PacketCopy) (o : Option Call) → arrival_of copy o �
 asked_again copy None e = absurd (cc)
 asked_again copy (Some call) e = (call, refl, has_kept (part_of copy.to call.receivers) call.reply (again_by copy.reply (arrival_back call.reply) (arrival_at (part_of copy.to call.receivers) call.reply) (no_again call.reply) e))
 
+has_answered : (part : Option Part) (reply : Option (List ℕ)) → arrival_at part reply ≡ AskedAgain → part ≡ Some Answered
+has_answered None reply e = absurd (cc)
+has_answered (Some Waiting) reply e = absurd (cc)
+has_answered (Some Holding) reply e = absurd (cc)
+has_answered (Some Silent) reply e = absurd (cc)
+has_answered (Some Answered) reply e = refl
+
+asked_by : (reply : Bool) (back at : Arrival) → (back ≡ AskedAgain → ⊥) → cond reply back at ≡ AskedAgain → (reply ≡ false) × (at ≡ AskedAgain)
+asked_by true back at away e = absurd (away e)
+asked_by false back at away e = (refl, e)
+
+-- and its receiver has answered
+pub asked_of : (copy : PacketCopy) (o : Option Call) → arrival_of copy o ≡ AskedAgain → (call : Call) × (o ≡ Some call) × (copy.reply ≡ false) × (part_of copy.to call.receivers ≡ Some Answered)
+asked_of copy None e = absurd (cc)
+asked_of copy (Some call) e =
+    let parts = asked_by copy.reply (arrival_back call.reply) (arrival_at (part_of copy.to call.receivers) call.reply) (no_again call.reply) e in
+    (call, refl, parts.0, has_answered (part_of copy.to call.receivers) call.reply parts.1)
+
 back_by : (reply : Bool) (back at : Arrival) → (at ≡ FirstReply → ⊥) → cond reply back at ≡ FirstReply → back ≡ FirstReply
 back_by true back at away e = e
 back_by false back at away e = absurd (away e)

@@ -16,3 +16,4 @@ pub mod OrderLaws
 pub mod TryLaws
 pub mod LossLaws
 pub mod ComeLaws
+pub mod OwnerLaws

@@ -45,7 +45,7 @@ later_less true x y z h = omega arith
 later_less false x y z h = h
 
 -- a change by which no call has more left
-left_changed : (left : Call → ℕ) (tx : ℕ) (p : Call → Bool) (f : Call → Call) → ((call : Call) → (f call).tx ≡ call.tx) → ((call : Call) → left (f call) ≤ left call) → (calls : List Call) → left_of left tx (changed p f calls) ≤ left_of left tx calls
+pub left_changed : (left : Call → ℕ) (tx : ℕ) (p : Call → Bool) (f : Call → Call) → ((call : Call) → (f call).tx ≡ call.tx) → ((call : Call) → left (f call) ≤ left call) → (calls : List Call) → left_of left tx (changed p f calls) ≤ left_of left tx calls
 left_changed left tx p f same fewer [] = omega arith
 left_changed left tx p f same fewer (call ∷ calls) =
     elim (p call) as (λ b. left_of left tx (cond b (f call ∷ calls) (call ∷ changed p f calls)) ≤ left_of left tx (call ∷ calls)) [ true ↦ subst (λ (key : TxNo). cond (key.0 == tx) (left (f call)) (left_of left tx calls) ≤ cond (call.tx.0 == tx) (left call) (left_of left tx calls)) (sym (same call)) (same_or_less (call.tx.0 == tx) (left (f call)) (left call) (left_of left tx calls) (fewer call)) | false ↦ later_less (call.tx.0 == tx) (left call) (left_of left tx (changed p f calls)) (left_of left tx calls) (left_changed left tx p f same fewer calls) ]
@@ -60,7 +60,7 @@ dropped_by left tx first last call calls h true e = let none = none_later left t
 dropped_by left tx first last call calls h false e = omega arith
 
 -- without a call no more is left
-left_dropped : (left : Call → ℕ) (tx : ℕ) (p : Call → Bool) (first last : ℕ) (calls : List Call) → IsNumbered first calls last → left_of left tx (less p calls) ≤ left_of left tx calls
+pub left_dropped : (left : Call → ℕ) (tx : ℕ) (p : Call → Bool) (first last : ℕ) (calls : List Call) → IsNumbered first calls last → left_of left tx (less p calls) ≤ left_of left tx calls
 left_dropped left tx p first last [] h = omega arith
 left_dropped left tx p first last (call ∷ calls) h =
     elim (p call) as (λ b. left_of left tx (cond b calls (call ∷ less p calls)) ≤ left_of left tx (call ∷ calls)) [ true ↦ dropped_by left tx first last call calls h (call.tx.0 == tx) refl | false ↦ later_less (call.tx.0 == tx) (left call) (left_of left tx (less p calls)) (left_of left tx calls) (left_dropped left tx p call.tx.0 last calls h.1) ]
@@ -79,7 +79,7 @@ left_pushed : (left : Call → ℕ) (tx : ℕ) (new : Call) (calls : List Call) 
 left_pushed left tx new [] e = ap (λ b. cond b (left new) 0) e
 left_pushed left tx new (call ∷ calls) e = ap (cond (call.tx.0 == tx) (left call)) (left_pushed left tx new calls e)
 
-left_bound : (left : Call → ℕ) (tx : ℕ) → ((call : Call) → left call ≤ 1) → (calls : List Call) → left_of left tx calls ≤ 1
+pub left_bound : (left : Call → ℕ) (tx : ℕ) → ((call : Call) → left call ≤ 1) → (calls : List Call) → left_of left tx calls ≤ 1
 left_bound left tx most [] = omega arith
 left_bound left tx most (call ∷ calls) = elim (call.tx.0 == tx) as (λ b. cond b (left call) (left_of left tx calls) ≤ 1) [ true ↦ most call | false ↦ left_bound left tx most calls ]
 
@@ -88,7 +88,7 @@ left_by left tx found call calls later true e = ap left (some_is call found e)
 left_by left tx found call calls later false e = later e
 
 -- what is left of the call that is found
-left_found : (left : Call → ℕ) (tx : ℕ) (found : Call) (calls : List Call) → find (λ (call : Call). call.tx.0 == tx) calls ≡ Some found → left_of left tx calls ≡ left found
+pub left_found : (left : Call → ℕ) (tx : ℕ) (found : Call) (calls : List Call) → find (λ (call : Call). call.tx.0 == tx) calls ≡ Some found → left_of left tx calls ≡ left found
 left_found left tx found [] e = absurd (cc)
 left_found left tx found (call ∷ calls) e = left_by left tx found call calls (left_found left tx found calls) (call.tx.0 == tx) e
 
@@ -99,7 +99,7 @@ spent_by left tx f found call calls same spent later true is e =
 spent_by left tx f found call calls same spent later false is e = ap (λ b. cond b (left call) (left_of left tx (changed (λ (call : Call). call.tx.0 == tx) f calls))) is ∙ later e
 
 -- nothing is left after a change by which the call has nothing left
-left_spent : (left : Call → ℕ) (tx : ℕ) (f : Call → Call) (found : Call) → ((call : Call) → (f call).tx ≡ call.tx) → left (f found) ≡ 0 → (calls : List Call) → find (λ (call : Call). call.tx.0 == tx) calls ≡ Some found → left_of left tx (changed (λ (call : Call). call.tx.0 == tx) f calls) ≡ 0
+pub left_spent : (left : Call → ℕ) (tx : ℕ) (f : Call → Call) (found : Call) → ((call : Call) → (f call).tx ≡ call.tx) → left (f found) ≡ 0 → (calls : List Call) → find (λ (call : Call). call.tx.0 == tx) calls ≡ Some found → left_of left tx (changed (λ (call : Call). call.tx.0 == tx) f calls) ≡ 0
 left_spent left tx f found same spent [] e = absurd (cc)
 left_spent left tx f found same spent (call ∷ calls) e = spent_by left tx f found call calls same spent (left_spent left tx f found same spent calls) (call.tx.0 == tx) refl e
 
@@ -297,7 +297,7 @@ reply_by : (machine : Machine) (copy : PacketCopy) → Ordered machine → arriv
 reply_by machine copy h is tx true e = subst (λ n. 1 + cond (nat_lt machine.begun n) 1 (left_of one_left n (less (is_call copy.tx) machine.unfinished)) ≤ total one_left n machine) (eqb-true copy.tx.0 tx e) (reply_strict machine copy h is)
 reply_by machine copy h is tx false e = let fewer = dropped_shrinks one_left tx copy.tx machine h in omega arith
 
-not_then : (a b : Bool) → b ≡ false → once_if (a && b) ≡ 0
+pub not_then : (a b : Bool) → b ≡ false → once_if (a && b) ≡ 0
 not_then true b e = ap once_if e
 not_then false b e = refl
 

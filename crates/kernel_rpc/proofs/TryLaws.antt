@@ -59,7 +59,7 @@ delivered_calls : (before : List Act) (o : Option PacketCopy) (given : Fate) (ma
 delivered_calls before None given machine h = h
 delivered_calls before (Some copy) given machine h = arrived_calls before (arrival machine copy) copy given machine h
 
-delivered_begun : (o : Option PacketCopy) (given : Fate) (machine : Machine) → (delivered_by o given machine).begun ≡ machine.begun
+pub delivered_begun : (o : Option PacketCopy) (given : Fate) (machine : Machine) → (delivered_by o given machine).begun ≡ machine.begun
 delivered_begun None given machine = refl
 delivered_begun (Some copy) given machine = arrived_begun (arrival machine copy) copy given machine
 

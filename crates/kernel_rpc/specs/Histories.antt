@@ -166,3 +166,7 @@ replies tx machine (Expire key sent) = false
 -- in each run, at most two copies of a call's reply come for each time that it was sent
 abbrev pub TwoRepliesEach : Type 0
 TwoRepliesEach = (counts : Counts) (steps : List (Act × Counts)) (tx : ℕ) → IsRun idle counts steps → times (brings (is_reply_for tx)) idle steps ≤ 2 * times (replies tx) idle steps
+
+-- in each run, at most four copies of a call's reply come for each time that its request was sent
+abbrev pub FourRepliesEach : Type 0
+FourRepliesEach = (counts : Counts) (steps : List (Act × Counts)) (tx : ℕ) → IsRun idle counts steps → times (brings (is_reply_for tx)) idle steps ≤ 4 * times (sends tx) idle steps

@@ -1,5 +1,5 @@
 ghost use Rattle.kernel_rpc.specs.Runs.{GivenUpForCause, RepliesAtMostOnce, RequestsAtMostOnce, StaysUntilAnswered};
-ghost use Rattle.kernel_rpc.specs.Histories.{CopiesDiffer, GivenUpAtEighth, LostBeforeExpiry, NumbersAreNew, TwoRepliesEach, TwoRequestsEach};
+ghost use Rattle.kernel_rpc.specs.Histories.{CopiesDiffer, FourRepliesEach, GivenUpAtEighth, LostBeforeExpiry, NumbersAreNew, TwoRepliesEach, TwoRequestsEach};
 ghost use Rattle.kernel_rpc.specs.Steps.{AnswerIsStep, BeginIsStep, BroadcastIsStep, DeliverIsStep, ExpireIsStep, SilentIsStep};
 
 use link_plan::Link;
@@ -56,8 +56,10 @@ pub fn a_packet_is_lost_before_a_timer_fires()
 {}
 
 /// A law: in each run, at most two copies of a call's request come to a kernel for each time that it was sent, and at most two of
-/// its reply to the caller for each time that that was sent.
-pub fn packets_come_twice_at_most()
+/// its reply to the caller for each time that that was sent; so at most four copies of the reply come for each time that the
+/// request was sent.
+pub fn packets_come_a_few_times_at_most()
     ensures requests { TwoRequestsEach }
     ensures replies { TwoRepliesEach }
+    ensures four { FourRepliesEach }
 {}
