@@ -9,7 +9,6 @@ use Rattle.process_machine.specs.declared.call.Reply.{Reply}
 use Rattle.process_machine.specs.declared.call.Reply.TheVariants.{Value, Error}
 use Rattle.process_machine.specs.declared.program.Program.{Program}
 use Rattle.process_machine.specs.Machine.{Machine}
-use Rattle.process_machine.specs.Calls.{Fits}
 use Rattle.process_machine.specs.Replies.{given}
 use Rattle.unix_calls.specs.declared.description.Description.{Description}
 use Rattle.unix_calls.specs.declared.description.KernelLine.{KernelLine}
@@ -23,16 +22,6 @@ use Rattle.sprite_cluster.specs.Turns.{image_after, kept_after, with_image}
 use Rattle.sprite_cluster.specs.Carried.{process_of, unix_of}
 use Rattle.call_journal.specs.Calls.{error_in, is_unreachable_error}
 use Rattle.sprite_cluster.proofs.BuiltLaws.{refused_by}
-
--- an answer has no more bytes than the call has room for
-host_fits : (max : ℕ) (name : List ℕ) (b : Bool) → nat_lt max (length name) ≡ b → Fits (call.Host max) (cond b (Error errno.Invalid) (Value (length name) 0 name))
-host_fits max name true h = tt
-host_fits max name false h = search (rules, tests, h)
-
-pub answer_fits : (kernels : List KernelLine) (ticks : List ℕ) (pid : ℕ) (called : Call) → Fits called (answer_of kernels ticks pid called)
-answer_fits kernels ticks pid (call.Host max) = host_fits max (kernel_name kernels (home_of pid)) (nat_lt max (length (kernel_name kernels (home_of pid)))) refl
-answer_fits kernels ticks pid (call.Refused e) = tt
-answer_fits kernels ticks pid _ = omega arith
 
 -- an answer isn't that something is unreachable, where the call wasn't refused so
 host_reached : (name : List ℕ) (b : Bool) → is_unreachable_error (error_in (Some (cond b (Error errno.Invalid) (Value (length name) 0 name)))) ≡ false
