@@ -1,5 +1,5 @@
 -- What each call keeps: each directory is listed once, and is named as one by the directory above it.
-use Rattle.std.proofs.Common.{◌≡◌, ℕ, zero, suc, ◌-◌, ◌≤◌, ◌<◌, ◌==◌, Bool, true, false, inl, inr, cond, List, [], ◌∷◌, ◌++◌, length, take, slice_get, Option, Some, None, Ok, refl, sym, ap, subst, ◌∙◌, arith}
+use Rattle.std.proofs.Common.{◌≡◌, ℕ, zero, suc, ◌-◌, ◌≤◌, ◌<◌, ◌==◌, Bool, true, false, inl, inr, cond, List, [], ◌∷◌, ◌++◌, length, take, slice_get, Option, Some, None, Ok, refl, sym, ap, subst, ◌∙◌, arith, length-append}
 use Rattle.std.specs.Map.{lookup, remove_entry, set_value}
 use Rattle.std.proofs.lemmas.List.{append-nil}
 use Rattle.std.proofs.lemmas.Bool.{cases_Bool, cond-true, cond-false, eqb-true, true≢false}
@@ -264,7 +264,7 @@ can_go tree path directory node h are =
           record {
             some = some;
             empty = removable_empty tree path directory there.0 node (sym (ap (removable_found tree path directory) there.1) ∙ answer)
-              (λ may. file_empty tree path there.0 some (found_entry tree path there.0 there.1 may) may are);
+                (λ may. file_empty tree path there.0 some (found_entry tree path there.0 there.1 may) may are);
           }
     ]
 
@@ -290,12 +290,12 @@ sound_removed tree path directory node h sound =
       directories = are_unlisted less above last (are_less tree path sound.directories);
       once = once_set less above (remove_entry (is_part last) (entries_in less above)) (once_less tree path sound.once);
       are_named = named_unlisted less above last
-        (λ d some has up end.
+          (λ d some has up end.
           let one = same_path d path some can.some up end in
           let here : 0 < count less path = subst (λ (x : List (List ℕ)). 0 < count less x) one has in
           let gone : 0 < 0 = subst (λ (x : Listed). 0 < length x) (ap or_empty (forgotten tree path sound.once)) here in
           absurd (omega arith))
-        (named_forgotten tree path sound.once can.empty sound.are_named);
+          (named_forgotten tree path sound.once can.empty sound.are_named);
     }
 
 target_way : (tree : Tree) (old new : List (List ℕ)) → rename_target tree old new ≡ Ok tt → walked tree [] (parent new) ≡ Ok tt
@@ -320,9 +320,41 @@ sound_renamed tree old new node h sound =
       directories = are_renamed tree old new node h sound.directories;
       once = once_set next (parent old) (remove_entry (is_part (last_of old)) (entries_in next (parent old))) (once_given tree above more sound.once);
       are_named = named_unlisted next (parent old) (last_of old)
-        (λ d some has up end.
+          (λ d some has up end.
           let here = subst (λ (x : List (List ℕ)). entry_in next x (last_of d) ≡ Some (Named Dir)) up (named_next d some has) in
           let there = subst (λ (p : List ℕ). entry_in next (parent old) p ≡ Some (Named Dir)) end here in
           not_dir node may (sym there ∙ from))
-        named_next;
+          named_next;
     }
+
+-- ---- a walk goes to the directory of each entry
+
+some_in : {K X : Type 0} (p : K → Bool) (es : List (K × X)) (v : X) → lookup p es ≡ Some v → 0 < length es
+some_in p [] v h = cc
+some_in p (e ∷ es) v h = omega arith
+
+walk_more : (tree : Tree) (here front : List (List ℕ)) (part : List ℕ) → walked tree here front ≡ Ok tt → entry_in tree (here ++ front) part ≡ Some (Named Dir) → walked tree here (front ++ part ∷ []) ≡ Ok tt
+walk_more tree here [] part way is =
+    ap (λ (o : Option Entry). goes_on {A = Unit {0}} (passed o) (Ok tt)) (subst (λ (d : List (List ℕ)). entry_in tree d part ≡ Some (Named Dir)) (append-nil here) is)
+walk_more tree here (first ∷ front) part way is =
+    let parts = goes_parts (passed (entry_in tree here first)) (walked tree (here ++ first ∷ []) front) tt way in
+    ap (λ r. goes_on r (walked tree (here ++ first ∷ []) (front ++ part ∷ []))) parts.0
+    ∙ walk_more tree (here ++ first ∷ []) front part parts.1 (subst (λ (d : List (List ℕ)). entry_in tree d part ≡ Some (Named Dir)) (sym (append_over here first front)) is)
+
+way_there : (n : ℕ) (tree : Tree) (d : List (List ℕ)) → length d ≤ n → AreNamed tree → 0 < count tree d → walked tree [] d ≡ Ok tt
+way_there zero tree [] short are has = refl
+way_there zero tree (part ∷ rest) short are has = absurd (omega arith)
+way_there (suc n) tree [] short are has = refl
+way_there (suc n) tree (part ∷ rest) short are has =
+    let d = part ∷ rest in
+    let some : 0 < length d = omega arith in
+    let is = are d some has in
+    let whole = ap length (split_path d some) in
+    let more = length-append (parent d) (last_of d ∷ []) in
+    let under : length (parent d) ≤ n = omega arith in
+    let above = way_there n tree (parent d) under are (some_in (is_part (last_of d)) (entries_in tree (parent d)) (Named Dir) is) in
+    subst (λ (ps : List (List ℕ)). walked tree [] ps ≡ Ok tt) (split_path d some) (walk_more tree [] (parent d) (last_of d) above is)
+
+pub hung_in : (tree : Tree) (path : List (List ℕ)) (entry : Entry) → IsSound tree → entry_at tree path ≡ Some entry → walked tree [] (parent path) ≡ Ok tt
+hung_in tree path entry sound is =
+    way_there (length (parent path)) tree (parent path) (omega arith) sound.are_named (some_in (is_part (last_of path)) (entries_in tree (parent path)) entry is)
