@@ -1,5 +1,5 @@
 -- The entries of one directory among all: found, put and taken out.
-use Rattle.std.proofs.Common.{◌≡◌, ℕ, zero, suc, ◌+◌, ◌<◌, Bool, true, false, inl, inr, List, [], ◌∷◌, ◌++◌, cond, length, get_or, slice_get, position, remove, is_some, Option, Some, None, Result, Ok, Err, OnErr, refl, sym, ap, ◌∙◌, arith}
+use Rattle.std.proofs.Common.{◌≡◌, ℕ, zero, suc, ◌+◌, ◌<◌, true, false, inl, inr, List, [], ◌∷◌, ◌++◌, cond, length, get_or, slice_get, position, remove, is_some, Option, Some, None, Result, Ok, Err, OnErr, refl, sym, ap, ◌∙◌, arith}
 use Rattle.std.specs.Map.{keys_of, values_of, lookup, remove_entry, set_value}
 use Rattle.std.proofs.lemmas.List.Quantifiers.{position-Some}
 use Rattle.std.proofs.lemmas.Bool.{cases_Bool, true≢false}
@@ -8,7 +8,7 @@ use Rattle.sprite_ids.proofs.ListLaws.{some_is}
 use Rattle.sprite_ids.proofs.OnceLaws.{less_here, not_less, none_found}
 use Rattle.indexmap.specs.IndexMap.{insert_entry, set_value_at}
 use Rattle.server_names.specs.declared.name.Entry.{Entry}
-use Rattle.server_names.specs.Names.{Tree, Listed, is_at, is_part, is_listed, or_empty, or_first, entries_in, listed_at, listed, unlisted}
+use Rattle.server_names.specs.Names.{Tree, Listed, is_at, is_part, is_listed, or_empty, entries_in, listed_at, listed, unlisted}
 
 -- the directory's place is the first that has its path
 abbrev FirstAt : List (List ℕ) → Tree → ℕ → Type 0

@@ -1,8 +1,8 @@
 -- What is found after an entry was put or taken out.
-use Rattle.std.proofs.Common.{◌≡◌, ℕ, zero, suc, ◌+◌, ◌-◌, ◌≤◌, ◌<◌, ◌==◌, nat_lt, nat_eq, Bool, true, false, inl, inr, cond, List, [], ◌∷◌, ◌++◌, length, take, Option, Some, None, Result, Ok, Err, refl, sym, ap, subst, ◌∙◌, arith, length-append}
+use Rattle.std.proofs.Common.{◌≡◌, ℕ, zero, suc, ◌+◌, ◌-◌, ◌≤◌, ◌<◌, ◌==◌, nat_lt, Bool, true, false, inl, inr, cond, List, [], ◌∷◌, ◌++◌, length, take, Option, Some, None, Result, Ok, Err, refl, sym, ap, subst, ◌∙◌, arith, length-append}
 use Rattle.std.specs.List.{AllByRecursion}
 use Rattle.std.specs.Map.{lookup, remove_entry, set_value}
-use Rattle.std.specs.Cmp.Lexicographic.{pointwise, pointwise_decides, bytes_decides}
+use Rattle.std.specs.Cmp.Lexicographic.{pointwise_decides, bytes_decides}
 use Rattle.std.proofs.lemmas.Bool.{cases_Bool, cond-true, cond-false, true≢false, ltb-true, ne_eqb}
 use Rattle.indexmap.specs.IndexMap.{insert_entry}
 use Rattle.sprite_ids.specs.declared.Errno.TheVariants.{NoEntry}
@@ -14,15 +14,19 @@ use Rattle.server_names.specs.declared.name.Entry.{Entry}
 use Rattle.server_names.specs.declared.name.Entry.TheVariants.{Node as Named, Link}
 use Rattle.server_names.specs.Names.{Tree, Listed, is_at, is_part, or_empty, entries_in, entry_in, entry_at, parent, last_of, listed, unlisted, goes_on, passed, walked, named, freed, found, roomy, make_answer, put, made, removable_found, remove_answer, removed, renamable, renamed_found, renamed_node, renamed, rename_target, AreOnce, IsDirectory, IsSound}
 
+-- what each directory keeps, of all of them
+abbrev pub AreDirectories : Tree → Type 0
+AreDirectories tree = AllByRecursion (λ directory. IsDirectory directory.1) tree
+
 -- ---- look-ups
 
-look_here : {K X : Type 0} (p : K → Bool) (e : K × X) (es : List (K × X)) → p e.0 ≡ true → lookup p (e ∷ es) ≡ Some e.1
+pub look_here : {K X : Type 0} (p : K → Bool) (e : K × X) (es : List (K × X)) → p e.0 ≡ true → lookup p (e ∷ es) ≡ Some e.1
 look_here p e es h = ap (λ b. cond b (Some e.1) (lookup p es)) h
 
-look_on : {K X : Type 0} (p : K → Bool) (e : K × X) (es : List (K × X)) → p e.0 ≡ false → lookup p (e ∷ es) ≡ lookup p es
+pub look_on : {K X : Type 0} (p : K → Bool) (e : K × X) (es : List (K × X)) → p e.0 ≡ false → lookup p (e ∷ es) ≡ lookup p es
 look_on p e es h = ap (λ b. cond b (Some e.1) (lookup p es)) h
 
-none_on : {K X : Type 0} (p : K → Bool) (e : K × X) (es : List (K × X)) → lookup p (e ∷ es) ≡ None → (p e.0 ≡ false) × (lookup p es ≡ None)
+pub none_on : {K X : Type 0} (p : K → Bool) (e : K × X) (es : List (K × X)) → lookup p (e ∷ es) ≡ None → (p e.0 ≡ false) × (lookup p es ≡ None)
 none_on p e es h =
     elim (cases_Bool (p e.0)) [
       | inl here ↦ absurd (let some : Some e.1 ≡ None = sym (look_here p e es here) ∙ h in cc)
@@ -44,7 +48,7 @@ look_other p (e ∷ es) k v none h =
     look_on p e (es ++ (k, v) ∷ []) parts.0 ∙ look_other p es k v parts.1 h
 
 -- what isn't there isn't there among fewer
-look_less : {K X : Type 0} (p t : K → Bool) (es : List (K × X)) → lookup p es ≡ None → lookup p (remove_entry t es) ≡ None
+pub look_less : {K X : Type 0} (p t : K → Bool) (es : List (K × X)) → lookup p es ≡ None → lookup p (remove_entry t es) ≡ None
 look_less p t [] none = refl
 look_less p t (e ∷ es) none =
     let parts = none_on p e es none in
@@ -52,16 +56,16 @@ look_less p t (e ∷ es) none =
 
 -- ---- paths and parts are told apart
 
-part_is : (part other : List ℕ) → is_part part other ≡ true → part ≡ other
+pub part_is : (part other : List ℕ) → is_part part other ≡ true → part ≡ other
 part_is part other = (bytes_decides part other).0
 
-part_itself : (part : List ℕ) → is_part part part ≡ true
+pub part_itself : (part : List ℕ) → is_part part part ≡ true
 part_itself part = (bytes_decides part part).1 refl
 
-path_is : (path other : List (List ℕ)) → is_at path other ≡ true → path ≡ other
+pub path_is : (path other : List (List ℕ)) → is_at path other ≡ true → path ≡ other
 path_is path other = (pointwise_decides bytes_decides path other).0
 
-path_itself : (path : List (List ℕ)) → is_at path path ≡ true
+pub path_itself : (path : List (List ℕ)) → is_at path path ≡ true
 path_itself path = (pointwise_decides bytes_decides path path).1 refl
 
 -- paths of two lengths are two
@@ -72,7 +76,7 @@ lengths_apart path other h =
       | inr apart ↦ apart
     ]
 
-part_turned : (part other : List ℕ) → is_part part other ≡ false → is_part other part ≡ false
+pub part_turned : (part other : List ℕ) → is_part part other ≡ false → is_part other part ≡ false
 part_turned part other h =
     elim (cases_Bool (is_part other part)) [
       | inl same ↦ absurd (true≢false (sym (subst (λ (p : List ℕ). is_part part p ≡ true) (sym (part_is other part same)) (part_itself part)) ∙ h))
@@ -82,7 +86,7 @@ part_turned part other h =
 -- ---- the entries of one directory
 
 -- the entries that a directory was given are its entries
-given_here : (tree : Tree) (d : List (List ℕ)) (w : Listed) → entries_in (insert_entry is_at tree d w) d ≡ w
+pub given_here : (tree : Tree) (d : List (List ℕ)) (w : Listed) → entries_in (insert_entry is_at tree d w) d ≡ w
 given_here [] d w = ap or_empty (look_here (is_at d) (d, w) [] (path_itself d))
 given_here (e ∷ es) d w =
     elim (cases_Bool (is_at d e.0)) [
@@ -91,7 +95,7 @@ given_here (e ∷ es) d w =
     ]
 
 -- where a look-up passes over the changed directory it gives what it gave
-given_other : (p : List (List ℕ) → Bool) (tree : Tree) (d : List (List ℕ)) (w : Listed) → p d ≡ false → lookup p (insert_entry is_at tree d w) ≡ lookup p tree
+pub given_other : (p : List (List ℕ) → Bool) (tree : Tree) (d : List (List ℕ)) (w : Listed) → p d ≡ false → lookup p (insert_entry is_at tree d w) ≡ lookup p tree
 given_other p [] d w h = look_on p (d, w) [] h
 given_other p (e ∷ es) d w h =
     elim (cases_Bool (is_at d e.0)) [
@@ -101,7 +105,7 @@ given_other p (e ∷ es) d w h =
       | inr on ↦ ap (λ b. lookup p (cond b ((e.0, w) ∷ es) (e ∷ insert_entry is_at es d w))) on ∙ ap (cond (p e.0) (Some e.1)) (given_other p es d w h)
     ]
 
-set_other : (p : List (List ℕ) → Bool) (tree : Tree) (d : List (List ℕ)) (w : Listed) → p d ≡ false → lookup p (set_value (is_at d) tree w) ≡ lookup p tree
+pub set_other : (p : List (List ℕ) → Bool) (tree : Tree) (d : List (List ℕ)) (w : Listed) → p d ≡ false → lookup p (set_value (is_at d) tree w) ≡ lookup p tree
 set_other p [] d w h = refl
 set_other p (e ∷ es) d w h =
     elim (cases_Bool (is_at d e.0)) [
@@ -111,7 +115,7 @@ set_other p (e ∷ es) d w h =
       | inr on ↦ ap (λ b. lookup p (cond b ((e.0, w) ∷ es) (e ∷ set_value (is_at d) es w))) on ∙ ap (cond (p e.0) (Some e.1)) (set_other p es d w h)
     ]
 
-less_other : (p : List (List ℕ) → Bool) (tree : Tree) (d : List (List ℕ)) → p d ≡ false → lookup p (remove_entry (is_at d) tree) ≡ lookup p tree
+pub less_other : (p : List (List ℕ) → Bool) (tree : Tree) (d : List (List ℕ)) → p d ≡ false → lookup p (remove_entry (is_at d) tree) ≡ lookup p tree
 less_other p [] d h = refl
 less_other p (e ∷ es) d h =
     elim (cases_Bool (is_at d e.0)) [
@@ -161,7 +165,7 @@ gone (e ∷ es) part once =
       | inr on ↦ ap (λ b. lookup (is_part part) (cond b es (e ∷ remove_entry (is_part part) es))) on ∙ look_on (is_part part) e (remove_entry (is_part part) es) on ∙ gone es part once.1
     ]
 
-few_less : (es : Listed) (t : List ℕ → Bool) → length (remove_entry t es) ≤ length es
+pub few_less : (es : Listed) (t : List ℕ → Bool) → length (remove_entry t es) ≤ length es
 few_less [] t = omega arith
 few_less (e ∷ es) t =
     let less = few_less es t in
@@ -177,40 +181,37 @@ pub directory_less : (es : Listed) (t : List ℕ → Bool) → IsDirectory es �
 directory_less es t is = record { few = let less = few_less es t in let few = is.few in omega arith; once = once_less es t is.once }
 
 -- the entries of any directory are those of a directory
-pub directory_in : (tree : Tree) (d : List (List ℕ)) → IsSound tree → IsDirectory (entries_in tree d)
+pub directory_in : (tree : Tree) (d : List (List ℕ)) → AreDirectories tree → IsDirectory (entries_in tree d)
 directory_in [] d sound = record { few = omega arith; once = tt }
 directory_in (e ∷ es) d sound =
     elim (is_at d e.0) as (λ b. IsDirectory (or_empty (cond b (Some e.1) (lookup (is_at d) es)))) [ true ↦ sound.0 | false ↦ directory_in es d sound.1 ]
 
-pub sound_given : (tree : Tree) (d : List (List ℕ)) (w : Listed) → IsDirectory w → IsSound tree → IsSound (insert_entry is_at tree d w)
-sound_given [] d w is sound = (is, tt)
-sound_given (e ∷ es) d w is sound =
-    elim (is_at d e.0) as (λ b. IsSound (cond b ((e.0, w) ∷ es) (e ∷ insert_entry is_at es d w))) [ true ↦ (is, sound.1) | false ↦ (sound.0, sound_given es d w is sound.1) ]
+pub are_given : (tree : Tree) (d : List (List ℕ)) (w : Listed) → IsDirectory w → AreDirectories tree → AreDirectories (insert_entry is_at tree d w)
+are_given [] d w is sound = (is, tt)
+are_given (e ∷ es) d w is sound =
+    elim (is_at d e.0) as (λ b. AreDirectories (cond b ((e.0, w) ∷ es) (e ∷ insert_entry is_at es d w))) [ true ↦ (is, sound.1) | false ↦ (sound.0, are_given es d w is sound.1) ]
 
-pub sound_set : (tree : Tree) (d : List (List ℕ)) (w : Listed) → IsDirectory w → IsSound tree → IsSound (set_value (is_at d) tree w)
-sound_set [] d w is sound = tt
-sound_set (e ∷ es) d w is sound =
-    elim (is_at d e.0) as (λ b. IsSound (cond b ((e.0, w) ∷ es) (e ∷ set_value (is_at d) es w))) [ true ↦ (is, sound.1) | false ↦ (sound.0, sound_set es d w is sound.1) ]
+pub are_set : (tree : Tree) (d : List (List ℕ)) (w : Listed) → IsDirectory w → AreDirectories tree → AreDirectories (set_value (is_at d) tree w)
+are_set [] d w is sound = tt
+are_set (e ∷ es) d w is sound =
+    elim (is_at d e.0) as (λ b. AreDirectories (cond b ((e.0, w) ∷ es) (e ∷ set_value (is_at d) es w))) [ true ↦ (is, sound.1) | false ↦ (sound.0, are_set es d w is sound.1) ]
 
-pub sound_less : (tree : Tree) (d : List (List ℕ)) → IsSound tree → IsSound (remove_entry (is_at d) tree)
-sound_less [] d sound = tt
-sound_less (e ∷ es) d sound =
-    elim (is_at d e.0) as (λ b. IsSound (cond b es (e ∷ remove_entry (is_at d) es))) [ true ↦ sound.1 | false ↦ (sound.0, sound_less es d sound.1) ]
+pub are_less : (tree : Tree) (d : List (List ℕ)) → AreDirectories tree → AreDirectories (remove_entry (is_at d) tree)
+are_less [] d sound = tt
+are_less (e ∷ es) d sound =
+    elim (is_at d e.0) as (λ b. AreDirectories (cond b es (e ∷ remove_entry (is_at d) es))) [ true ↦ sound.1 | false ↦ (sound.0, are_less es d sound.1) ]
 
-pub sound_unlisted : (tree : Tree) (d : List (List ℕ)) (part : List ℕ) → IsSound tree → IsSound (unlisted tree d part)
-sound_unlisted tree d part sound =
-    sound_set tree d (remove_entry (is_part part) (entries_in tree d)) (directory_less (entries_in tree d) (is_part part) (directory_in tree d sound)) sound
-
-pub sound_removed : (tree : Tree) (path : List (List ℕ)) → IsSound tree → IsSound (removed tree path)
-sound_removed tree path sound = sound_unlisted (remove_entry (is_at path) tree) (parent path) (last_of path) (sound_less tree path sound)
+pub are_unlisted : (tree : Tree) (d : List (List ℕ)) (part : List ℕ) → AreDirectories tree → AreDirectories (unlisted tree d part)
+are_unlisted tree d part sound =
+    are_set tree d (remove_entry (is_part part) (entries_in tree d)) (directory_less (entries_in tree d) (is_part part) (directory_in tree d sound)) sound
 
 -- ---- what answers say
 
-goes_parts : {A : Type 0} (r : Result (Unit {0}) NameEnd) (next : Result A NameEnd) (x : A) → goes_on r next ≡ Ok x → (r ≡ Ok tt) × (next ≡ Ok x)
+pub goes_parts : {A : Type 0} (r : Result (Unit {0}) NameEnd) (next : Result A NameEnd) (x : A) → goes_on r next ≡ Ok x → (r ≡ Ok tt) × (next ≡ Ok x)
 goes_parts (Ok tt) next x h = (refl, h)
 goes_parts (Err end) next x h = cc
 
-freed_none : (o : Option Entry) → freed o ≡ Ok tt → o ≡ None
+pub freed_none : (o : Option Entry) → freed o ≡ Ok tt → o ≡ None
 freed_none None h = refl
 freed_none (Some (Named node)) h = cc
 freed_none (Some (Link path)) h = cc
@@ -229,7 +230,7 @@ room_of tree d h =
       | inr full ↦ absurd (let refused = sym (cond-false (nat_lt (length (entries_in tree d)) 256) _ _ full) ∙ h in cc)
     ]
 
-positive : (n : ℕ) → (n == 0) ≡ false → 0 < n
+pub positive : (n : ℕ) → (n == 0) ≡ false → 0 < n
 positive zero h = absurd (true≢false h)
 positive (suc n) h = omega arith
 
@@ -261,7 +262,7 @@ made_found tree path node h =
     in
     cond-false (length path == 0) _ _ (not_root path can.some) ∙ ap (λ r. goes_on r (named (entry_at next path))) way ∙ ap named entry
 
-removable_ok : (tree : Tree) (path : List (List ℕ)) (directory : Bool) (node : Node) (r : Result Node NameEnd) → removable_found tree path directory r ≡ Ok node → (n : Node) × (r ≡ Ok n)
+pub removable_ok : (tree : Tree) (path : List (List ℕ)) (directory : Bool) (node : Node) (r : Result Node NameEnd) → removable_found tree path directory r ≡ Ok node → (n : Node) × (r ≡ Ok n)
 removable_ok tree path directory node (Ok n) h = (n, refl)
 removable_ok tree path directory node (Err end) h = cc
 
@@ -288,17 +289,17 @@ removed_gone tree path directory node sound h =
           (λ d under. ap or_empty (set_other (is_at d) less above rest (lengths_apart d above (λ e. omega arith)) ∙ less_other (is_at d) tree path (lengths_apart d path (λ e. omega arith))))
           (omega arith) ∙ walk.0
           in
-          let entry : entry_at next path ≡ None = set_look less above rest last (gone (entries_in less above) last (directory_in less above (sound_less tree path sound)).once) in
+          let entry : entry_at next path ≡ None = set_look less above rest last (gone (entries_in less above) last (directory_in less above (are_less tree path sound.directories)).once) in
           cond-false (length path == 0) _ _ below ∙ ap (λ r. goes_on r (named (entry_at next path))) way ∙ ap named entry
     ]
 
 -- ---- what each call keeps
 
-pub sound_made : (tree : Tree) (path : List (List ℕ)) (entry : Entry) → make_answer tree path ≡ Ok tt → IsSound tree → IsSound (put tree path entry)
-sound_made tree path entry h sound =
+pub are_made : (tree : Tree) (path : List (List ℕ)) (entry : Entry) → make_answer tree path ≡ Ok tt → AreDirectories tree → AreDirectories (put tree path entry)
+are_made tree path entry h sound =
     let can = can_be_made tree path h in
     let entries = entries_in tree (parent path) in
-    sound_given tree (parent path) (entries ++ (last_of path, entry) ∷ []) (directory_push entries (last_of path) entry can.room can.free (directory_in tree (parent path) sound)) sound
+    are_given tree (parent path) (entries ++ (last_of path, entry) ∷ []) (directory_push entries (last_of path) entry can.room can.free (directory_in tree (parent path) sound)) sound
 
 few_moved : (es : Listed) (t : List ℕ → Bool) (v : Entry) (part : List ℕ) (entry : Entry) → lookup t es ≡ Some v → length (remove_entry t (es ++ (part, entry) ∷ [])) ≡ length es
 few_moved [] t v part entry h = cc
@@ -310,19 +311,19 @@ few_moved (e ∷ es) t v part entry h =
     ]
 
 -- a directory's entries given and then given anew
-sound_set_given : (tree : Tree) (d : List (List ℕ)) (v w : Listed) → IsDirectory w → IsSound tree → IsSound (set_value (is_at d) (insert_entry is_at tree d v) w)
-sound_set_given [] d v w is sound = subst (λ b. IsSound (cond b ((d, w) ∷ []) ((d, v) ∷ []))) (sym (path_itself d)) (is, tt)
-sound_set_given (e ∷ es) d v w is sound =
+are_set_given : (tree : Tree) (d : List (List ℕ)) (v w : Listed) → IsDirectory w → AreDirectories tree → AreDirectories (set_value (is_at d) (insert_entry is_at tree d v) w)
+are_set_given [] d v w is sound = subst (λ b. AreDirectories (cond b ((d, w) ∷ []) ((d, v) ∷ []))) (sym (path_itself d)) (is, tt)
+are_set_given (e ∷ es) d v w is sound =
     elim (cases_Bool (is_at d e.0)) [
-      | inl here ↦ subst (λ b. IsSound (set_value (is_at d) (cond b ((e.0, v) ∷ es) (e ∷ insert_entry is_at es d v)) w)) (sym here)
-          (subst (λ b. IsSound (cond b ((e.0, w) ∷ es) ((e.0, v) ∷ set_value (is_at d) es w))) (sym here) (is, sound.1))
-      | inr on ↦ subst (λ b. IsSound (set_value (is_at d) (cond b ((e.0, v) ∷ es) (e ∷ insert_entry is_at es d v)) w)) (sym on)
-          (subst (λ b. IsSound (cond b ((e.0, w) ∷ insert_entry is_at es d v) (e ∷ set_value (is_at d) (insert_entry is_at es d v) w))) (sym on) (sound.0, sound_set_given es d v w is sound.1))
+      | inl here ↦ subst (λ b. AreDirectories (set_value (is_at d) (cond b ((e.0, v) ∷ es) (e ∷ insert_entry is_at es d v)) w)) (sym here)
+          (subst (λ b. AreDirectories (cond b ((e.0, w) ∷ es) ((e.0, v) ∷ set_value (is_at d) es w))) (sym here) (is, sound.1))
+      | inr on ↦ subst (λ b. AreDirectories (set_value (is_at d) (cond b ((e.0, v) ∷ es) (e ∷ insert_entry is_at es d v)) w)) (sym on)
+          (subst (λ b. AreDirectories (cond b ((e.0, w) ∷ insert_entry is_at es d v) (e ∷ set_value (is_at d) (insert_entry is_at es d v) w))) (sym on) (sound.0, are_set_given es d v w is sound.1))
     ]
 
 -- an entry that changes its name within its directory
-sound_moved : (tree : Tree) (d : List (List ℕ)) (old new : List ℕ) (v entry : Entry) → entry_in tree d old ≡ Some v → entry_in tree d new ≡ None → IsSound tree → IsSound (unlisted (listed tree d new entry) d old)
-sound_moved tree d old new v entry there free sound =
+are_moved : (tree : Tree) (d : List (List ℕ)) (old new : List ℕ) (v entry : Entry) → entry_in tree d old ≡ Some v → entry_in tree d new ≡ None → AreDirectories tree → AreDirectories (unlisted (listed tree d new entry) d old)
+are_moved tree d old new v entry there free sound =
     let es = entries_in tree d in
     let more = es ++ (new, entry) ∷ [] in
     let is = directory_in tree d sound in
@@ -330,29 +331,29 @@ sound_moved tree d old new v entry there free sound =
       few = let same = few_moved es (is_part old) v new entry there in let few = is.few in omega arith;
       once = once_less more (is_part old) (once_push es new entry free is.once);
     } in
-    subst (λ (w : Listed). IsSound (set_value (is_at d) (listed tree d new entry) (remove_entry (is_part old) w))) (sym (given_here tree d more))
-    (sound_set_given tree d more (remove_entry (is_part old) more) kept sound)
+    subst (λ (w : Listed). AreDirectories (set_value (is_at d) (listed tree d new entry) (remove_entry (is_part old) w))) (sym (given_here tree d more))
+    (are_set_given tree d more (remove_entry (is_part old) more) kept sound)
 
 abbrev node_of : Result Node NameEnd → Node
 node_of (Ok node) = node
 node_of (Err end) = Dir
 
-ok_is : (x y : Node) → (◌≡◌ {A = Result Node NameEnd} (Ok x) (Ok y)) → x ≡ y
+pub ok_is : (x y : Node) → (◌≡◌ {A = Result Node NameEnd} (Ok x) (Ok y)) → x ≡ y
 ok_is x y e = ap node_of e
 
-named_is : (o : Option Entry) (node : Node) → named o ≡ Ok node → o ≡ Some (Named node)
+pub named_is : (o : Option Entry) (node : Node) → named o ≡ Ok node → o ≡ Some (Named node)
 named_is None node h = cc
 named_is (Some (Named n)) node h = ap (λ m. Some (Named m)) (ok_is n node h)
 named_is (Some (Link path)) node h = cc
 
-renamed_parts : (r : Result Node NameEnd) (target : Result (Unit {0}) NameEnd) (node : Node) → renamed_found r target ≡ Ok node → (r ≡ Ok node) × ((renamable node ≡ Ok tt) × (target ≡ Ok tt))
+pub renamed_parts : (r : Result Node NameEnd) (target : Result (Unit {0}) NameEnd) (node : Node) → renamed_found r target ≡ Ok node → (r ≡ Ok node) × ((renamable node ≡ Ok tt) × (target ≡ Ok tt))
 renamed_parts (Err end) target node h = cc
 renamed_parts (Ok n) target node h =
     let first = goes_parts (renamable n) (goes_on target (Ok n)) node h in
     let second = goes_parts target (Ok n) node first.1 in
     (second.1, (subst (λ (m : Node). renamable m ≡ Ok tt) (ok_is n node second.1) first.0, second.0))
 
-found_entry : (tree : Tree) (path : List (List ℕ)) (node : Node) → found tree path ≡ Ok node → renamable node ≡ Ok tt → entry_at tree path ≡ Some (Named node)
+pub found_entry : (tree : Tree) (path : List (List ℕ)) (node : Node) → found tree path ≡ Ok node → renamable node ≡ Ok tt → entry_at tree path ≡ Some (Named node)
 found_entry tree path node h may =
     elim (cases_Bool (length path == 0)) [
       | inl root ↦ absurd (
@@ -363,8 +364,8 @@ found_entry tree path node h may =
           named_is (entry_at tree path) node walk.1
     ]
 
-pub sound_renamed : (tree : Tree) (old new : List (List ℕ)) (node : Node) → renamed_node tree old new ≡ Ok node → IsSound tree → IsSound (renamed tree old new node)
-sound_renamed tree old new node h sound =
+pub are_renamed : (tree : Tree) (old new : List (List ℕ)) (node : Node) → renamed_node tree old new ≡ Ok node → AreDirectories tree → AreDirectories (renamed tree old new node)
+are_renamed tree old new node h sound =
     let parts = renamed_parts (found tree old) (rename_target tree old new) node h in
     let from = found_entry tree old node parts.0 parts.1.0 in
     let above = parent old in
@@ -379,11 +380,11 @@ sound_renamed tree old new node h sound =
           elim (cases_Bool (is_at above below)) [
             | inl same ↦
                 let one = path_is above below same in
-                subst (λ (d : List (List ℕ)). IsSound (unlisted (listed tree below (last_of new) (Named node)) d (last_of old))) (sym one)
-                (sound_moved tree below (last_of old) (last_of new) (Named node) (Named node) (subst (λ (d : List (List ℕ)). entry_in tree d (last_of old) ≡ Some (Named node)) one from) free sound)
+                subst (λ (d : List (List ℕ)). AreDirectories (unlisted (listed tree below (last_of new) (Named node)) d (last_of old))) (sym one)
+                (are_moved tree below (last_of old) (last_of new) (Named node) (Named node) (subst (λ (d : List (List ℕ)). entry_in tree d (last_of old) ≡ Some (Named node)) one from) free sound)
             | inr apart ↦
                 let fits = room_of tree below (sym (cond-false (is_at above below) _ _ apart) ∙ last.1) in
-                sound_unlisted (made tree new node) above (last_of old)
-                (sound_given tree below (entries_in tree below ++ (last_of new, Named node) ∷ []) (directory_push (entries_in tree below) (last_of new) (Named node) fits free (directory_in tree below sound)) sound)
+                are_unlisted (made tree new node) above (last_of old)
+                (are_given tree below (entries_in tree below ++ (last_of new, Named node) ∷ []) (directory_push (entries_in tree below) (last_of new) (Named node) fits free (directory_in tree below sound)) sound)
           ]
     ]

@@ -1,5 +1,5 @@
 -- The names of a directory's entries in the order of their bytes.
-use Rattle.std.proofs.Common.{◌≡◌, ℕ, zero, suc, ◌+◌, ◌<◌, List, [], ◌∷◌, Bool, map, get_or, ap, subst, ◌∙◌, arith}
+use Rattle.std.proofs.Common.{◌+◌, ◌<◌, List, [], ◌∷◌, Bool, map, get_or, ap, subst, ◌∙◌, arith}
 use Rattle.std.specs.List.Sorted.{IsSortedBy}
 use Rattle.std.proofs.lemmas.List.{get_or-map, length-map}
 

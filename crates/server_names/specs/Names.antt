@@ -1,5 +1,5 @@
 -- The names of one domain, below its root.
-use Rattle.std.specs.Prelude.{◌≡◌, ℕ, ◌+◌, ◌-◌, ◌≤◌, ◌==◌, nat_lt, nat_eq, Bool, true, false, if◌then◌else◌, List, [], ◌∷◌, ◌++◌, length, take, slice_get, Option, Some, None, Result, Ok, Err}
+use Rattle.std.specs.Prelude.{◌≡◌, ℕ, ◌+◌, ◌-◌, ◌≤◌, ◌<◌, ◌==◌, nat_lt, nat_eq, Bool, true, false, if◌then◌else◌, List, [], ◌∷◌, ◌++◌, length, take, slice_get, Option, Some, None, Result, Ok, Err}
 use Rattle.std.specs.List.{AllByRecursion, flat_map}
 use Rattle.std.specs.List.Sorted.{IsPermutation, IsSorted}
 use Rattle.std.specs.Ordering.{nat_cmp}
@@ -269,6 +269,17 @@ pub record IsDirectory (entries : Listed) : Type 0 where
   pub few : length entries ≤ 256
   pub once : AreOnce entries
 
+-- each directory is listed once
+abbrev pub AreListedOnce : Tree → Type 0
+AreListedOnce [] = Unit {0}
+AreListedOnce (first ∷ rest) = (lookup (is_at first.0) rest ≡ None) × AreListedOnce rest
+
+-- each directory that has entries, but the root, is named as a directory by the one above it
+abbrev pub AreNamed : Tree → Type 0
+AreNamed tree = (directory : List (List ℕ)) → 0 < length directory → 0 < count tree directory → entry_at tree directory ≡ Some (Named Dir)
+
 -- what the names of a domain keep
-abbrev pub IsSound : Tree → Type 0
-IsSound tree = AllByRecursion (λ directory. IsDirectory directory.1) tree
+pub record IsSound (tree : Tree) : Type 0 where
+  pub directories : AllByRecursion (λ directory. IsDirectory directory.1) tree
+  pub once : AreListedOnce tree
+  pub are_named : AreNamed tree

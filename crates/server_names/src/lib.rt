@@ -10,6 +10,6 @@ mod name;
 mod names;
 
 pub use end::NameEnd;
-pub use laws::{made_is_found, removed_is_gone};
+pub use laws::{entries_hang_in_directories, made_is_found, removed_is_gone};
 pub use name::{Entry, Name, Node};
 pub use names::Names;

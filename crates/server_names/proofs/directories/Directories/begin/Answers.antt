@@ -1,6 +1,6 @@
 use Rattle.std.proofs.Common.{◌∷◌, [], ap, ◌++◌, ◌∙◌}
 use Rattle.indexmap.specs.IndexMap.{insert_entry}
-use Rattle.server_names.specs.Names.{Tree, Listed, is_at}
+use Rattle.server_names.specs.Names.{Listed, is_at}
 use Rattle.server_names.proofs.directories.Directories.begin.Goals as goal
 
 pub returns-clause-ok : goal.returns-clause-ok

@@ -1,5 +1,4 @@
-use Rattle.std.proofs.Common.{◌∙◌, sym, ap}
-use Rattle.std.specs.Map.{keys_of}
+use Rattle.std.proofs.Common.{◌∙◌, sym}
 use Rattle.server_names.proofs.DirectoryLaws.{absent, taken_there, none_taken_there}
 use Rattle.server_names.proofs.directories.Directories.take.Goals as goal
 

@@ -1,6 +1,6 @@
 use Rattle.std.proofs.Common.{sym, subst}
 use Rattle.server_names.specs.Names.{IsSound}
-use Rattle.server_names.proofs.FoundLaws.{sound_made}
+use Rattle.server_names.proofs.SoundLaws.{sound_made}
 use Rattle.server_names.proofs.names.Names.enter.Goals as goal
 
 pub invariant_of-self-2 : goal.invariant_of-self-2

@@ -1,4 +1,4 @@
-use Rattle.std.proofs.Common.{[], ◌+◌, Result, Err, subst, sym, ◌∙◌, drop}
+use Rattle.std.proofs.Common.{◌+◌, Result, Err, subst, sym, ◌∙◌, drop}
 use Rattle.server_names.specs.declared.end.NameEnd.{NameEnd}
 use Rattle.server_names.specs.declared.name.Entry.TheVariants.{Link}
 use Rattle.server_names.specs.Names.{Tree, booted, hung_all, done, Answers}

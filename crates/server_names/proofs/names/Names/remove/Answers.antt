@@ -1,9 +1,16 @@
-use Rattle.std.proofs.Common.{sym, subst}
-use Rattle.server_names.specs.Names.{IsSound}
-use Rattle.server_names.proofs.FoundLaws.{sound_less, sound_unlisted}
+use Rattle.std.proofs.Common.{ℕ, List, sym, ap, subst, ◌∙◌}
+use Rattle.std.specs.Map.{remove_entry}
+use Rattle.server_names.specs.Names.{Tree, is_at, parent, unlisted, IsSound}
+use Rattle.server_names.proofs.SoundLaws.{sound_removed}
 use Rattle.server_names.proofs.names.Names.remove.Goals as goal
 
 pub invariant_of-self : goal.invariant_of-self
 invariant_of-self c =
-    subst IsSound (sym c.take.ensures)
-    (sound_unlisted c.forget.new.self c.in_ok-above.above c.last_of.result.now (subst IsSound (sym c.forget.ensures) (sound_less c.self.inside.tree c.in_ok-name.name c.self.invariant)))
+    let tree = c.self.inside.tree in
+    let path = c.parts-path.result.now in
+    let after = c.take.ensures
+    ∙ ap (λ (t : Tree). unlisted t c.in_ok-above.above c.last_of.result.now) c.forget.ensures
+    ∙ ap (λ (p : List (List ℕ)). unlisted (remove_entry (is_at p) tree) c.in_ok-above.above c.last_of.result.now) c.in_ok-name.ensures
+    ∙ ap (λ (d : List (List ℕ)). unlisted (remove_entry (is_at path) tree) d c.last_of.result.now) (c.in_ok-above.ensures ∙ c.parent.ensures)
+    ∙ ap (λ (p : List ℕ). unlisted (remove_entry (is_at path) tree) (parent path) p) c.last_of.ensures in
+    subst IsSound (sym after) (sound_removed tree path c.args.directory c.in_ok-node.node c.in_ok-node.ensures c.self.invariant)

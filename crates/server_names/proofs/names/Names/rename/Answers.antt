@@ -1,6 +1,6 @@
 use Rattle.std.proofs.Common.{ℕ, List, sym, ap, subst, ◌∙◌}
 use Rattle.server_names.specs.Names.{Tree, parent, made, unlisted, IsSound}
-use Rattle.server_names.proofs.FoundLaws.{sound_renamed}
+use Rattle.server_names.proofs.SoundLaws.{sound_renamed}
 use Rattle.server_names.proofs.names.Names.rename.Goals as goal
 
 pub invariant_of-self-2 : goal.invariant_of-self-2
