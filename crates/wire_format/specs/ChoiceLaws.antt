@@ -1,16 +1,16 @@
 -- Choices of a few are read as they were spelled.
 use Rattle.std.proofs.Common.{◌≡◌, Bool, true, false, nat_eq, [], ◌∷◌, Some, refl}
 use Rattle.std.specs.List.{find}
-use Rattle.wire_format.specs.declared.name_op.NameOp.{NameOp}
-use Rattle.wire_format.specs.declared.name_op.NameOp.TheVariants as ops
-use Rattle.wire_format.specs.declared.file_op.FileOp.{FileOp}
-use Rattle.wire_format.specs.declared.file_op.FileOp.TheVariants as files
+use Rattle.packet_bodies.specs.declared.NameOp.{NameOp}
+use Rattle.packet_bodies.specs.declared.NameOp.TheVariants as ops
+use Rattle.packet_bodies.specs.declared.FileOp.{FileOp}
+use Rattle.packet_bodies.specs.declared.FileOp.TheVariants as files
 use Rattle.sprite_ids.specs.declared.CallKind.{CallKind}
 use Rattle.sprite_ids.specs.declared.CallKind.TheVariants as kinds
 use Rattle.sprite_ids.specs.declared.AskKind.{AskKind}
 use Rattle.sprite_ids.specs.declared.AskKind.TheVariants as asks
-use Rattle.wire_format.specs.declared.carried_mode.CarriedMode.{CarriedMode}
-use Rattle.wire_format.specs.declared.carried_mode.CarriedMode.TheVariants as modes
+use Rattle.packet_bodies.specs.declared.CarriedMode.{CarriedMode}
+use Rattle.packet_bodies.specs.declared.CarriedMode.TheVariants as modes
 use Rattle.wire_format.specs.Codec.{IsCodec}
 use Rattle.wire_format.specs.CodecLaws.{numbered_is}
 use Rattle.wire_format.specs.Choices.{name_op, name_op_number, name_ops, file_op, file_op_number, file_ops, call_kind, call_kind_number, call_kinds, ask_kind, ask_kind_number, ask_kinds, carried_mode, carried_mode_number, carried_modes, caching, caching_number}

@@ -1,17 +1,15 @@
 -- How choices of a few are spelled: each has a number.
-use Rattle.std.specs.Prelude.{ℕ, Bool, true, false, List, [], ◌∷◌, Option, Some, None}
-use Rattle.wire_format.specs.declared.name_op.NameOp.{NameOp}
-use Rattle.wire_format.specs.declared.name_op.NameOp.TheVariants as ops
-use Rattle.wire_format.specs.declared.file_op.FileOp.{FileOp}
-use Rattle.wire_format.specs.declared.file_op.FileOp.TheVariants as files
+use Rattle.std.specs.Prelude.{ℕ, Bool, true, false, List, [], ◌∷◌}
+use Rattle.packet_bodies.specs.declared.NameOp.{NameOp}
+use Rattle.packet_bodies.specs.declared.NameOp.TheVariants as ops
+use Rattle.packet_bodies.specs.declared.FileOp.{FileOp}
+use Rattle.packet_bodies.specs.declared.FileOp.TheVariants as files
 use Rattle.sprite_ids.specs.declared.CallKind.{CallKind}
 use Rattle.sprite_ids.specs.declared.CallKind.TheVariants as kinds
 use Rattle.sprite_ids.specs.declared.AskKind.{AskKind}
 use Rattle.sprite_ids.specs.declared.AskKind.TheVariants as asks
-use Rattle.wire_format.specs.declared.carried_mode.CarriedMode.{CarriedMode}
-use Rattle.wire_format.specs.declared.carried_mode.CarriedMode.TheVariants as modes
-use Rattle.sprite_ids.specs.declared.Mode.{Mode}
-use Rattle.sprite_ids.specs.declared.Mode.TheVariants as open_for
+use Rattle.packet_bodies.specs.declared.CarriedMode.{CarriedMode}
+use Rattle.packet_bodies.specs.declared.CarriedMode.TheVariants as modes
 use Rattle.wire_format.specs.Codec.{Codec, numbered}
 
 abbrev pub name_op_number : NameOp → ℕ
@@ -76,31 +74,6 @@ carried_modes = modes.Read ∷ modes.Write ∷ modes.Both ∷ modes.AppendingWri
 
 abbrev pub carried_mode : Codec CarriedMode
 carried_mode = numbered carried_mode_number carried_modes
-
--- what a stream was opened for
-abbrev pub mode_of : CarriedMode → Mode
-mode_of modes.Read = open_for.Read
-mode_of modes.Write = open_for.Write
-mode_of modes.Both = open_for.Both
-mode_of modes.AppendingWrite = open_for.Write
-mode_of modes.AppendingBoth = open_for.Both
-
--- whether it appends
-abbrev pub appends : CarriedMode → Bool
-appends modes.Read = false
-appends modes.Write = false
-appends modes.Both = false
-appends modes.AppendingWrite = true
-appends modes.AppendingBoth = true
-
--- the mode of both, where there is one
-abbrev pub carried : Mode → Bool → Option CarriedMode
-carried open_for.Read false = Some modes.Read
-carried open_for.Read true = None
-carried open_for.Write false = Some modes.Write
-carried open_for.Write true = Some modes.AppendingWrite
-carried open_for.Both false = Some modes.Both
-carried open_for.Both true = Some modes.AppendingBoth
 
 -- whether a file may be cached: 1 On, 2 Off
 abbrev pub caching_number : Bool → ℕ

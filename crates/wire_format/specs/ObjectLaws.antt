@@ -8,10 +8,10 @@ use Rattle.sprite_ids.proofs.ListLaws.{each_weaken}
 use Rattle.sprite_paths.specs.Path.{text_of, clean_path, IsPath}
 use Rattle.sprite_paths.proofs.PathLaws.{clean_again, cleaned_path}
 use Rattle.process_machine.specs.Machine.{IsPage, ArePages}
-use Rattle.wire_format.specs.declared.target.Target.{Target}
-use Rattle.wire_format.specs.declared.home_call.HomeCall.{HomeCall}
-use Rattle.wire_format.specs.declared.target.Target.TheVariants.{File, Device}
-use Rattle.wire_format.specs.declared.home_call.HomeCall.TheVariants.{Print, Exit, Getppid, Host, Tick, Fork, Wait, Kill}
+use Rattle.packet_bodies.specs.declared.Target.{Target}
+use Rattle.packet_bodies.specs.declared.HomeCall.{HomeCall}
+use Rattle.packet_bodies.specs.declared.Target.TheVariants.{File, Device}
+use Rattle.packet_bodies.specs.declared.HomeCall.TheVariants.{Print, Exit, Getppid, Host, Tick, Fork, Wait, Kill}
 use Rattle.wire_format.specs.Codec.{IsCodec, found, made, text, optional, row}
 use Rattle.wire_format.specs.CodecLaws.{before_is, made_of_is, chosen_by_is, passed_is, within_is, nothing_is, IsRow, row_is, tagged_is, optional_is}
 use Rattle.wire_format.specs.NumberLaws.{byte_is, number16_is, number32_is, number64_is}

@@ -8,11 +8,11 @@ use Rattle.sprite_ids.specs.declared.BlockNo.{BlockNo}
 use Rattle.sprite_ids.specs.declared.TxNo.{TxNo}
 use Rattle.sprite_ids.specs.declared.Grant.{Grant}
 use Rattle.sprite_ids.specs.declared.Flushed.{Flushed}
-use Rattle.wire_format.specs.declared.target.Target.{Target}
-use Rattle.wire_format.specs.declared.carried_stream.CarriedStream.{CarriedStream}
-use Rattle.wire_format.specs.declared.home_call.HomeCall.{HomeCall}
-use Rattle.wire_format.specs.declared.target.Target.TheVariants.{File, Device}
-use Rattle.wire_format.specs.declared.home_call.HomeCall.TheVariants.{Print, Exit, Getppid, Host, Tick, Fork, Wait, Kill}
+use Rattle.packet_bodies.specs.declared.Target.{Target}
+use Rattle.packet_bodies.specs.declared.CarriedStream.{CarriedStream}
+use Rattle.packet_bodies.specs.declared.HomeCall.{HomeCall}
+use Rattle.packet_bodies.specs.declared.Target.TheVariants.{File, Device}
+use Rattle.packet_bodies.specs.declared.HomeCall.TheVariants.{Print, Exit, Getppid, Host, Tick, Fork, Wait, Kill}
 use Rattle.wire_format.specs.Codec.{Codec, byte, number16, number32, number64, text, optional, listed, repeated, nothing, Shape, form, Row, row, tagged, ◌before◌, made_of, chosen_by, within}
 use Rattle.wire_format.specs.Names.{pid, file, device, stream, truth}
 use Rattle.wire_format.specs.Choices.{carried_mode, caching}

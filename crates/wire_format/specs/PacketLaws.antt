@@ -4,8 +4,8 @@ use Rattle.std.specs.List.{AllByRecursion}
 use Rattle.std.proofs.lemmas.List.{append-nil, nil_from_length}
 use Rattle.std.proofs.lemmas.Bool.{eqb-true}
 use Rattle.sprite_ids.specs.declared.TxNo.{TxNo}
-use Rattle.wire_format.specs.declared.packet.Body.{Body}
-use Rattle.wire_format.specs.declared.packet.Body.TheVariants.{Request, Reply}
+use Rattle.packet_bodies.specs.declared.Body.{Body}
+use Rattle.packet_bodies.specs.declared.Body.TheVariants.{Request, Reply}
 use Rattle.wire_format.specs.declared.packet.Packet.{Packet}
 use Rattle.wire_format.specs.Codec.{Reads, IsCodec, AreBytes, found, made}
 use Rattle.wire_format.specs.CodecLaws.{before_is, IsRow, row_is, tagged_is, passed_is}

@@ -1,8 +1,8 @@
 -- How packets are spelled: a byte for the kind, the two kernels, the number of the remote call, and the body.
 use Rattle.std.specs.Prelude.{ℕ, Bool, true, false, ◌==◌, if◌then◌else◌, length, List, [], ◌∷◌, Option, Some, None}
 use Rattle.sprite_ids.specs.declared.TxNo.{TxNo}
-use Rattle.wire_format.specs.declared.packet.Body.{Body}
-use Rattle.wire_format.specs.declared.packet.Body.TheVariants.{Request, Reply}
+use Rattle.packet_bodies.specs.declared.Body.{Body}
+use Rattle.packet_bodies.specs.declared.Body.TheVariants.{Request, Reply}
 use Rattle.wire_format.specs.declared.packet.Packet.{Packet}
 use Rattle.wire_format.specs.Codec.{Reads, Codec, Shape, form, Row, row, tagged, ◌before◌}
 use Rattle.wire_format.specs.Names.{kernel}

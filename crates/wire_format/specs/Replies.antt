@@ -1,9 +1,9 @@
 -- How replies are spelled.
 use Rattle.std.specs.Prelude.{List, [], ◌∷◌}
-use Rattle.wire_format.specs.declared.opened_reply.OpenedReply.{OpenedReply}
-use Rattle.wire_format.specs.declared.value_reply.ValueReply.{ValueReply}
-use Rattle.wire_format.specs.declared.reply_body.ReplyBody.{ReplyBody}
-use Rattle.wire_format.specs.declared.reply_body.ReplyBody.TheVariants as replies
+use Rattle.packet_bodies.specs.declared.OpenedReply.{OpenedReply}
+use Rattle.packet_bodies.specs.declared.ValueReply.{ValueReply}
+use Rattle.packet_bodies.specs.declared.ReplyBody.{ReplyBody}
+use Rattle.packet_bodies.specs.declared.ReplyBody.TheVariants as replies
 use Rattle.wire_format.specs.Codec.{Codec, number32, number64, text, optional, nothing, Shape, form, Row, row, tagged, ◌before◌, made_of}
 use Rattle.wire_format.specs.Names.{errno}
 use Rattle.wire_format.specs.Objects.{path, grant, flushed, target}

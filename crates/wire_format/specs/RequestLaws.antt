@@ -1,8 +1,8 @@
 -- Requests are read as they were spelled.
 use Rattle.std.proofs.Common.{◌≡◌, ℕ, List, ◌++◌, refl, ap}
 use Rattle.std.specs.List.{AllByRecursion}
-use Rattle.wire_format.specs.declared.request.Request.{Request}
-use Rattle.wire_format.specs.declared.request.Request.TheVariants as requests
+use Rattle.packet_bodies.specs.declared.Request.{Request}
+use Rattle.packet_bodies.specs.declared.Request.TheVariants as requests
 use Rattle.wire_format.specs.Codec.{IsCodec, found, made}
 use Rattle.wire_format.specs.CodecLaws.{before_is, made_of_is, nothing_is, IsRow, row_is, tagged_is, optional_is}
 use Rattle.wire_format.specs.NumberLaws.{byte_is, number32_is}

@@ -1,21 +1,21 @@
 -- How requests are spelled.
-use Rattle.std.specs.Prelude.{ℕ, Option, Some, None, List, [], ◌∷◌}
-use Rattle.wire_format.specs.declared.opening_request.OpeningRequest.{OpeningRequest}
-use Rattle.wire_format.specs.declared.name_request.NameRequest.{NameRequest}
-use Rattle.wire_format.specs.declared.make_request.MakeRequest.{MakeRequest}
-use Rattle.wire_format.specs.declared.close_request.CloseRequest.{CloseRequest}
-use Rattle.wire_format.specs.declared.op_request.OpRequest.{OpRequest}
-use Rattle.wire_format.specs.declared.fetch_request.FetchRequest.{FetchRequest}
-use Rattle.wire_format.specs.declared.write_back_request.WriteBackRequest.{WriteBackRequest}
-use Rattle.wire_format.specs.declared.callback_request.CallbackRequest.{CallbackRequest}
-use Rattle.wire_format.specs.declared.move_request.MoveRequest.{MoveRequest}
-use Rattle.wire_format.specs.declared.transfer_request.TransferRequest.{TransferRequest}
-use Rattle.wire_format.specs.declared.home_request.HomeRequest.{HomeRequest}
-use Rattle.wire_format.specs.declared.ask_request.AskRequest.{AskRequest}
-use Rattle.wire_format.specs.declared.page_out_request.PageOutRequest.{PageOutRequest}
-use Rattle.wire_format.specs.declared.launch_request.LaunchRequest.{LaunchRequest}
-use Rattle.wire_format.specs.declared.request.Request.{Request}
-use Rattle.wire_format.specs.declared.request.Request.TheVariants as requests
+use Rattle.std.specs.Prelude.{List, [], ◌∷◌}
+use Rattle.packet_bodies.specs.declared.OpeningRequest.{OpeningRequest}
+use Rattle.packet_bodies.specs.declared.NameRequest.{NameRequest}
+use Rattle.packet_bodies.specs.declared.MakeRequest.{MakeRequest}
+use Rattle.packet_bodies.specs.declared.CloseRequest.{CloseRequest}
+use Rattle.packet_bodies.specs.declared.OpRequest.{OpRequest}
+use Rattle.packet_bodies.specs.declared.FetchRequest.{FetchRequest}
+use Rattle.packet_bodies.specs.declared.WriteBackRequest.{WriteBackRequest}
+use Rattle.packet_bodies.specs.declared.CallbackRequest.{CallbackRequest}
+use Rattle.packet_bodies.specs.declared.MoveRequest.{MoveRequest}
+use Rattle.packet_bodies.specs.declared.TransferRequest.{TransferRequest}
+use Rattle.packet_bodies.specs.declared.HomeRequest.{HomeRequest}
+use Rattle.packet_bodies.specs.declared.AskRequest.{AskRequest}
+use Rattle.packet_bodies.specs.declared.PageOutRequest.{PageOutRequest}
+use Rattle.packet_bodies.specs.declared.LaunchRequest.{LaunchRequest}
+use Rattle.packet_bodies.specs.declared.Request.{Request}
+use Rattle.packet_bodies.specs.declared.Request.TheVariants as requests
 use Rattle.wire_format.specs.Codec.{Codec, byte, number32, text, optional, listed, nothing, Shape, form, Row, row, tagged, ◌before◌, made_of}
 use Rattle.wire_format.specs.Names.{kernel, pid, descriptor, file, device, stream, truth}
 use Rattle.wire_format.specs.Choices.{name_op, file_op, call_kind, ask_kind}
@@ -148,15 +148,3 @@ request_rows =
 
 abbrev pub request : Codec Request
 request = tagged request_shape request_rows
-
--- the process and the number of the call that a request carries
-abbrev pub about_of : Request → Option (ℕ × ℕ)
-about_of (requests.Opening x) = Some (x.pid, x.number)
-about_of (requests.Name x) = Some (x.pid, x.number)
-about_of (requests.Make x) = Some (x.pid, x.number)
-about_of (requests.Op x) = Some (x.pid, x.number)
-about_of (requests.Transfer x) = Some (x.pid, x.number)
-about_of (requests.Home x) = Some (x.pid, x.number)
-about_of (requests.Ask x) = Some (x.pid, x.number)
-about_of (requests.Launch x) = Some (x.pid, x.number)
-about_of _ = None

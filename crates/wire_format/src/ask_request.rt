@@ -1,31 +1,12 @@
 ghost use Rattle.wire_format.specs.Requests.{ask_request};
 ghost use Rattle.wire_format.specs.RequestLaws.{ask_request_is};
 
-use crate::descriptor::Descriptor;
 use crate::field::Field;
 use crate::field_end::FieldEnd;
 use crate::reader::Reader;
-use sprite_ids::{AskKind, Bytes, Copying, DeviceId, NoMemory, Pid};
+use packet_bodies::{AskRequest, Descriptor};
+use sprite_ids::{AskKind, Bytes, DeviceId, NoMemory, Pid};
 use std::alloc::Global;
-
-/// An operation on a pseudo-device, for its master (Welch and Ousterhout 1988).
-#[derive(Debug, PartialEq, Eq, Drop)]
-pub struct AskRequest {
-    /// The process whose call it is.
-    pub pid: Pid,
-    /// The number of that call.
-    pub number: u32,
-    /// The pseudo-device.
-    pub device: DeviceId,
-    /// What is asked.
-    pub kind: AskKind,
-    /// How many bytes may be answered.
-    pub length: u32,
-    /// The bytes of the ask.
-    pub bytes: Bytes,
-    /// The descriptor that the call names.
-    pub fd: Descriptor,
-}
 
 // The fields, as they stand one behind another.
 type Parts = (
@@ -60,20 +41,6 @@ impl Field for AskRequest {
             length,
             bytes,
             fd,
-        })
-    }
-}
-
-impl Copying for AskRequest {
-    fn copy(&self, alloc: Global) -> Result<AskRequest, NoMemory> {
-        Ok(AskRequest {
-            pid: self.pid,
-            number: self.number,
-            device: self.device,
-            kind: self.kind,
-            length: self.length,
-            bytes: self.bytes.copy(alloc)?,
-            fd: self.fd,
         })
     }
 }

@@ -4,19 +4,9 @@ ghost use Rattle.wire_format.specs.RequestLaws.{callback_request_is};
 use crate::field::Field;
 use crate::field_end::FieldEnd;
 use crate::reader::Reader;
-use sprite_ids::{CallKind, Copying, FileId, NoMemory};
+use packet_bodies::CallbackRequest;
+use sprite_ids::{CallKind, FileId, NoMemory};
 use std::alloc::Global;
-
-/// A server's call to a client about a file that it caches (Nelson, Welch and Ousterhout 1988).
-#[derive(Clone, Copy, Debug, PartialEq, Eq, Hash)]
-pub struct CallbackRequest {
-    /// The file.
-    pub file: FileId,
-    /// The callback's stamp.
-    pub stamp: u32,
-    /// What the client is to do.
-    pub kind: CallKind,
-}
 
 impl Field for CallbackRequest {
     ghost codec = { callback_request };
@@ -35,11 +25,5 @@ impl Field for CallbackRequest {
             stamp: u32::read_from(alloc, from)?,
             kind: CallKind::read_from(alloc, from)?,
         })
-    }
-}
-
-impl Copying for CallbackRequest {
-    fn copy(&self, _alloc: Global) -> Result<CallbackRequest, NoMemory> {
-        Ok(*self)
     }
 }

@@ -4,21 +4,9 @@ ghost use Rattle.wire_format.specs.RequestLaws.{close_request_is};
 use crate::field::Field;
 use crate::field_end::FieldEnd;
 use crate::reader::Reader;
-use crate::target::Target;
-use sprite_ids::{Copying, NoMemory, StreamNo};
+use packet_bodies::{CloseRequest, Target};
+use sprite_ids::{NoMemory, StreamNo};
 use std::alloc::Global;
-
-/// Tells the server of a file or pseudo-device that the kernel has closed its last reference to a stream (Nelson, Welch
-/// and Ousterhout 1988).
-#[derive(Clone, Copy, Debug, PartialEq, Eq, Hash)]
-pub struct CloseRequest {
-    /// What the stream leads to.
-    pub object: Target,
-    /// The stream.
-    pub stream: StreamNo,
-    /// How many grants of the stream the kernel received.
-    pub grants: u32,
-}
 
 impl Field for CloseRequest {
     ghost codec = { close_request };
@@ -37,11 +25,5 @@ impl Field for CloseRequest {
             stream: StreamNo::read_from(alloc, from)?,
             grants: u32::read_from(alloc, from)?,
         })
-    }
-}
-
-impl Copying for CloseRequest {
-    fn copy(&self, _alloc: Global) -> Result<CloseRequest, NoMemory> {
-        Ok(*self)
     }
 }

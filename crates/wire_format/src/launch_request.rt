@@ -1,33 +1,13 @@
 ghost use Rattle.wire_format.specs.Requests.{launch_request};
 ghost use Rattle.wire_format.specs.RequestLaws.{launch_request_is};
 
-use crate::carried_stream::CarriedStream;
-use crate::descriptor::Descriptor;
 use crate::field::Field;
 use crate::field_end::FieldEnd;
 use crate::reader::Reader;
-use sprite_ids::{Copying, Items, NoMemory, Pid, StreamNo};
+use packet_bodies::{CarriedStream, Descriptor, LaunchRequest};
+use sprite_ids::{Items, NoMemory, Pid, StreamNo};
 use sprite_paths::Path;
 use std::alloc::Global;
-
-/// A process that starts its next program elsewhere: all that belongs to it but an image (Douglis and Ousterhout 1991).
-#[derive(Debug, PartialEq, Eq, Drop)]
-pub struct LaunchRequest {
-    /// The process whose call it is.
-    pub pid: Pid,
-    /// The number of its `rexec`.
-    pub number: u32,
-    /// The number of the program.
-    pub program: u8,
-    /// Its working directory.
-    pub cwd: Path,
-    /// Its descriptors and their streams.
-    pub fds: Items<(Descriptor, StreamNo)>,
-    /// The streams that move with it.
-    pub streams: Items<CarriedStream>,
-    /// Whether a kill is pending.
-    pub killed: bool,
-}
 
 // The fields, as they stand one behind another.
 type Parts = (
@@ -71,20 +51,6 @@ impl Field for LaunchRequest {
             fds,
             streams,
             killed,
-        })
-    }
-}
-
-impl Copying for LaunchRequest {
-    fn copy(&self, alloc: Global) -> Result<LaunchRequest, NoMemory> {
-        Ok(LaunchRequest {
-            pid: self.pid,
-            number: self.number,
-            program: self.program,
-            cwd: self.cwd.copy(alloc)?,
-            fds: self.fds.copy(alloc)?,
-            streams: self.streams.copy(alloc)?,
-            killed: self.killed,
         })
     }
 }

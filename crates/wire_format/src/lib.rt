@@ -8,7 +8,6 @@ mod callback_request;
 mod carried_mode;
 mod carried_stream;
 mod close_request;
-mod descriptor;
 mod fetch_request;
 mod field;
 mod field_end;
@@ -40,32 +39,13 @@ mod transfer_request;
 mod value_reply;
 mod write_back_request;
 
-pub use ask_request::AskRequest;
-pub use callback_request::CallbackRequest;
-pub use carried_mode::CarriedMode;
-pub use carried_stream::CarriedStream;
-pub use close_request::CloseRequest;
-pub use descriptor::Descriptor;
-pub use fetch_request::FetchRequest;
 pub use field::Field;
 pub use field_end::FieldEnd;
-pub use file_op::FileOp;
-pub use home_call::HomeCall;
-pub use home_request::HomeRequest;
-pub use launch_request::LaunchRequest;
-pub use make_request::MakeRequest;
-pub use move_request::MoveRequest;
-pub use name_op::NameOp;
-pub use name_request::NameRequest;
-pub use op_request::OpRequest;
-pub use opened_reply::OpenedReply;
-pub use opening_request::OpeningRequest;
-pub use packet::{Body, Packet};
-pub use page_out_request::PageOutRequest;
+pub use packet::Packet;
+pub use packet_bodies::{
+    AskRequest, Body, CallbackRequest, CarriedMode, CarriedStream, CloseRequest, Descriptor,
+    FetchRequest, FileOp, HomeCall, HomeRequest, LaunchRequest, MakeRequest, MoveRequest, NameOp,
+    NameRequest, OpRequest, OpenedReply, OpeningRequest, PageOutRequest, ReplyBody, Request,
+    Target, TransferRequest, ValueReply, WriteBackRequest,
+};
 pub use reader::Reader;
-pub use reply_body::ReplyBody;
-pub use request::Request;
-pub use target::Target;
-pub use transfer_request::TransferRequest;
-pub use value_reply::ValueReply;
-pub use write_back_request::WriteBackRequest;

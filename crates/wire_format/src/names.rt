@@ -5,10 +5,10 @@ ghost use Rattle.wire_format.specs.NameLaws.{descriptor_is, device_is, errno_is,
 ghost use Rattle.wire_format.specs.Objects.{block, transaction};
 ghost use Rattle.wire_format.specs.ObjectLaws.{block_is, transaction_is};
 
-use crate::descriptor::Descriptor;
 use crate::field::Field;
 use crate::field_end::FieldEnd;
 use crate::reader::Reader;
+use packet_bodies::Descriptor;
 use sprite_ids::{BlockNo, DeviceId, Errno, FileId, Kernel, NoMemory, Pid, StreamNo, TxNo};
 use std::alloc::Global;
 

@@ -5,20 +5,10 @@ ghost use Rattle.wire_format.specs.PacketLaws.{packet_is, read_is_spelled, spell
 use crate::field::Field;
 use crate::field_end::FieldEnd;
 use crate::reader::Reader;
-use crate::reply_body::ReplyBody;
-use crate::request::Request;
+use packet_bodies::{Body, ReplyBody, Request};
 use sprite_bytes::Message;
 use sprite_ids::{Copying, Kernel, NoMemory, TxNo};
 use std::alloc::Global;
-
-/// What a packet says.
-#[derive(Debug, PartialEq, Eq, Drop)]
-pub enum Body {
-    /// 1: a request.
-    Request(Request),
-    /// 2: a reply.
-    Reply(ReplyBody),
-}
 
 /// A packet of a remote call (Welch 1986; the fields are this project's).
 ///
@@ -128,15 +118,6 @@ impl Message for Packet {
             Ok(packet) if from.is_empty() => Ok(Some(packet)),
             Ok(_) | Err(FieldEnd::NotSpelled) => Ok(None),
             Err(FieldEnd::NoMemory) => Err(NoMemory),
-        }
-    }
-}
-
-impl Copying for Body {
-    fn copy(&self, alloc: Global) -> Result<Body, NoMemory> {
-        match self {
-            Body::Request(request) => Ok(Body::Request(request.copy(alloc)?)),
-            Body::Reply(reply) => Ok(Body::Reply(reply.copy(alloc)?)),
         }
     }
 }

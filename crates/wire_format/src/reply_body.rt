@@ -4,66 +4,11 @@ ghost use Rattle.wire_format.specs.ReplyLaws.{reply_is};
 
 use crate::field::{Field, put_form};
 use crate::field_end::FieldEnd;
-use crate::opened_reply::OpenedReply;
 use crate::reader::Reader;
-use crate::value_reply::ValueReply;
-use sprite_ids::{Bytes, Copying, Errno, Flushed, Grant, NoMemory};
+use packet_bodies::{OpenedReply, ReplyBody, ValueReply};
+use sprite_ids::{Bytes, Errno, Flushed, Grant, NoMemory};
 use sprite_paths::Path;
 use std::alloc::Global;
-
-/// What a kernel answers to another, with the fields of its form.
-#[derive(Debug, PartialEq, Eq, Drop)]
-pub enum ReplyBody {
-    /// 1: it is done.
-    Done,
-    /// 2: the domain of the path is here (Welch and Ousterhout 1986).
-    Here {
-        /// The path.
-        path: Path,
-    },
-    /// 3: the call is refused.
-    Refused {
-        /// Why.
-        errno: Errno,
-    },
-    /// 4: the path leads on into another domain (Welch and Ousterhout 1986).
-    Redirect {
-        /// The path.
-        path: Path,
-    },
-    /// 5: what an open made.
-    Opened(OpenedReply),
-    /// 6: what the call answers.
-    Value(ValueReply),
-    /// 7: the stamp was not the current one; this grant has it.
-    Again {
-        /// The grant.
-        grant: Grant,
-    },
-    /// 8: a block of a file, with the stamp at which it was read.
-    Block {
-        /// The stamp.
-        stamp: u32,
-        /// The bytes.
-        bytes: Bytes,
-    },
-    /// 9: the answer to a callback.
-    Flushed(Flushed),
-    /// 10: the stream has moved.
-    Moved {
-        /// The grant.
-        grant: Option<Grant>,
-        /// How many grants of the stream go with it.
-        grants: u32,
-    },
-    /// 11: a page of a process.
-    Page {
-        /// The bytes.
-        bytes: Bytes,
-    },
-    /// 12: the process is not here (Douglis and Ousterhout 1991).
-    Gone,
-}
 
 impl Field for ReplyBody {
     ghost codec = { reply };
@@ -105,65 +50,32 @@ impl Field for ReplyBody {
             }),
             5 => Ok(ReplyBody::Opened(OpenedReply::read_from(alloc, from)?)),
             6 => Ok(ReplyBody::Value(ValueReply::read_from(alloc, from)?)),
-            _ => ReplyBody::read_later(alloc, tag, from),
+            _ => read_later(alloc, tag, from),
         }
     }
 }
 
-impl ReplyBody {
-    // Reads the fields of a form that has that number, 7 or more.
-    fn read_later(alloc: Global, tag: u8, from: &mut Reader) -> Result<ReplyBody, FieldEnd>
-        ensures { Takes (row_read later_rows tag from.old) result from.new }
-    {
-        match tag {
-            7 => Ok(ReplyBody::Again {
-                grant: Grant::read_from(alloc, from)?,
-            }),
-            8 => {
-                let (stamp, bytes) = <(u32, Bytes)>::read_from(alloc, from)?;
-                Ok(ReplyBody::Block { stamp, bytes })
-            }
-            9 => Ok(ReplyBody::Flushed(Flushed::read_from(alloc, from)?)),
-            10 => {
-                let (grant, grants) = <(Option<Grant>, u32)>::read_from(alloc, from)?;
-                Ok(ReplyBody::Moved { grant, grants })
-            }
-            11 => Ok(ReplyBody::Page {
-                bytes: Bytes::read_from(alloc, from)?,
-            }),
-            12 => Ok(ReplyBody::Gone),
-            _ => Err(FieldEnd::NotSpelled),
+// Reads the fields of a form that has that number, 7 or more.
+fn read_later(alloc: Global, tag: u8, from: &mut Reader) -> Result<ReplyBody, FieldEnd>
+    ensures { Takes (row_read later_rows tag from.old) result from.new }
+{
+    match tag {
+        7 => Ok(ReplyBody::Again {
+            grant: Grant::read_from(alloc, from)?,
+        }),
+        8 => {
+            let (stamp, bytes) = <(u32, Bytes)>::read_from(alloc, from)?;
+            Ok(ReplyBody::Block { stamp, bytes })
         }
-    }
-}
-
-impl Copying for ReplyBody {
-    fn copy(&self, alloc: Global) -> Result<ReplyBody, NoMemory> {
-        Ok(match self {
-            ReplyBody::Done => ReplyBody::Done,
-            ReplyBody::Here { path } => ReplyBody::Here {
-                path: path.copy(alloc)?,
-            },
-            ReplyBody::Refused { errno } => ReplyBody::Refused { errno: *errno },
-            ReplyBody::Redirect { path } => ReplyBody::Redirect {
-                path: path.copy(alloc)?,
-            },
-            ReplyBody::Opened(fields) => ReplyBody::Opened(*fields),
-            ReplyBody::Value(fields) => ReplyBody::Value(fields.copy(alloc)?),
-            ReplyBody::Again { grant } => ReplyBody::Again { grant: *grant },
-            ReplyBody::Block { stamp, bytes } => ReplyBody::Block {
-                stamp: *stamp,
-                bytes: bytes.copy(alloc)?,
-            },
-            ReplyBody::Flushed(fields) => ReplyBody::Flushed(fields.copy(alloc)?),
-            ReplyBody::Moved { grant, grants } => ReplyBody::Moved {
-                grant: *grant,
-                grants: *grants,
-            },
-            ReplyBody::Page { bytes } => ReplyBody::Page {
-                bytes: bytes.copy(alloc)?,
-            },
-            ReplyBody::Gone => ReplyBody::Gone,
-        })
+        9 => Ok(ReplyBody::Flushed(Flushed::read_from(alloc, from)?)),
+        10 => {
+            let (grant, grants) = <(Option<Grant>, u32)>::read_from(alloc, from)?;
+            Ok(ReplyBody::Moved { grant, grants })
+        }
+        11 => Ok(ReplyBody::Page {
+            bytes: Bytes::read_from(alloc, from)?,
+        }),
+        12 => Ok(ReplyBody::Gone),
+        _ => Err(FieldEnd::NotSpelled),
     }
 }

@@ -4,17 +4,9 @@ ghost use Rattle.wire_format.specs.ObjectLaws.{target_is};
 use crate::field::{Field, put_form};
 use crate::field_end::FieldEnd;
 use crate::reader::Reader;
-use sprite_ids::{Copying, DeviceId, FileId, NoMemory};
+use packet_bodies::Target;
+use sprite_ids::{DeviceId, FileId, NoMemory};
 use std::alloc::Global;
-
-/// What a stream in a packet leads to (this project). The master's end of a pseudo-device is never sent.
-#[derive(Clone, Copy, Debug, PartialEq, Eq, Hash)]
-pub enum Target {
-    /// 1: a file.
-    File(FileId),
-    /// 2: a client's end of a pseudo-device.
-    Device(DeviceId),
-}
 
 impl Field for Target {
     ghost codec = { target };
@@ -34,11 +26,5 @@ impl Field for Target {
             2 => Ok(Target::Device(DeviceId::read_from(alloc, from)?)),
             _ => Err(FieldEnd::NotSpelled),
         }
-    }
-}
-
-impl Copying for Target {
-    fn copy(&self, _alloc: Global) -> Result<Target, NoMemory> {
-        Ok(*self)
     }
 }

@@ -4,19 +4,9 @@ ghost use Rattle.wire_format.specs.ReplyLaws.{value_reply_is};
 use crate::field::Field;
 use crate::field_end::FieldEnd;
 use crate::reader::Reader;
-use sprite_ids::{Bytes, Copying, NoMemory};
+use packet_bodies::ValueReply;
+use sprite_ids::{Bytes, NoMemory};
 use std::alloc::Global;
-
-/// What a call answers.
-#[derive(Debug, PartialEq, Eq, Drop)]
-pub struct ValueReply {
-    /// The first value.
-    pub first: u64,
-    /// The second value.
-    pub second: u64,
-    /// The bytes.
-    pub bytes: Bytes,
-}
 
 impl Field for ValueReply {
     ghost codec = { value_reply };
@@ -34,16 +24,6 @@ impl Field for ValueReply {
             first: u64::read_from(alloc, from)?,
             second: u64::read_from(alloc, from)?,
             bytes: Bytes::read_from(alloc, from)?,
-        })
-    }
-}
-
-impl Copying for ValueReply {
-    fn copy(&self, alloc: Global) -> Result<ValueReply, NoMemory> {
-        Ok(ValueReply {
-            first: self.first,
-            second: self.second,
-            bytes: self.bytes.copy(alloc)?,
         })
     }
 }

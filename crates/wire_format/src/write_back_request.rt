@@ -4,23 +4,9 @@ ghost use Rattle.wire_format.specs.RequestLaws.{write_back_request_is};
 use crate::field::Field;
 use crate::field_end::FieldEnd;
 use crate::reader::Reader;
-use sprite_ids::{BlockNo, Bytes, Copying, FileId, NoMemory};
+use packet_bodies::WriteBackRequest;
+use sprite_ids::{BlockNo, Bytes, FileId, NoMemory};
 use std::alloc::Global;
-
-/// Brings a file server a block that the client wrote in its cache (Nelson, Welch and Ousterhout 1988).
-#[derive(Debug, PartialEq, Eq, Drop)]
-pub struct WriteBackRequest {
-    /// The file.
-    pub file: FileId,
-    /// The stamp that the client has.
-    pub stamp: u32,
-    /// The block.
-    pub block: BlockNo,
-    /// The file's size at the client, in bytes.
-    pub size: u32,
-    /// The block's bytes.
-    pub bytes: Bytes,
-}
 
 // The fields, as they stand one behind another.
 type Parts = (FileId, (u32, (BlockNo, (u32, Bytes))));
@@ -46,18 +32,6 @@ impl Field for WriteBackRequest {
             block,
             size,
             bytes,
-        })
-    }
-}
-
-impl Copying for WriteBackRequest {
-    fn copy(&self, alloc: Global) -> Result<WriteBackRequest, NoMemory> {
-        Ok(WriteBackRequest {
-            file: self.file,
-            stamp: self.stamp,
-            block: self.block,
-            size: self.size,
-            bytes: self.bytes.copy(alloc)?,
         })
     }
 }
