@@ -1,0 +1,2 @@
+pub mod LandingLaws
+pub mod MoveLaws
