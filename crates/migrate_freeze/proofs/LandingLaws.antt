@@ -28,7 +28,7 @@ use Rattle.migrate_freeze.specs.Arriving.{arrived_of, brings, descriptor_of, des
 use Rattle.migrate_freeze.specs.Landing.{EachLands, IsMoveOf, IsOneOf, Lands, MayBe, Took, landed, landed_stream, moved_all, moved_once, next_of}
 
 -- both of two are true where both together are
-both : (a b : Bool) → (a && b) ≡ true → (a ≡ true) × (b ≡ true)
+pub both : (a b : Bool) → (a && b) ≡ true → (a ≡ true) × (b ≡ true)
 both true true h = (refl, refl)
 both true false h = absurd (cc)
 both false b h = absurd (cc)
@@ -38,7 +38,7 @@ lower_before : (item other : Carried) (b : Bool) → (cond b (Some item) (Some o
 lower_before item other true = inr refl
 lower_before item other false = inl refl
 
-lower_is : (b : Bool) (least : Option Carried) (item : Carried) → (lower b least item ≡ least) ⊎ (lower b least item ≡ Some item)
+pub lower_is : (b : Bool) (least : Option Carried) (item : Carried) → (lower b least item ≡ least) ⊎ (lower b least item ≡ Some item)
 lower_is true least item = inl refl
 lower_is false None item = inr refl
 lower_is false (Some other) item = lower_before item other (is_before item.number other.number)
@@ -49,7 +49,7 @@ one_more least first item rest lowest (inl e) (inl h) = inl (sym e ∙ h)
 one_more least first item rest lowest (inr e) (inl h) = inr (inl (some_is item first (sym h ∙ e)))
 
 -- the next one is one of the descriptors
-next_one : (moved : List (Option MovedStream)) (least : Option Carried) (streams : List Carried) (item : Carried) → next_from moved least streams ≡ Some item → (least ≡ Some item) ⊎ IsOneOf streams item
+pub next_one : (moved : List (Option MovedStream)) (least : Option Carried) (streams : List Carried) (item : Carried) → next_from moved least streams ≡ Some item → (least ≡ Some item) ⊎ IsOneOf streams item
 next_one moved least [] item e = inl e
 next_one moved least (first ∷ rest) item e =
     one_more least first item rest (lower (is_moved first.number moved) least first) (lower_is (is_moved first.number moved) least first) (next_one moved (lower (is_moved first.number moved) least first) rest item e)
@@ -76,7 +76,7 @@ moved_by : (moved : List (Option MovedStream)) (first : Carried) (rest : List Ca
 moved_by moved first rest again true h e = (h, again e)
 moved_by moved first rest again false h e = absurd (next_stays moved rest first e)
 
-all_moved : (moved : List (Option MovedStream)) (streams : List Carried) → next_from moved None streams ≡ None → AllByRecursion (HasMoved moved) streams
+pub all_moved : (moved : List (Option MovedStream)) (streams : List Carried) → next_from moved None streams ≡ None → AllByRecursion (HasMoved moved) streams
 all_moved moved [] e = tt
 all_moved moved (first ∷ rest) e = moved_by moved first rest (all_moved moved rest) (is_moved first.number moved) refl e
 
@@ -96,7 +96,7 @@ record Stays (process : Process) (program : Option ℕ) (freeze : Freeze) : Type
   start : freeze.program ≡ program
   moves : AllByRecursion (MayBe process.streams) freeze.moved
 
-only_one : {B : Type 0} (item : Carried) → (None ≡ Some item) ⊎ B → B
+pub only_one : {B : Type 0} (item : Carried) → (None ≡ Some item) ⊎ B → B
 only_one item (inl e) = absurd (cc)
 only_one item (inr h) = h
 

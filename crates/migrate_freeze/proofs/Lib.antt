@@ -1,2 +1,3 @@
 pub mod LandingLaws
 pub mod MoveLaws
+pub mod EndLaws

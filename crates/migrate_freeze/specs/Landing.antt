@@ -1,5 +1,5 @@
 -- A process that moves lands as it was frozen.
-use Rattle.std.specs.Prelude.{◌≡◌, ◌⊎◌, ℕ, true, List, [], ◌∷◌, Option, Some, None, map, IsTrue}
+use Rattle.std.specs.Prelude.{◌≡◌, ◌⊎◌, ◌≤◌, ℕ, true, List, [], ◌∷◌, length, Option, Some, None, map, IsTrue}
 use Rattle.std.specs.List.{AllByRecursion, find}
 use Rattle.sprite_ids.specs.declared.Grant.{Grant}
 use Rattle.process_machine.specs.Machine.{Machine}
@@ -82,3 +82,7 @@ pub record Lands (freeze : Freeze) : Type 0 where
 -- a process that was frozen lands so when all its streams have moved
 abbrev pub EachLands : Type 0
 EachLands = (process : Process) (to : ℕ) (program : Option ℕ) (moves : List Took) → IsTrue (can_move process.streams) → next_of (moved_all moves (frozen_for process to program)) ≡ None → Lands (moved_all moves (frozen_for process to program))
+
+-- after as many moves as the process has descriptors all its streams have moved
+abbrev pub MovesEnd : Type 0
+MovesEnd = (process : Process) (to : ℕ) (program : Option ℕ) (moves : List Took) → IsTrue (can_move process.streams) → length process.streams ≤ length moves → next_of (moved_all moves (frozen_for process to program)) ≡ None

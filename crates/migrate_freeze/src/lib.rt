@@ -16,6 +16,6 @@ pub use arrival::{Arrival, Load};
 pub use arrived::Arrived;
 pub use freeze::Freeze;
 pub use frozen::{Frozen, MoveStep, Moving, Sent};
-pub use laws::each_lands;
+pub use laws::{each_lands, moves_end};
 pub use moves::MovedStream;
 pub use process::Process;
