@@ -1,3 +1,4 @@
 pub mod LandingLaws
 pub mod MoveLaws
 pub mod EndLaws
+pub mod StayLaws

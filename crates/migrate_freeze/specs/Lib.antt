@@ -4,3 +4,4 @@ pub mod OneMove
 pub mod Moves
 pub mod Arriving
 pub mod Landing
+pub mod Staying

@@ -10,6 +10,7 @@ mod laws;
 mod moves;
 mod packing;
 mod process;
+mod staying;
 mod unpacking;
 
 pub use arrival::{Arrival, Load};

@@ -288,11 +288,39 @@ fn echoes(alloc: Global) -> Result<bool, NoMemory> {
     Ok(Arrived::read(alloc, Request::Echo)?.is_none())
 }
 
+// The master's end of a device.
+fn master(fd: u8) -> Result<Carried, NoMemory> {
+    let kernel = kernel(1)?;
+    Ok(Carried {
+        fd,
+        number: StreamNo { kernel, number: 1 },
+        stream: Stream {
+            object: Object::Master(DeviceId { kernel, number: 1 }),
+            mode: Mode::Read,
+            place: Place::Local(0),
+            grants: 1,
+            append: false,
+        },
+    })
+}
+
+// Whether a process stays that gets the master's end of a device, and whether a table takes it then.
+fn holds(alloc: Global, fd: u8, is_taken: bool) -> Result<bool, NoMemory> {
+    let mut process = process(alloc)?;
+    if !process.can_stay() {
+        return Ok(false);
+    }
+    process.streams.append(&[master(fd)?])?;
+    Ok(!process.can_move() && process.can_stay() == is_taken)
+}
+
 #[test]
 fn a_process_lands_as_it_was_frozen(rt: HostRuntime) -> Result<(), NoMemory> {
     let alloc = rt.alloc();
     assert!(rt; goes(alloc)?);
     assert!(rt; starts(alloc)?);
     assert!(rt; echoes(alloc)?);
+    assert!(rt; holds(alloc, 2, true)?);
+    assert!(rt; holds(alloc, 7, false)?);
     Ok(())
 }
