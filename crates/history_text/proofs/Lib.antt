@@ -1,0 +1,6 @@
+pub mod FormatLaws
+pub mod NumberLaws
+pub mod TextLaws
+pub mod CallLaws
+pub mod EntryLaws
+pub mod HistoryLaws
