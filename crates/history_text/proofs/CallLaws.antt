@@ -6,8 +6,8 @@ use Rattle.process_machine.specs.declared.call.Call.{Call}
 use Rattle.process_machine.specs.declared.call.Call.TheVariants as call
 use Rattle.process_machine.specs.declared.call.Reply.{Reply}
 use Rattle.process_machine.specs.declared.call.Reply.TheVariants.{Value, Error}
-use Rattle.history_text.specs.Formats.{Format, IsFormat, ◌then◌, found, made, ends_word, row_read, word_of, past_word}
-use Rattle.history_text.specs.Numbers.{number64, errno}
+use Rattle.history_text.specs.Formats.{IsFormat, ◌then◌, found, made, ends_word}
+use Rattle.history_text.specs.Numbers.{number64}
 use Rattle.history_text.specs.Texts.{text}
 use Rattle.history_text.specs.Calls.{call_shape, call_rows, call_format, reply_shape, reply_rows, reply_format}
 use Rattle.history_text.proofs.FormatLaws.{then_is, named_is, name_again, IsRow, row_is, bare_row_is}

@@ -1,14 +1,14 @@
 -- A history is read as it was printed, and a text is the print of one history at most.
-use Rattle.std.proofs.Common.{◌≡◌, ℕ, suc, ◌<◌, ◌+◌, nat_eq, Bool, true, false, ◌||◌, inl, inr, List, [], ◌∷◌, ◌++◌, length, Option, Some, None, refl, sym, ap, ap₂, subst, ◌∙◌, append_assoc, arith}
+use Rattle.std.proofs.Common.{◌≡◌, ℕ, ◌<◌, ◌+◌, Bool, true, false, ◌||◌, inl, inr, List, [], ◌∷◌, ◌++◌, length, None, refl, sym, ap, ap₂, ◌∙◌, append_assoc, arith}
 use Rattle.std.specs.Prelude.{codes}
-use Rattle.std.specs.List.{flat_map, AllByRecursion}
+use Rattle.std.specs.List.{AllByRecursion}
 use Rattle.std.specs.Cmp.Lexicographic.{same_text}
 use Rattle.std.proofs.lemmas.Bool.{cases_Bool}
 use Rattle.std.proofs.lemmas.List.{append-nil, length-append}
 use Rattle.std.proofs.lemmas.List.Concat.{flat_map-append}
 use Rattle.sprite_ids.proofs.ListLaws.{each_push}
 use Rattle.unix_calls.specs.declared.entry.Entry.{Entry}
-use Rattle.history_text.specs.Formats.{Reads, found, same}
+use Rattle.history_text.specs.Formats.{found, same}
 use Rattle.history_text.specs.Entries.{entry, entry_line}
 use Rattle.history_text.specs.Histories.{HasLine, line_of, history_of, is_end, IsHistory, IsFirstBad}
 use Rattle.history_text.proofs.FormatLaws.{some_pair, followed_again}

@@ -4,3 +4,4 @@ pub mod TextLaws
 pub mod CallLaws
 pub mod EntryLaws
 pub mod HistoryLaws
+pub mod LineLaws

@@ -1,5 +1,5 @@
 -- Numbers are read as they were printed.
-use Rattle.std.proofs.Common.{◌≡◌, ℕ, zero, suc, ◌^◌, ◌<◌, ◌≤◌, ◌+◌, ◌*◌, ◌-◌, ◌==◌, nat_eq, nat_le, Bool, true, false, cond, ltb, ◌&&◌, ◌||◌, inl, inr, List, [], ◌∷◌, length, get_or, Option, Some, None, refl, sym, ap, subst, ◌∙◌, arith}
+use Rattle.std.proofs.Common.{◌≡◌, ℕ, ◌^◌, ◌<◌, ◌≤◌, ◌+◌, ◌*◌, ◌-◌, ◌==◌, nat_eq, nat_le, Bool, true, false, cond, ltb, ◌&&◌, ◌||◌, inl, inr, List, [], ◌∷◌, length, get_or, Option, Some, None, refl, sym, ap, subst, ◌∙◌, arith}
 use Rattle.std.specs.List.{find, list_all}
 use Rattle.std.specs.Char.{digit_value, is_ascii_digit, is_ascii_alphanumeric}
 use Rattle.std.specs.Int.{is_in_range}
@@ -114,7 +114,7 @@ or_left : (a b : Bool) → a ≡ true → (a || b) ≡ true
 or_left true b e = refl
 or_left false b e = absurd cc
 
-digits_in_word : (ds : List ℕ) → AllDigits 10 ds → list_all in_word ds ≡ true
+pub digits_in_word : (ds : List ℕ) → AllDigits 10 ds → list_all in_word ds ≡ true
 digits_in_word [] digits = refl
 digits_in_word (c ∷ cs) digits =
     let range = digit_from_value c digits.0 in
@@ -152,6 +152,9 @@ pid_tells n e =
     let a = and_parts (nat_le 1 (home_of n)) (nat_le (home_of n) 16) b.0 in
     record { home_from = leb-true 1 (home_of n) a.0; home_to = leb-true (home_of n) 16 a.1; birth_from = leb-true 1 (birth_of n) b.1; birth_to = leb-true (birth_of n) 200 c.1 }
 
+pub pid_small : (n : ℕ) → IsPid n → n < 2 ^ 64
+pid_small n is = omega (arith, is.home_to, is.birth_to)
+
 pub pid_is : IsFormat pid
 pid_is = within_is number32_is pid_passes (λ n fits e. pid_tells n e) (λ n is. omega (arith, is.home_to, is.birth_to))
 
@@ -179,7 +182,7 @@ errno_back BadHost = refl
 errno_back BadName = refl
 errno_back BadAddress = refl
 
-errno_small : (e : Errno) → errno_number e < 2 ^ 8
+pub errno_small : (e : Errno) → errno_number e < 2 ^ 8
 errno_small NoEntry = omega arith
 errno_small Exists = omega arith
 errno_small NotDir = omega arith

@@ -1,13 +1,13 @@
 -- Texts in quotes are read as they were printed.
 use Rattle.std.proofs.Common.{◌≡◌, ℕ, ◌<◌, ◌≤◌, ◌+◌, ◌*◌, ◌-◌, ◌/◌, ◌%◌, ◌==◌, nat_le, Bool, true, false, cond, not, ltb, ◌&&◌, inl, inr, List, [], ◌∷◌, ◌++◌, Option, Some, None, refl, sym, ap, ap₂, subst, ◌∙◌, append_assoc, arith}
 use Rattle.std.specs.List.{flat_map, AllByRecursion}
-use Rattle.std.proofs.lemmas.Bool.{cases_lt, cases_Bool, cond-true, cond-false, and_parts, and_from, le-leb, leb-true, lt-ltb, le-ltb, ltb-true, eqb-true}
+use Rattle.std.proofs.lemmas.Bool.{cases_lt, cases_Bool, cond-true, cond-false, and_parts, and_from, le-leb, leb-true, lt-ltb, le-ltb, eqb-true}
 use Rattle.sprite_ids.proofs.ListLaws.{some_is}
 use Rattle.unix_calls.specs.Output.{hexadecimal}
 use Rattle.history_text.specs.declared.quoted.Escape.{Escape}
 use Rattle.history_text.specs.declared.quoted.Escape.TheVariants.{Outside, Begun, High}
-use Rattle.history_text.specs.Formats.{Reads, Took, IsFormat, found, sign_read, after_sign, behind_sign, ends_word}
-use Rattle.history_text.specs.Texts.{is_plain, quoted_byte, digit_of, not_plain, byte_of, beside_rest, with_byte, inside, text}
+use Rattle.history_text.specs.Formats.{Reads, Took, IsFormat, found, sign_read, behind_sign}
+use Rattle.history_text.specs.Texts.{is_plain, quoted_byte, digit_of, not_plain, byte_of, with_byte, inside, text}
 use Rattle.history_text.proofs.FormatLaws.{some_pair, after_found, sign_found}
 
 -- ---- digits
@@ -130,6 +130,12 @@ plain_tells b e =
     let r = and_parts (nat_le 32 b) (nat_le b 126) a.0 in
     let most = leb-true b 126 r.1 in
     record { small = omega (arith, most); no_quote = not_then (b == 34) a.1; no_backslash = not_then (b == 92) c.1 }
+
+pub plain_low : (b : ℕ) → is_plain b ≡ true → 32 ≤ b
+plain_low b e =
+    let c = and_parts (nat_le 32 b && nat_le b 126 && not (b == 34)) (not (b == 92)) e in
+    let a = and_parts (nat_le 32 b && nat_le b 126) (not (b == 34)) c.0 in
+    leb-true 32 b (and_parts (nat_le 32 b) (nat_le b 126) a.0).0
 
 -- ---- texts
 

@@ -1,5 +1,5 @@
 -- What a printed history is, and what printing and reading one answer.
-use Rattle.std.specs.Prelude.{codes, ◌≡◌, ◌≢◌, ℕ, ◌+◌, Bool, true, false, ◌||◌, List, [], ◌∷◌, ◌++◌, length, take, slice_get, Option, Some, Result, Ok, Err}
+use Rattle.std.specs.Prelude.{codes, ◌≡◌, ◌≢◌, ℕ, ◌+◌, Bool, true, false, ◌||◌, List, [], ◌++◌, length, take, slice_get, Some}
 use Rattle.std.specs.List.{flat_map, AllByRecursion}
 use Rattle.unix_calls.specs.declared.entry.Entry.{Entry}
 use Rattle.history_text.specs.declared.history_error.HistoryError.{HistoryError}

@@ -1,4 +1,4 @@
-ghost use Rattle.std.specs.Prelude.{codes, ◌≡◌, ◌++◌, ◌∷◌, [], OnOk};
+ghost use Rattle.std.specs.Prelude.{codes, ◌≡◌, ◌++◌, OnOk};
 ghost use Rattle.history_text.specs.Formats.{Takes, followed, form};
 ghost use Rattle.history_text.specs.Puts.{Puts};
 ghost use Rattle.history_text.specs.Calls.{call_format};

@@ -1,6 +1,5 @@
-ghost use Rattle.std.specs.Prelude.{◌≡◌, IfOk, IfErr, OnOk};
+ghost use Rattle.std.specs.Prelude.{◌≡◌, IfOk, IfErr};
 ghost use Rattle.std.specs.List.{AllByRecursion};
-ghost use Rattle.history_text.specs.Formats.{same};
 ghost use Rattle.history_text.specs.Histories.{HasLine, history_of, IsHistory, TellsBad, TellsUnprinted, is_end};
 
 use crate::entry::{put_line, read_line};
