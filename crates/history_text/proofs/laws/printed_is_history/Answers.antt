@@ -1,0 +1,5 @@
+use Rattle.history_text.proofs.HistoryLaws.{printed_is}
+use Rattle.history_text.proofs.laws.printed_is_history.Goals as goal
+
+pub returns : goal.returns
+returns c = printed_is

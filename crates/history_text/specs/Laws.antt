@@ -1,0 +1,35 @@
+-- What holds of all printed histories.
+use Rattle.std.specs.Prelude.{◌≡◌, ℕ, ◌==◌, not, Bool, true, List, [], ◌∷◌, ◌++◌}
+use Rattle.std.specs.List.{list_all, AllByRecursion}
+use Rattle.unix_calls.specs.declared.entry.Entry.{Entry}
+use Rattle.history_text.specs.Histories.{HasLine, line_of, history_of, IsHistory, IsFirstBad}
+
+-- no end of a line
+abbrev pub no_break : ℕ → Bool
+no_break b = not (b == 10)
+
+-- one line: it has byte 10 at its end alone
+pub record IsOneLine (line : List ℕ) : Type 0 where
+  pub front : List ℕ
+  pub parts : line ≡ front ++ 10 ∷ []
+  pub unbroken : list_all no_break front ≡ true
+
+-- what is printed of an entry is one line
+abbrev pub EntryIsOneLine : Type 0
+EntryIsOneLine = (e : Entry) → HasLine e → IsOneLine (line_of e)
+
+-- what is printed of entries is a history of these
+abbrev pub PrintedIsHistory : Type 0
+PrintedIsHistory = (entries : List Entry) → AllByRecursion HasLine entries → IsHistory (history_of entries) entries
+
+-- a text is the history of one list of entries at most
+abbrev pub TextIsOneHistory : Type 0
+TextIsOneHistory = (text : List ℕ) (one other : List Entry) → IsHistory text one → IsHistory text other → one ≡ other
+
+-- a history has no first bad line
+abbrev pub HistoryHasNoBadLine : Type 0
+HistoryHasNoBadLine = (text : List ℕ) (entries : List Entry) (number : ℕ) → IsHistory text entries → IsFirstBad text number → ⊥
+
+-- a text has one first bad line at most
+abbrev pub TextHasOneBadLine : Type 0
+TextHasOneBadLine = (text : List ℕ) (one other : ℕ) → IsFirstBad text one → IsFirstBad text other → one ≡ other

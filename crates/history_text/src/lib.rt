@@ -1,0 +1,20 @@
+//! Histories as texts: the entries of a run, each on a line, printed and read back (this project).
+#![tactic(auto)]
+
+mod call;
+mod entry;
+mod field;
+mod field_end;
+mod history;
+mod history_error;
+mod laws;
+mod number;
+mod quoted;
+mod reader;
+mod reply;
+
+pub use history::{print_history, read_history};
+pub use history_error::HistoryError;
+pub use laws::{
+    entry_is_one_line, history_has_no_bad_line, printed_is_history, text_has_one_bad_line, text_is_one_history,
+};
