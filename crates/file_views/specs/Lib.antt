@@ -24,3 +24,4 @@ pub mod SoundContents
 pub mod Sound
 pub mod Plays
 pub mod Examples
+pub mod ShapeLaw

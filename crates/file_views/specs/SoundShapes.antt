@@ -12,6 +12,8 @@ use Rattle.file_views.specs.declared.call.Carry.{Carry}
 use Rattle.file_views.specs.declared.view.View.{View}
 use Rattle.file_views.specs.Streams.{writes}
 use Rattle.file_views.specs.Views.{server, things, is_callback}
+use Rattle.file_views.specs.declared.step.FileStep.{FileStep}
+use Rattle.file_views.specs.Moves.{is_data}
 use Rattle.file_views.specs.Here.{In, Unique, IsClient, Here, at_kernel}
 
 -- there are one to fifteen clients, and the server keeps one item of each kind for each of them
@@ -84,8 +86,10 @@ pub record Numbered (kernel count : ℕ) (blocks : List Held) (calls : List File
   pub held : (one : Held) → In one blocks → (number : ℕ) → one.dirty ≡ Some number → number ≤ count
   pub sent : (one : FileCall) → In one calls → one.from ≡ kernel → (number : ℕ) → one.dirty ≡ Some number → number ≤ count
 
-abbrev pub LocalShapes : Here → Type 0
-LocalShapes here = Numbered here.kernel here.client.count here.client.blocks here.calls
+-- what waits at a client are readings, writings and appends
+pub record LocalShapes (here : Here) : Type 0 where
+  pub numbered : Numbered here.kernel here.client.count here.client.blocks here.calls
+  pub waits : (step : FileStep) → In step here.client.waiting → is_data step ≡ true
 
 pub record Shapes (v : View) : Type 0 where
   pub items : Items (length v.clients) v.stamps v.modes v.given

@@ -15,7 +15,6 @@ use Rattle.file_views.specs.declared.view.View.{View}
 use Rattle.file_views.specs.Streams.{same_stream, has_stream, copies, counted, total, writes}
 use Rattle.file_views.specs.Views.{client}
 use Rattle.file_views.specs.Possible.{is_about, works_on}
-use Rattle.file_views.specs.Moves.{is_data}
 use Rattle.file_views.specs.Here.{In, Unique, IsClient, Here, at_kernel}
 
 -- an open that isn't granted yet names a stream that nothing else names
@@ -84,7 +83,6 @@ pub record Working (kernel : ℕ) (streams : List StreamNo) (waiting : List File
   pub keeps_stream : (one : FileCall) → In one calls → one.from ≡ kernel → one.reply ≡ None → (stream : StreamNo) (place grants : ℕ) → one.body ≡ form.Move stream place true grants → has_stream stream streams ≡ true
   pub moves_some : (one : FileCall) → In one calls → one.from ≡ kernel → one.reply ≡ None → (stream : StreamNo) (place grants : ℕ) → one.body ≡ form.Move stream place false grants → 1 ≤ grants
   pub closes_some : (one : FileCall) → In one calls → one.from ≡ kernel → one.reply ≡ None → (stream : StreamNo) (grants : ℕ) → one.body ≡ form.Close stream grants → 1 ≤ grants
-  pub waits_data : (step : FileStep) → In step waiting → is_data step ≡ true
   pub waits_open : (step : FileStep) → In step waiting → (stream : StreamNo) → works_on stream step ≡ true → has_stream stream streams ≡ true
   pub waits_writing : (step : FileStep) → In step waiting → is_writing step ≡ true → (other : Open) → In other opened → works_on other.stream step ≡ true → writes other.mode ≡ true
 
