@@ -55,7 +55,7 @@ shaped_fresh count v source to body dirty ends same opens = record {
   writing = opens;
 }
 
-flat_send_op : (v : View) (kernel : ℕ) (step : FileStep) → Flat v → IsClient (length v.clients) kernel → is_data step ≡ true → Flat (send_op v kernel step)
+pub flat_send_op : (v : View) (kernel : ℕ) (step : FileStep) → Flat v → IsClient (length v.clients) kernel → is_data step ≡ true → Flat (send_op v kernel step)
 flat_send_op v kernel (act.Reading pid number place stream from many) f i d = flat_begin v kernel server (op_of (client v kernel).stamp (act.Reading pid number place stream from many)) None f (shaped_fresh _ v kernel server _ None (i, refl) refl (λ p n s m e. absurd (cc (e)))) (λ n e. absurd (cc (e)))
 flat_send_op v kernel (act.Writing pid number place stream from bytes) f i d = flat_begin v kernel server (op_of (client v kernel).stamp (act.Writing pid number place stream from bytes)) None f (shaped_fresh _ v kernel server _ None (i, refl) refl (λ p n s m e. absurd (cc (e)))) (λ n e. absurd (cc (e)))
 flat_send_op v kernel (act.Append pid number place stream bytes) f i d = flat_begin v kernel server (op_of (client v kernel).stamp (act.Append pid number place stream bytes)) None f (shaped_fresh _ v kernel server _ None (i, refl) refl (λ p n s m e. absurd (cc (e)))) (λ n e. absurd (cc (e)))
@@ -64,7 +64,7 @@ flat_send_op v kernel step f i d = absurd (cc (d))
 pub flat_send_fetch : (v : View) (kernel number : ℕ) → Flat v → IsClient (length v.clients) kernel → Flat (send_fetch v kernel number)
 flat_send_fetch v kernel number f i = flat_begin v kernel server (form.Fetch (client v kernel).stamp (record { 0 = number })) None f (shaped_fresh _ v kernel server _ None (i, refl) refl (λ p n s m e. absurd (cc (e)))) (λ n e. absurd (cc (e)))
 
-flat_enter : (z : Setting) (v : View) (kernel : ℕ) (step : FileStep) → Flat v → IsClient (length v.clients) kernel → Flat (enter_cached z v kernel step)
+pub flat_enter : (z : Setting) (v : View) (kernel : ℕ) (step : FileStep) → Flat v → IsClient (length v.clients) kernel → Flat (enter_cached z v kernel step)
 flat_enter z v kernel step f i = flat_client v kernel (done_cached z (client v kernel) step) f i (fine_done z (client v kernel) step (f.fine kernel i))
 
 pub flat_queue : (v : View) (kernel : ℕ) (step : FileStep) → Flat v → IsClient (length v.clients) kernel → is_data step ≡ true → Flat (queue v kernel step)
@@ -74,7 +74,7 @@ flat_queue v kernel step f i d = flat_client v kernel (record (client v kernel) 
     by_place s (inl m) = (f.fine kernel i).waits s m
     by_place s (inr e) = ap is_data e ∙ d
 
-flat_unqueue : (v : View) (kernel : ℕ) (rest : List FileStep) → Flat v → IsClient (length v.clients) kernel → ((s : FileStep) → In s rest → is_data s ≡ true) → Flat (unqueue v kernel rest)
+pub flat_unqueue : (v : View) (kernel : ℕ) (rest : List FileStep) → Flat v → IsClient (length v.clients) kernel → ((s : FileStep) → In s rest → is_data s ≡ true) → Flat (unqueue v kernel rest)
 flat_unqueue v kernel rest f i d = flat_client v kernel (record (client v kernel) { waiting = rest }) f i (fine_wait (client v kernel) rest (f.fine kernel i) d)
 
 flat_wait_for : (v : View) (kernel : ℕ) (step : FileStep) (number : ℕ) (waiting : List FileStep) → Flat v → IsClient (length v.clients) kernel → is_data step ≡ true → Flat (wait_for v kernel step number waiting)
@@ -128,10 +128,10 @@ granting_answers (form.Opening pid number stream mode truncate) grant a = tt
 granting_answers (form.Move stream place kept grants) grant a = refl
 granting_answers body grant a = absurd (cc (a))
 
-flat_settle : (v : View) (one : FileCall) → Flat v → In one v.calls → asks one.body ≡ true → Flat (settle v one)
+pub flat_settle : (v : View) (one : FileCall) → Flat v → In one v.calls → asks one.body ≡ true → Flat (settle v one)
 flat_settle v one f m a = flat_answer (settling v one) one (granting one.body (grant_of v one)) (flat_settling v one f) m (granting_answers one.body (grant_of v one) a)
 
-flat_stamped : (v : View) (kind : CallKind) (kernel : ℕ) → Flat v → Flat (stamped v kind kernel)
+pub flat_stamped : (v : View) (kind : CallKind) (kernel : ℕ) → Flat v → Flat (stamped v kind kernel)
 flat_stamped v kind kernel f = record {
   items = flat_items (length v.clients) v.stamps (stamped v kind kernel).stamps v.modes (stamped v kind kernel).modes v.given v.given (length-set v.stamps (kernel - 1) _) (length-set v.modes (kernel - 1) _) refl f.items;
   calls = f.calls;
@@ -141,7 +141,7 @@ flat_stamped v kind kernel f = record {
   sent = f.sent;
 }
 
-flat_call_out : (v : View) (kind : CallKind) (kernel : ℕ) → Flat v → IsClient (length v.clients) kernel → Flat (call_out v kind kernel)
+pub flat_call_out : (v : View) (kind : CallKind) (kernel : ℕ) → Flat v → IsClient (length v.clients) kernel → Flat (call_out v kind kernel)
 flat_call_out v kind kernel f i = flat_begin (stamped v kind kernel) server kernel (form.Callback (last_stamp v + 1) kind) None (flat_stamped v kind kernel f) (shaped_fresh _ (stamped v kind kernel) server kernel _ None (refl, i) refl (λ p n s m e. absurd (cc (e)))) (λ n e. absurd (cc (e)))
 
 flat_call_back : (kernels : List ℕ) (kind : CallKind) (v : View) → Flat v → ((kernel : ℕ) → In kernel kernels → IsClient (length v.clients) kernel) → Flat (call_back kernels kind v)
@@ -160,7 +160,7 @@ in_numbers first (suc count) number (inr m) = let r = in_numbers (first + 1) cou
 pub among_clients : (v : View) (kernel : ℕ) → In kernel (kernels v) → IsClient (length v.clients) kernel
 among_clients v kernel m = let r = in_numbers 1 (length v.clients) kernel m in let low = r.0 in let high = r.1 in (low, omega (arith, high))
 
-flat_told : (v : View) (uncached : Bool) → Flat v → Flat (told v uncached)
+pub flat_told : (v : View) (uncached : Bool) → Flat v → Flat (told v uncached)
 flat_told v uncached f = flat_server v v.bytes v.version v.holder uncached v.opens v.shared f
 
 flat_decide : (z : Setting) (v : View) (one : FileCall) → Flat v → In one v.calls → asks one.body ≡ true → Flat (decide z v one)

@@ -25,3 +25,4 @@ pub mod Sound
 pub mod Plays
 pub mod Examples
 pub mod ShapeLaw
+pub mod StreamLaw
