@@ -1,0 +1,15 @@
+pub mod MemberLaws
+pub mod EffectLaws
+pub mod ClientLaws
+pub mod ShapeLaws
+pub mod ShapeStepLaws
+pub mod ShapeMoveLaws
+pub mod CountLaws
+pub mod OpenLaws
+pub mod StreamLaws
+pub mod StreamChangeLaws
+pub mod StreamGrantLaws
+pub mod StreamServeLaws
+pub mod StreamStepLaws
+pub mod StreamReplyLaws
+pub mod StreamMoveLaws

@@ -1,0 +1,15 @@
+-- The first layer of soundness holds of each new file, and each step and each move of a client keeps it.
+use Rattle.std.specs.Prelude.{◌≡◌, ◌≤◌, ℕ, true, List}
+use Rattle.file_views.specs.declared.step.FileStep.{FileStep}
+use Rattle.file_views.specs.declared.moves.ClientMove.{ClientMove}
+use Rattle.file_views.specs.declared.view.View.{View}
+use Rattle.file_views.specs.Setting.{Setting}
+use Rattle.file_views.specs.Views.{new_view}
+use Rattle.file_views.specs.Possible.{stepped}
+use Rattle.file_views.specs.Moves.{may_move, after_move}
+use Rattle.file_views.specs.SoundShapes.{Shapes}
+
+pub record ShapesStay : Type 0 where
+  pub new : (count : ℕ) (bytes : List ℕ) → 1 ≤ count → count ≤ 15 → Shapes (new_view count bytes)
+  pub steps : (z : Setting) (v : View) (step : FileStep) → Shapes v → Shapes (stepped z v step)
+  pub moves : (z : Setting) (v : View) (other : ClientMove) → may_move z v other ≡ true → Shapes v → Shapes (after_move z v other)
