@@ -12,7 +12,10 @@ use Rattle.unix_calls.specs.declared.event.About.{About}
 use Rattle.unix_calls.specs.declared.event.Event.{Event}
 use Rattle.unix_calls.specs.declared.event.Event.TheVariants as event
 use Rattle.unix_calls.specs.declared.event.Rec.{Rec}
-use Rattle.unix_calls.specs.State.{Object, OfFile, Stream, Unix, bytes_of}
+use Rattle.unix_calls.specs.declared.state.Object.{Object}
+use Rattle.unix_calls.specs.declared.state.Stream.{Stream}
+use Rattle.unix_calls.specs.declared.state.Object.TheVariants.{OfFile}
+use Rattle.unix_calls.specs.State.{Unix, bytes_of}
 use Rattle.unix_calls.specs.StreamCalls.{begins_at}
 use Rattle.call_journal.specs.Past.{Past, Tie, holds, kernel_of, stream_in, tied, each_record, some_record}
 use Rattle.call_journal.specs.Matching.{is_on, is_return, has_event}

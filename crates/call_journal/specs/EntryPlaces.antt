@@ -16,7 +16,11 @@ use Rattle.unix_calls.specs.declared.entry.Part.TheVariants as part
 use Rattle.unix_calls.specs.declared.event.Event.{Event}
 use Rattle.unix_calls.specs.declared.event.Event.TheVariants as event
 use Rattle.unix_calls.specs.declared.event.Rec.{Rec}
-use Rattle.unix_calls.specs.State.{Object, OfDevice, Stream, Process, free_descriptor}
+use Rattle.unix_calls.specs.declared.state.Object.{Object}
+use Rattle.unix_calls.specs.declared.state.Stream.{Stream}
+use Rattle.unix_calls.specs.declared.state.Process.{Process}
+use Rattle.unix_calls.specs.declared.state.Object.TheVariants.{OfDevice}
+use Rattle.unix_calls.specs.State.{free_descriptor}
 use Rattle.call_journal.specs.Past.{Past, Tie, holds, process_in, kernel_of, stream_in, tied, server_of_device, each_record, some_record}
 use Rattle.call_journal.specs.Matching.{same_stream, is_at, has_event, is_request_about, is_reply_about}
 use Rattle.call_journal.specs.Calls.{path_text, descriptor_of, is_value, error_in, server_of}

@@ -14,8 +14,13 @@ use Rattle.unix_calls.specs.declared.event.SendKind.TheVariants as send
 use Rattle.unix_calls.specs.declared.event.Event.{Event}
 use Rattle.unix_calls.specs.declared.event.Event.TheVariants as event
 use Rattle.unix_calls.specs.declared.event.Rec.{Rec}
-use Rattle.unix_calls.specs.Tree.{FileName, Boot, Made, same_path}
-use Rattle.unix_calls.specs.State.{Object, OfFile, Stream, same_file as same_name}
+use Rattle.unix_calls.specs.declared.state.FileName.{FileName}
+use Rattle.unix_calls.specs.declared.state.FileName.TheVariants.{Boot, Made}
+use Rattle.unix_calls.specs.Tree.{same_path}
+use Rattle.unix_calls.specs.declared.state.Object.{Object}
+use Rattle.unix_calls.specs.declared.state.Stream.{Stream}
+use Rattle.unix_calls.specs.declared.state.Object.TheVariants.{OfFile}
+use Rattle.unix_calls.specs.State.{same_file as same_name}
 use Rattle.call_journal.specs.Past.{Past, Tie, holds, folded, kernel_of, each_record, state_by, last_event, event_before_last, stream_made, entry_count, opening_behind}
 use Rattle.call_journal.specs.Matching.{same_file, same_stream, same_mode, same_about, is_once, is_send, is_at, has_event, is_freeze_of}
 use Rattle.call_journal.specs.Files.{OpenStream, is_opened_at, opens_of}

@@ -13,8 +13,12 @@ use Rattle.unix_calls.specs.declared.event.Rec.{Rec}
 use Rattle.process_machine.specs.declared.call.Call.TheVariants as call
 use Rattle.sprite_ids.specs.declared.names.FileId.{FileId}
 use Rattle.sprite_ids.specs.declared.names.StreamNo.{StreamNo}
-use Rattle.unix_calls.specs.Tree.{FileName}
-use Rattle.unix_calls.specs.State.{Object, OfFile, Stream, Process, Unix, process_at, stream_at, stream_of}
+use Rattle.unix_calls.specs.declared.state.FileName.{FileName}
+use Rattle.unix_calls.specs.declared.state.Object.{Object}
+use Rattle.unix_calls.specs.declared.state.Stream.{Stream}
+use Rattle.unix_calls.specs.declared.state.Process.{Process}
+use Rattle.unix_calls.specs.declared.state.Object.TheVariants.{OfFile}
+use Rattle.unix_calls.specs.State.{Unix, process_at, stream_at, stream_of}
 use Rattle.unix_calls.specs.Boot.{boot_of}
 use Rattle.unix_calls.specs.After.{after}
 

@@ -9,7 +9,7 @@ use Rattle.unix_calls.specs.declared.description.Description.{Description}
 use Rattle.unix_calls.specs.declared.event.Event.{Event}
 use Rattle.unix_calls.specs.declared.event.Event.TheVariants as event
 use Rattle.unix_calls.specs.declared.event.Rec.{Rec}
-use Rattle.unix_calls.specs.State.{Process}
+use Rattle.unix_calls.specs.declared.state.Process.{Process}
 use Rattle.unix_calls.specs.Answers.{program_at}
 use Rattle.call_journal.specs.Past.{Past, process_in, each_record, since_last}
 use Rattle.call_journal.specs.Matching.{is_issue_of, is_entry_of, is_freeze_of, is_any_send, has_event}

@@ -12,7 +12,8 @@ use Rattle.process_machine.specs.Machine.{Machine}
 use Rattle.process_machine.specs.Replies.{given}
 use Rattle.unix_calls.specs.declared.description.Description.{Description}
 use Rattle.unix_calls.specs.declared.description.KernelLine.{KernelLine}
-use Rattle.unix_calls.specs.State.{Process, put_process, no_descriptors}
+use Rattle.unix_calls.specs.declared.state.Process.{Process}
+use Rattle.unix_calls.specs.State.{put_process, no_descriptors}
 use Rattle.unix_calls.specs.Answers.{Answered, program_at, given_by, replies, refuses, value, nothing}
 use Rattle.unix_calls.specs.ProcessCalls.{kernel_name}
 use Rattle.unix_calls.specs.After.{outcome}

@@ -12,7 +12,8 @@ use Rattle.process_machine.proofs.StepLaws.{fresh_present}
 use Rattle.unix_calls.specs.declared.description.Description.{Description}
 use Rattle.unix_calls.specs.declared.description.ProgramLine.{ProgramLine}
 use Rattle.unix_calls.specs.declared.description.StartLine.{StartLine}
-use Rattle.unix_calls.specs.State.{Process, process_at, put_process, births, next_pid}
+use Rattle.unix_calls.specs.declared.state.Process.{Process}
+use Rattle.unix_calls.specs.State.{process_at, put_process, births, next_pid}
 use Rattle.unix_calls.specs.Answers.{program_at}
 use Rattle.unix_calls.specs.Boot.{started, started_by}
 use Rattle.unix_calls.proofs.ProcessLaws.{Compared, Same, Less, More, compared, at_same, at_other, put_less, put_more, Behind, Ascending}

@@ -11,7 +11,8 @@ use Rattle.process_machine.specs.Machine.{Machine}
 use Rattle.unix_calls.specs.declared.description.Description.{Description}
 use Rattle.unix_calls.specs.declared.description.ProgramLine.{ProgramLine}
 use Rattle.unix_calls.specs.declared.event.Rec.{Rec}
-use Rattle.unix_calls.specs.State.{Process, lives}
+use Rattle.unix_calls.specs.declared.state.Process.{Process}
+use Rattle.unix_calls.specs.State.{lives}
 use Rattle.unix_calls.specs.Answers.{program_at}
 use Rattle.unix_calls.specs.ProcessCalls.{kernel_name}
 use Rattle.unix_calls.specs.Output.{process_line, program_name, ending_text, console_line, lines_of, process_text, last_line, output_in}

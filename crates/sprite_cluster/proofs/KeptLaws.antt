@@ -5,7 +5,8 @@ use Rattle.sprite_ids.proofs.ListLaws.{some_is, each_get, each_set}
 use Rattle.process_machine.specs.Machine.{Machine}
 use Rattle.unix_calls.specs.declared.description.Description.{Description}
 use Rattle.unix_calls.specs.declared.event.Rec.{Rec}
-use Rattle.unix_calls.specs.State.{Process, process_at, put_process}
+use Rattle.unix_calls.specs.declared.state.Process.{Process}
+use Rattle.unix_calls.specs.State.{process_at, put_process}
 use Rattle.unix_calls.proofs.ProcessLaws.{at_same, at_other, put_same, put_more}
 use Rattle.sprite_cluster.specs.declared.kept.Kept.{Kept}
 use Rattle.sprite_cluster.specs.Turns.{with_image}

@@ -16,7 +16,8 @@ use Rattle.unix_calls.specs.declared.entry.Entry.{Entry}
 use Rattle.unix_calls.specs.declared.event.Event.{Event}
 use Rattle.unix_calls.specs.declared.event.Event.TheVariants as event
 use Rattle.unix_calls.specs.declared.event.Rec.{Rec}
-use Rattle.unix_calls.specs.State.{Process, Unix, process_at, with_process, no_descriptors}
+use Rattle.unix_calls.specs.declared.state.Process.{Process}
+use Rattle.unix_calls.specs.State.{Unix, process_at, with_process, no_descriptors}
 use Rattle.unix_calls.specs.Answers.{Outcome, Answered, refuses, replies}
 use Rattle.unix_calls.specs.ProcessCalls.{kernel_name}
 use Rattle.unix_calls.specs.After.{outcome, may_fail, failed, with_reply, after_whole, after_part, after_death, after_of, counted}
@@ -96,7 +97,7 @@ counted_bare (Some u) h = h.holds
 entry_bare : (c : Description) (u : Option Unix) (kernel : ℕ) (entry : Entry) → IsLocalEntry c kernel entry → HasNoStreams u → HasNoStreams (state_by c (event.Enter entry) u)
 entry_bare c None kernel entry local h = tt
 entry_bare c (Some u) kernel entry local h =
-    counted_bare (after_of c u entry (process_at u.processes entry.pid)) (found_yields IsBare c u entry (process_at u.processes entry.pid) (λ q claimed called is same s. part_bare c u q kernel entry claimed called local h is same) (λ q s there. death_bare u q h) refl)
+    counted_bare (after_of c u entry (process_at u.processes entry.pid)) (found_yields IsBare c u entry (process_at u.processes entry.pid) (λ q claimed called is same s. part_bare c (with_process q u) q kernel entry claimed called local h is same) (λ q s there. death_bare u q h) refl)
 
 -- nor any local event
 pub event_bare : (c : Description) (kernel : ℕ) (e : Event) (u : Option Unix) → IsLocalEvent c kernel e → HasNoStreams u → HasNoStreams (state_by c e u)

@@ -19,7 +19,8 @@ use Rattle.unix_calls.specs.declared.description.Description.{Description}
 use Rattle.unix_calls.specs.declared.entry.Entry.{Entry}
 use Rattle.unix_calls.specs.declared.event.Event.TheVariants.{Burst}
 use Rattle.unix_calls.specs.declared.event.Rec.{Rec}
-use Rattle.unix_calls.specs.State.{Process, Unix}
+use Rattle.unix_calls.specs.declared.state.Process.{Process}
+use Rattle.unix_calls.specs.State.{Unix}
 use Rattle.unix_calls.specs.Answers.{program_at}
 use Rattle.unix_calls.specs.Boot.{boot_of}
 use Rattle.unix_calls.specs.After.{after, state_from, state_of}

@@ -9,7 +9,7 @@ use Rattle.process_machine.specs.Fresh.{fresh_machine}
 use Rattle.unix_calls.specs.declared.description.Description.{Description}
 use Rattle.unix_calls.specs.declared.description.ProgramLine.{ProgramLine}
 use Rattle.unix_calls.specs.declared.description.StartLine.{StartLine}
-use Rattle.unix_calls.specs.State.{Process}
+use Rattle.unix_calls.specs.declared.state.Process.{Process}
 use Rattle.unix_calls.specs.Answers.{program_at}
 use Rattle.unix_calls.specs.Boot.{started}
 use Rattle.sprite_cluster.specs.declared.kept.Kept.{Kept}

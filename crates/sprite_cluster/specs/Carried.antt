@@ -7,7 +7,8 @@ use Rattle.process_machine.specs.Facts.{AllPresent}
 use Rattle.process_machine.specs.Runs.{ahead}
 use Rattle.unix_calls.specs.declared.description.Description.{Description}
 use Rattle.unix_calls.specs.declared.event.Rec.{Rec}
-use Rattle.unix_calls.specs.State.{Process, Unix, no_descriptors}
+use Rattle.unix_calls.specs.declared.state.Process.{Process}
+use Rattle.unix_calls.specs.State.{Unix, no_descriptors}
 use Rattle.unix_calls.specs.Answers.{program_at}
 use Rattle.unix_calls.specs.Boot.{boot_of}
 use Rattle.unix_calls.specs.After.{state_of}

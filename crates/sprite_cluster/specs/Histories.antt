@@ -6,7 +6,8 @@ use Rattle.sprite_ids.specs.declared.running.Finish.{Finish}
 use Rattle.sprite_ids.specs.declared.running.Finish.TheVariants as finish
 use Rattle.unix_calls.specs.declared.description.Description.{Description}
 use Rattle.unix_calls.specs.declared.event.Rec.{Rec}
-use Rattle.unix_calls.specs.State.{Process, Unix, lives}
+use Rattle.unix_calls.specs.declared.state.Process.{Process}
+use Rattle.unix_calls.specs.State.{Unix, lives}
 use Rattle.unix_calls.specs.ProcessCalls.{kernel_name}
 use Rattle.unix_calls.specs.Output.{process_line, program_name, ending_text, console_line, lines_of, last_line, output_of}
 use Rattle.unix_calls.specs.After.{legal, state_of}

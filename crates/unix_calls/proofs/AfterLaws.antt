@@ -17,14 +17,15 @@ use Rattle.unix_calls.specs.declared.description.Description.{Description}
 use Rattle.unix_calls.specs.declared.entry.Entry.{Entry}
 use Rattle.unix_calls.specs.declared.entry.Part.{Part}
 use Rattle.unix_calls.specs.declared.entry.Part.TheVariants as part
-use Rattle.unix_calls.specs.State.{Device, Process, Unix, process_at, with_process, device_at, with_device, lives, no_descriptors}
+use Rattle.unix_calls.specs.State.{Device, Process, Unix, process_at, put_process, with_process, device_at, with_device, lives, no_descriptors}
 use Rattle.unix_calls.specs.Answers.{Outcome, Answered, GoesTo, Waits, program_at, replied, refuses}
 use Rattle.unix_calls.specs.NameCalls.{stat, mkdir, rmdir, unlink, rename, list, chdir, at_path}
 use Rattle.unix_calls.specs.DeviceCalls.{answer_for}
 use Rattle.unix_calls.specs.Same.{same_call, same_reply}
-use Rattle.unix_calls.specs.After.{outcome, may_fail, is_death, state_in, failed, with_reply, after_whole, asked, after_ask, answer_due, fetched, done_with, done_at, after_death, after_part, next_is, at_image, at_program, after_living, after_of, counted, after}
+use Rattle.unix_calls.specs.After.{outcome, may_fail, is_death, state_in, failed, with_reply, after_whole, asked, after_ask, answer_due, fetched, done_with, done_at, after_death, after_part, next_is, at_call, at_image, at_program, after_living, after_of, counted, after}
 use Rattle.unix_calls.specs.Laws.{IsWithin, IsKilled}
 use Rattle.unix_calls.proofs.OutcomeLaws.{Others, Nobody, DoesIn, Fine, fine_refuses, fine_own}
+use Rattle.unix_calls.proofs.ProcessLaws.{put_there, found_pid}
 use Rattle.unix_calls.proofs.ProcessCallLaws.{fine_print, fine_ends, fine_getppid, fine_host, fine_tick, fine_fork, fine_exec, fine_wait, fine_kill, fine_migrate, fine_rexec}
 use Rattle.unix_calls.proofs.NameCallLaws.{fine_at_path, fine_stat, fine_mkdir, fine_rmdir, fine_unlink, fine_rename, fine_list, fine_chdir, fine_open, fine_pd_make}
 use Rattle.unix_calls.proofs.StreamCallLaws.{fine_close, fine_dup, fine_read, fine_write, fine_seek, fine_size, fine_sync, fine_ioctl, fine_pd_get, fine_pd_put}
@@ -108,6 +109,19 @@ pub record Stands (u : Unix) (pid : ℕ) (p : Process) : Type 0 where
   pub there : process_at u.processes pid ≡ Some before
   pub alive : lives before ≡ true
   pub same : p.pid ≡ before.pid
+  pub living : lives p ≡ true
+
+-- where it is put into the state, it stands there
+pub moved_stands : (u : Unix) (pid : ℕ) (p : Process) → Stands u pid p → Stands (with_process p u) pid p
+moved_stands u pid p s =
+    let number : p.pid ≡ pid = s.same ∙ found_pid u.processes pid s.before s.there in
+    record {
+      before = p;
+      there = subst (λ (n : ℕ). process_at (put_process p u.processes) n ≡ Some p) number (put_there p u.processes);
+      alive = s.living;
+      same = refl;
+      living = s.living;
+    }
 
 -- a step that changes none but its caller
 own_step : (u w : Unix) (pid : ℕ) (p q : Process) → Stands u pid p → w.processes ≡ u.processes → w.limit ≡ u.limit → (IsWithin u → IsWithin w) → q.pid ≡ p.pid → Steps u pid (with_process q w)
@@ -199,21 +213,21 @@ part_steps c u pid p part.Ask called None s =
 part_steps c u pid p part.Ask called (Some reply) s = none_yields (Steps u pid)
 part_steps c u pid p part.Death called reply s = none_yields (Steps u pid)
 
--- a fact of the state after an entry, from the fact for its part, whoever makes it: the entry's call is the same as his
+-- a fact of the state after an entry, from the fact for its part, whoever makes it: he stands at his call, in the state too, and
+-- the entry's call is the same as his
 abbrev pub PartYields : (Unix → Type 0) → Description → Unix → Entry → Type 0
-PartYields P c u e = (q : Process) (claimed called : Call) → e.call ≡ Some claimed → same_call claimed called ≡ true → Stands u e.pid q → Yields P (after_part c u q e.part called e.reply)
+PartYields P c u e = (q : Process) (claimed called : Call) → e.call ≡ Some claimed → same_call claimed called ≡ true → Stands u e.pid q → Yields P (after_part c (with_process q u) q e.part called e.reply)
 
-next_yields : (P : Unix → Type 0) (c : Description) (u : Unix) (p : Process) (e : Entry) (claimed : Call) (found : Option Call) (image : Machine) → PartYields P c u e → e.call ≡ Some claimed → Stands u e.pid p → Yields P (next_is c u p e claimed found image)
-next_yields P c u p e claimed None image by_part is s = none_yields P
-next_yields P c u p e claimed (Some called) image by_part is s =
-    yields_if P (same_call claimed called) _ _
-    (λ on. by_part (record p { image = image }) claimed called is on (record { before = s.before; there = s.there; alive = s.alive; same = s.same }))
-    (λ off. none_yields P)
+next_yields : (P : Unix → Type 0) (c : Description) (u : Unix) (q : Process) (e : Entry) (claimed : Call) (found : Option Call) → PartYields P c u e → e.call ≡ Some claimed → Stands u e.pid q → Yields P (next_is c (with_process q u) q e claimed found)
+next_yields P c u q e claimed None by_part is s = none_yields P
+next_yields P c u q e claimed (Some called) by_part is s =
+    yields_if P (same_call claimed called) _ _ (λ on. by_part q claimed called is on s) (λ off. none_yields P)
 
 image_yields : (P : Unix → Type 0) (c : Description) (u : Unix) (p : Process) (e : Entry) (program : Program) (claimed : Call) (found : Option Machine) → PartYields P c u e → e.call ≡ Some claimed → Stands u e.pid p → Yields P (at_image c u p e program claimed found)
 image_yields P c u p e program claimed None by_part is s = none_yields P
 image_yields P c u p e program claimed (Some image) by_part is s =
-    next_yields P c u p e claimed (call_of_next program (Some image)) image by_part is s
+    let s_moved : Stands u e.pid (record p { image = image }) = record { before = s.before; there = s.there; alive = s.alive; same = s.same; living = s.living } in
+    next_yields P c u (record p { image = image }) e claimed (call_of_next program (Some image)) by_part is s_moved
 
 program_yields : (P : Unix → Type 0) (c : Description) (u : Unix) (p : Process) (e : Entry) (claimed : Call) (found : Option Program) → PartYields P c u e → e.call ≡ Some claimed → Stands u e.pid p → Yields P (at_program c u p e claimed found)
 program_yields P c u p e claimed None by_part is s = none_yields P
@@ -228,23 +242,44 @@ pub found_yields : (P : Unix → Type 0) (c : Description) (u : Unix) (e : Entry
 found_yields P c u e None by_part by_death there = none_yields P
 found_yields P c u e (Some p) by_part by_death there =
     yields_if P (lives p) _ _
-    (λ on. let s : Stands u e.pid p = record { before = p; there = there; alive = on; same = refl } in living_yields P c u p e e.call by_part (by_death p s there) refl s)
+    (λ on. let s : Stands u e.pid p = record { before = p; there = there; alive = on; same = refl; living = on } in living_yields P c u p e e.call by_part (by_death p s there) refl s)
     (λ off. none_yields P)
 
+-- the state at which an entry's step begins: as it was, or with its process at its call
+pub data IsMoved (u : Unix) (pid : ℕ) (first : Unix) : Type 0 where
+  Still : first ≡ u → IsMoved u pid first
+  Moved : (q : Process) → Stands u pid q → first ≡ with_process q u → IsMoved u pid first
+
+pub record Moves (u : Unix) (pid : ℕ) (later : Unix) : Type 0 where
+  pub first : Unix
+  pub moved : IsMoved u pid first
+  pub steps : Steps first pid later
+
+yields_mapped : (P Q : Unix → Type 0) (o : Option Unix) → ((v : Unix) → P v → Q v) → Yields P o → Yields Q o
+yields_mapped P Q None f h = none_yields Q
+yields_mapped P Q (Some v) f h = record { holds = f v h.holds }
+
 -- an entry is a step
-entry_steps : (c : Description) (u : Unix) (e : Entry) → Yields (Steps u e.pid) (after_of c u e (process_at u.processes e.pid))
+entry_steps : (c : Description) (u : Unix) (e : Entry) → Yields (Moves u e.pid) (after_of c u e (process_at u.processes e.pid))
 entry_steps c u e =
-    found_yields (Steps u e.pid) c u e (process_at u.processes e.pid) (λ q claimed called is same s. part_steps c u e.pid q e.part called e.reply s) (λ q s there. death_steps u e.pid q s) refl
+    found_yields (Moves u e.pid) c u e (process_at u.processes e.pid)
+    (λ q claimed called is same s. yields_mapped (Steps (with_process q u) e.pid) (Moves u e.pid) (after_part c (with_process q u) q e.part called e.reply)
+    (λ v steps. record { first = with_process q u; moved = Moved q s refl; steps = steps })
+    (part_steps c (with_process q u) e.pid q e.part called e.reply (moved_stands u e.pid q s)))
+    (λ q s there. yields_mapped (Steps u e.pid) (Moves u e.pid) (after_death u q) (λ v steps. record { first = u; moved = Still refl; steps = steps }) (death_steps u e.pid q s)) refl
 
 -- an entry's state is that of a step, with one entry more
 pub record Entered (u : Unix) (pid : ℕ) (v : Unix) : Type 0 where
   pub later : Unix
-  pub steps : Steps u pid later
+  pub first : Unix
+  pub moved : IsMoved u pid first
+  pub steps : Steps first pid later
   pub whole : v ≡ counted later
 
-entered_by : (u v : Unix) (pid : ℕ) (o : Option Unix) → Yields (Steps u pid) o → option_map counted o ≡ Some v → Entered u pid v
+entered_by : (u v : Unix) (pid : ℕ) (o : Option Unix) → Yields (Moves u pid) o → option_map counted o ≡ Some v → Entered u pid v
 entered_by u v pid None h e = absurd (cc)
-entered_by u v pid (Some later) h e = record { later = later; steps = h.holds; whole = sym (some_is (counted later) v e) }
+entered_by u v pid (Some later) h e =
+    record { later = later; first = h.holds.first; moved = h.holds.moved; steps = h.holds.steps; whole = sym (some_is (counted later) v e) }
 
 pub entered : (c : Description) (u v : Unix) (e : Entry) → after c u e ≡ Some v → Entered u e.pid v
 entered c u v e is =
@@ -275,4 +310,4 @@ yielded_by P (Some w) v h e = (w, h.holds)
 pub death_is_of_killed : (c : Description) (u v : Unix) (e : Entry) → after c u e ≡ Some v → e.part ≡ part.Death → IsKilled u e.pid
 death_is_of_killed c u v e is dead =
     (yielded_by (λ (w : Unix). IsKilled u e.pid) (after_of c u e (process_at u.processes e.pid)) v
-    (found_yields (λ (w : Unix). IsKilled u e.pid) c u e (process_at u.processes e.pid) (λ q claimed called is same s. dead_part (λ (w : Unix). IsKilled u e.pid) c u q e.part called e.reply dead) (λ q s there. killed_death u e.pid q there) refl) is).1
+    (found_yields (λ (w : Unix). IsKilled u e.pid) c u e (process_at u.processes e.pid) (λ q claimed called is same s. dead_part (λ (w : Unix). IsKilled u e.pid) c (with_process q u) q e.part called e.reply dead) (λ q s there. killed_death u e.pid q there) refl) is).1

@@ -29,7 +29,7 @@ use Rattle.unix_calls.specs.Laws.{StaysAs, is_last_call, is_last_part, is_last}
 use Rattle.unix_calls.proofs.OutcomeLaws.{Others, Nobody, Child, Marked}
 use Rattle.unix_calls.proofs.ProcessLaws.{put_there, put_others, found_pid, among_found}
 use Rattle.unix_calls.proofs.NumberLaws.{Numbered, numbered_again, next_is_new, others_numbered, boot_numbered}
-use Rattle.unix_calls.proofs.AfterLaws.{Steps, Yields, none_yields, yields_if, Stands, found_yields, entered}
+use Rattle.unix_calls.proofs.AfterLaws.{Steps, Yields, none_yields, yields_if, Stands, moved_stands, IsMoved, Still, Moved, found_yields, entered}
 use Rattle.unix_calls.proofs.HistoryLaws.{kept, state_from-append, none_goes_on}
 
 -- ---- other processes
@@ -81,18 +81,37 @@ numbered_step u later pid s h =
     subst (λ (w : Unix). Numbered w.processes) (sym s.whole)
     (numbered_again s.caller stays.now s.between.processes (ap (λ (n : ℕ). process_at s.between.processes n) (caller_pid u later pid s) ∙ stays.there) (others_numbered u.processes s.between.processes (home_of s.before.pid) s.others h))
 
+-- the process's own step to its call leaves the numbers
+numbered_moved : (u first : Unix) (pid : ℕ) → IsMoved u pid first → Numbered u.processes → Numbered first.processes
+numbered_moved u first pid (Still is) h = subst (λ (w : Unix). Numbered w.processes) (sym is) h
+numbered_moved u first pid (Moved q s is) h =
+    let number : q.pid ≡ pid = s.same ∙ found_pid u.processes pid s.before s.there in
+    subst (λ (w : Unix). Numbered w.processes) (sym is)
+    (numbered_again q s.before u.processes (ap (λ (n : ℕ). process_at u.processes n) number ∙ s.there) h)
+
 pub numbered_after : (c : Description) (u v : Unix) (e : Entry) → after c u e ≡ Some v → Numbered u.processes → Numbered v.processes
 numbered_after c u v e is h =
     let entry = entered c u v e is in
-    subst (λ (w : Unix). Numbered w.processes) (sym entry.whole) (numbered_step u entry.later e.pid entry.steps h)
+    subst (λ (w : Unix). Numbered w.processes) (sym entry.whole)
+    (numbered_step entry.first entry.later e.pid entry.steps (numbered_moved u entry.first e.pid entry.moved h))
+
+-- and the others
+others_moved : (u first : Unix) (pid other : ℕ) → IsMoved u pid first → other ≢ pid → process_at first.processes other ≡ process_at u.processes other
+others_moved u first pid other (Still is) differs = ap (λ (w : Unix). process_at w.processes other) is
+others_moved u first pid other (Moved q s is) differs =
+    let number : q.pid ≡ pid = s.same ∙ found_pid u.processes pid s.before s.there in
+    ap (λ (w : Unix). process_at w.processes other) is ∙ put_others q u.processes other (λ (same : q.pid ≡ other). differs (sym same ∙ number))
 
 -- an entry leaves the others' images and endings
 stays_after : (c : Description) (u v : Unix) (e : Entry) (other : Process) (pid : ℕ) → after c u e ≡ Some v → Numbered u.processes → process_at u.processes pid ≡ Some other → pid ≢ e.pid → StaysIn other pid v.processes
 stays_after c u v e other pid is h there differs =
     let entry = entered c u v e is in
     let s = entry.steps in
-    let stays : StaysIn other pid s.between.processes = stays_in other u.processes s.between.processes (home_of s.before.pid) pid s.others h there in
-    let apart : s.caller.pid ≡ pid → ⊥ = λ (same : s.caller.pid ≡ pid). differs (sym same ∙ caller_pid u entry.later e.pid s) in
+    let first = entry.first in
+    let numbered : Numbered first.processes = numbered_moved u first e.pid entry.moved h in
+    let stood : process_at first.processes pid ≡ Some other = others_moved u first e.pid pid entry.moved differs ∙ there in
+    let stays : StaysIn other pid s.between.processes = stays_in other first.processes s.between.processes (home_of s.before.pid) pid s.others numbered stood in
+    let apart : s.caller.pid ≡ pid → ⊥ = λ (same : s.caller.pid ≡ pid). differs (sym same ∙ caller_pid first entry.later e.pid s) in
     record {
       now = stays.now;
       there = ap (λ (w : Unix). process_at w.processes pid) entry.whole ∙ (ap (λ (w : Unix). process_at w.processes pid) s.whole ∙ (put_others s.caller s.between.processes pid apart ∙ stays.there));
@@ -192,14 +211,26 @@ has_ended : (c : Description) (u v : Unix) (e : Entry) → after c u e ≡ Some 
 has_ended c u v e is last =
     end_by e.pid (after_of c u e (process_at u.processes e.pid)) v
     (found_yields (EndsIn e.pid) c u e (process_at u.processes e.pid)
-    (λ q claimed called claims same s. part_end c u e.pid q e.part claimed called e.reply (subst (λ (o : Option Call). is_last_part e.part o ≡ true) claims last) same s)
+    (λ q claimed called claims same s. part_end c (with_process q u) e.pid q e.part claimed called e.reply (subst (λ (o : Option Call). is_last_part e.part o ≡ true) claims last) same (moved_stands u e.pid q s))
     (λ q s there. death_end u e.pid q s) refl) is
+
+-- who makes an entry lived before
+pub record Lived (u : Unix) (pid : ℕ) : Type 0 where
+  pub before : Process
+  pub there : process_at u.processes pid ≡ Some before
+  pub alive : lives before ≡ true
+
+lived_by : (u first later : Unix) (pid : ℕ) → IsMoved u pid first → Steps first pid later → Lived u pid
+lived_by u first later pid (Still is) s =
+    record { before = s.before; there = subst (λ (w : Unix). process_at w.processes pid ≡ Some s.before) is s.there; alive = s.alive }
+lived_by u first later pid (Moved q s is) steps = record { before = s.before; there = s.there; alive = s.alive }
 
 -- an ended process makes no entry
 ended_differs : (c : Description) (u v : Unix) (e : Entry) (pid : ℕ) → after c u e ≡ Some v → HasEnded u pid → e.pid ≢ pid
 ended_differs c u v e pid is over =
     λ (same : e.pid ≡ pid).
-    let s = (entered c u v e is).steps in
+    let entry = entered c u v e is in
+    let s = lived_by u entry.first entry.later e.pid entry.moved entry.steps in
     let one : s.before ≡ over.process = some_is s.before over.process (sym s.there ∙ (ap (λ (n : ℕ). process_at u.processes n) same ∙ over.there)) in
     true≢false (sym s.alive ∙ (ap lives one ∙ over.over))
 

@@ -1,5 +1,5 @@
 -- What holds along a history.
-use Rattle.std.proofs.Common.{◌≡◌, true, List, [], ◌∷◌, ◌++◌, Option, Some, None, refl, sym, ap, subst, ◌∙◌}
+use Rattle.std.proofs.Common.{◌≡◌, ℕ, true, List, [], ◌∷◌, ◌++◌, Option, Some, None, refl, sym, ap, subst, ◌∙◌}
 use Rattle.std.specs.Option.{is_some}
 use Rattle.std.proofs.lemmas.Bool.{true≢false}
 use Rattle.sprite_ids.proofs.ListLaws.{some_is}
@@ -9,7 +9,7 @@ use Rattle.unix_calls.specs.State.{Process, Unix, with_process}
 use Rattle.unix_calls.specs.Boot.{boot_of}
 use Rattle.unix_calls.specs.After.{after, counted, state_from, state_of, legal}
 use Rattle.unix_calls.specs.Laws.{IsWithin}
-use Rattle.unix_calls.proofs.AfterLaws.{entered}
+use Rattle.unix_calls.proofs.AfterLaws.{IsMoved, Still, Moved, entered}
 
 -- ---- prefixes
 
@@ -38,12 +38,16 @@ within_process q u h = record { files = h.files; streams = h.streams }
 within_counted : (u : Unix) → IsWithin u → IsWithin (counted u)
 within_counted u h = record { files = h.files; streams = h.streams }
 
+within_moved : (u first : Unix) (pid : ℕ) → IsMoved u pid first → IsWithin u → IsWithin first
+within_moved u first pid (Still is) h = subst IsWithin (sym is) h
+within_moved u first pid (Moved q s is) h = subst IsWithin (sym is) (within_process q u h)
+
 pub within_after : (c : Description) (u v : Unix) (e : Entry) → after c u e ≡ Some v → IsWithin u → IsWithin v
 within_after c u v e is h =
     let entry = entered c u v e is in
     let steps = entry.steps in
     subst IsWithin (sym entry.whole)
-    (within_counted entry.later (subst IsWithin (sym steps.whole) (within_process steps.caller steps.between (steps.within h))))
+    (within_counted entry.later (subst IsWithin (sym steps.whole) (within_process steps.caller steps.between (steps.within (within_moved u entry.first e.pid entry.moved h)))))
 
 -- a fact that each entry keeps holds of the last state
 kept_by : (c : Description) (P : Unix → Type 0) → ((u v : Unix) (e : Entry) → after c u e ≡ Some v → P u → P v) → (journal : List Entry) (o : Option Unix) (v : Unix) → ((u : Unix) → o ≡ Some u → P u) → state_from c o journal ≡ Some v → P v

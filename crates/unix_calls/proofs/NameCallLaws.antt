@@ -8,11 +8,12 @@ use Rattle.sprite_ids.proofs.ListLaws.{each_push}
 use Rattle.sprite_paths.specs.Path.{clean_path}
 use Rattle.unix_calls.specs.declared.description.Description.{Description}
 use Rattle.unix_calls.specs.Tree.{FileName, Made, Node, Directory, FileNode, DeviceNode, node_at, walk}
-use Rattle.unix_calls.specs.State.{Object, OfFile, OfDevice, OfMaster, File, Stream, Process, Unix, same_file, with_bytes, free_descriptor}
+use Rattle.unix_calls.specs.State.{Object, OfFile, OfDevice, OfMaster, File, Stream, Process, Unix, free_descriptor}
 use Rattle.unix_calls.specs.Answers.{Outcome, replies, value}
 use Rattle.unix_calls.specs.NameCalls.{with_path, at_path, stat, stat_of, new_refusal, named, unnamed, mkdir, rmdir, rmdir_refusal, unlink, unlink_refusal, rename, rename_refusal, moved_to, list, list_refusal, chdir, chdir_refusal}
 use Rattle.unix_calls.specs.Opening.{Flags, flags_of, at_descriptor, with_new_stream, opened, cut, with_new_file, create_refusal, open_node, open_at, open_with, open_by, open_file, with_new_device, make_at, make_with, pd_make}
 use Rattle.unix_calls.specs.Laws.{IsWithin}
+use Rattle.unix_calls.proofs.StreamCallLaws.{short_set}
 use Rattle.unix_calls.proofs.OutcomeLaws.{Nobody, Fine, fine_refuses, fine_replies, fine_own, fine_unless}
 
 fine_with_path : (c : Description) (u : Unix) (p : Process) (found : Option (List (List ℕ))) (rest : List (List ℕ) → Outcome) → ((path : List (List ℕ)) → Fine c u p (rest path)) → Fine c u p (with_path c u p found rest)
@@ -74,22 +75,13 @@ within_new_stream object m appends u h =
       streams = each_push (λ (s : Stream). s.offset ≤ u.limit) u.streams _ h.streams (omega arith);
     }
 
-cleared_by : (limit : ℕ) (f : File) (b : Bool) → length f.bytes ≤ limit → length (cond b (record f { bytes = [] }) f).bytes ≤ limit
-cleared_by limit f true h = omega arith
-cleared_by limit f false h = h
-
--- an empty file is within any limit
-within_cleared : (limit : ℕ) (name : FileName) (files : List File) → AllByRecursion (λ (f : File). length f.bytes ≤ limit) files → AllByRecursion (λ (f : File). length f.bytes ≤ limit) (with_bytes name [] files)
-within_cleared limit name [] h = tt
-within_cleared limit name (f ∷ fs) h = (cleared_by limit f (same_file f.name name) h.0, within_cleared limit name fs h.1)
-
 fine_opened : (c : Description) (u w : Unix) (p : Process) (fd : ℕ) (object : Object) (m : Mode) (appends : Bool) → w.processes ≡ u.processes → w.limit ≡ u.limit → (IsWithin u → IsWithin w) → Fine c u p (opened c w p fd object m appends)
 fine_opened c u w p fd object m appends same limit within =
     fine_replies c u (with_new_stream object m appends w) p (at_descriptor w fd p) fd 0 [] (Nobody same) limit (λ h. within_new_stream object m appends w (within h)) refl
 
 fine_cut : (c : Description) (u : Unix) (p : Process) (fd : ℕ) (name : FileName) (m : Mode) (appends truncates : Bool) → Fine c u p (opened c (cut truncates name u) p fd (OfFile name) m appends)
 fine_cut c u p fd name m appends true =
-    fine_opened c u (cut true name u) p fd (OfFile name) m appends refl refl (λ h. record { files = within_cleared u.limit name u.files h.files; streams = h.streams })
+    fine_opened c u (cut true name u) p fd (OfFile name) m appends refl refl (λ h. record { files = short_set u.limit name [] u.files (omega arith) h.files; streams = h.streams })
 fine_cut c u p fd name m appends false = fine_opened c u u p fd (OfFile name) m appends refl refl (λ h. h)
 
 within_new_file : (path : List (List ℕ)) (u : Unix) → IsWithin u → IsWithin (with_new_file path u)

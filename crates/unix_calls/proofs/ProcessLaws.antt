@@ -54,6 +54,19 @@ pub put_there : (r : Process) (ps : List Process) → process_at (put_process r 
 put_there r [] = at_same r [] r.pid refl
 put_there r (q ∷ qs) = put_there_by r q qs (compared r.pid q.pid) (put_there r qs)
 
+-- a process put twice is put once
+put_again_by : (r q x : Process) (xs : List Process) → r.pid ≡ q.pid → Compared q.pid x.pid → put_process r (put_process q xs) ≡ put_process r xs → put_process r (put_process q (x ∷ xs)) ≡ put_process r (x ∷ xs)
+put_again_by r q x xs e (Same s) h = ap (put_process r) (put_same q x xs s) ∙ (put_same r q xs e ∙ sym (put_same r x xs (e ∙ s)))
+put_again_by r q x xs e (Less l) h =
+    ap (put_process r) (put_less q x xs l) ∙ (put_same r q (x ∷ xs) e ∙ sym (put_less r x xs (omega (arith, e, l))))
+put_again_by r q x xs e (More m) h =
+    let more : x.pid < r.pid = omega (arith, e, m) in
+    ap (put_process r) (put_more q x xs m) ∙ (put_more r x (put_process q xs) more ∙ (ap (λ (l : List Process). x ∷ l) h ∙ sym (put_more r x xs more)))
+
+pub put_again : (r q : Process) (ps : List Process) → r.pid ≡ q.pid → put_process r (put_process q ps) ≡ put_process r ps
+put_again r q [] e = put_same r q [] e
+put_again r q (x ∷ xs) e = put_again_by r q x xs e (compared q.pid x.pid) (put_again r q xs e)
+
 -- and the others are as they were
 cons_by : (q : Process) (one two : List Process) (k : ℕ) → process_at one k ≡ process_at two k → process_at (q ∷ one) k ≡ process_at (q ∷ two) k
 cons_by q one two k e = ap (λ (o : Option Process). cond (q.pid == k) (Some q) o) e

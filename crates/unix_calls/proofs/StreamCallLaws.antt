@@ -42,21 +42,23 @@ small_then limit streams (Some place) found h e = small_at limit streams place f
 small_of : (u : Unix) (p : Process) (fd : ℕ) (found : Stream) → IsWithin u → stream_of u p fd ≡ Some found → found.offset ≤ u.limit
 small_of u p fd found h e = small_then u.limit u.streams (joined_option (slice_get p.descriptors fd)) found h.streams e
 
-small_set_by : (limit : ℕ) (s new : Stream) (b : Bool) → Small limit s → Small limit new → Small limit (cond b new s)
-small_set_by limit s new true h n = n
-small_set_by limit s new false h n = h
+small_set_by : (limit : ℕ) (s new : Stream) (rest rest_set : List Stream) (b : Bool) → Small limit s → AllByRecursion (Small limit) rest → Small limit new → AllByRecursion (Small limit) rest_set → AllByRecursion (Small limit) (cond b (new ∷ rest) (s ∷ rest_set))
+small_set_by limit s new rest rest_set true h hs n later = (n, hs)
+small_set_by limit s new rest rest_set false h hs n later = (h, later)
 
 small_set : (limit : ℕ) (new : Stream) (streams : List Stream) → Small limit new → AllByRecursion (Small limit) streams → AllByRecursion (Small limit) (with_stream new streams)
 small_set limit new [] n h = tt
-small_set limit new (s ∷ ss) n h = (small_set_by limit s new (s.place == new.place) h.0 n, small_set limit new ss n h.1)
+small_set limit new (s ∷ ss) n h = small_set_by limit s new ss (with_stream new ss) (s.place == new.place) h.0 h.1 n (small_set limit new ss n h.1)
 
-short_set_by : (limit : ℕ) (f : File) (bytes : List ℕ) (b : Bool) → Short limit f → length bytes ≤ limit → Short limit (cond b (record f { bytes = bytes }) f)
-short_set_by limit f bytes true h n = n
-short_set_by limit f bytes false h n = h
+short_set_by : (limit : ℕ) (f new : File) (rest rest_set : List File) (b : Bool) → Short limit f → AllByRecursion (Short limit) rest → Short limit new → AllByRecursion (Short limit) rest_set → AllByRecursion (Short limit) (cond b (new ∷ rest) (f ∷ rest_set))
+short_set_by limit f new rest rest_set true h hs n later = (n, hs)
+short_set_by limit f new rest rest_set false h hs n later = (h, later)
 
-short_set : (limit : ℕ) (name : FileName) (bytes : List ℕ) (files : List File) → length bytes ≤ limit → AllByRecursion (Short limit) files → AllByRecursion (Short limit) (with_bytes name bytes files)
+-- bytes of at most the limit in the place of a file's
+pub short_set : (limit : ℕ) (name : FileName) (bytes : List ℕ) (files : List File) → length bytes ≤ limit → AllByRecursion (Short limit) files → AllByRecursion (Short limit) (with_bytes name bytes files)
 short_set limit name bytes [] n h = tt
-short_set limit name bytes (f ∷ fs) n h = (short_set_by limit f bytes (same_file f.name name) h.0 n, short_set limit name bytes fs n h.1)
+short_set limit name bytes (f ∷ fs) n h =
+    short_set_by limit f (record f { bytes = bytes }) fs (with_bytes name bytes fs) (same_file f.name name) h.0 h.1 n (short_set limit name bytes fs n h.1)
 
 short_by : (limit : ℕ) (f : File) (rest : List ℕ) (b : Bool) → Short limit f → length rest ≤ limit → length (cond b f.bytes rest) ≤ limit
 short_by limit f rest true h n = h

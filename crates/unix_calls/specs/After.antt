@@ -167,15 +167,18 @@ after_part c u p part.Done call (Some reply) = after_done c u p reply
 after_part c u p part.Ask call None = if is_some p.asking then None else after_ask u p call (outcome c u p call)
 after_part c u p _ call reply = None
 
--- the call is the next one of the image, which stands at it then
-abbrev pub next_is : Description → Unix → Process → Entry → Call → Option Call → Machine → Option Unix
-next_is c u p e claimed None image = None
-next_is c u p e claimed (Some call) image =
-    if same_call claimed call then after_part c u (record p { image = image }) e.part call e.reply else None
+-- the call is the next one of the process's image, which stands at it
+abbrev pub next_is : Description → Unix → Process → Entry → Call → Option Call → Option Unix
+next_is c u p e claimed None = None
+next_is c u p e claimed (Some call) = if same_call claimed call then after_part c u p e.part call e.reply else None
+
+-- of a process whose image has come to its call: it is put into the state first
+abbrev pub at_call : Description → Unix → Process → Entry → Program → Call → Option Unix
+at_call c u p e program claimed = next_is c (with_process p u) p e claimed (call_of_next program (Some p.image))
 
 abbrev pub at_image : Description → Unix → Process → Entry → Program → Call → Option Machine → Option Unix
 at_image c u p e program call None = None
-at_image c u p e program call (Some image) = next_is c u p e call (call_of_next program (Some image)) image
+at_image c u p e program call (Some image) = at_call c u (record p { image = image }) e program call
 
 abbrev pub at_program : Description → Unix → Process → Entry → Call → Option Program → Option Unix
 at_program c u p e call None = None

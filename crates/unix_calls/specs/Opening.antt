@@ -11,12 +11,8 @@ use Rattle.unix_calls.specs.State.{Object, OfFile, OfDevice, OfMaster, Process, 
 use Rattle.unix_calls.specs.Answers.{Outcome, gives, refuses, unless_refused}
 use Rattle.unix_calls.specs.NameCalls.{at_path, refusal_if, named, new_refusal}
 
--- what an open asks for
-pub record Flags : Type 0 where
-  pub mode : Mode
-  pub creates : Bool
-  pub truncates : Bool
-  pub appends : Bool
+-- what an open asks for: a plain value of `src/`
+pub use Rattle.unix_calls.specs.declared.state.Flags.{Flags}
 
 -- the mode of two bits: 1 read, 2 write, 3 both
 abbrev pub mode_of : ℕ → Option Mode

@@ -1,67 +1,20 @@
 -- The state of the one-kernel Unix.
-use Rattle.std.specs.Prelude.{ℕ, ◌+◌, ◌*◌, ◌==◌, Bool, false, not, if◌then◌else◌, List, [], ◌∷◌, nat_lt, count_by, map, replicate, slice_get, Option, Some, None}
+use Rattle.std.specs.Prelude.{ℕ, ◌+◌, ◌*◌, ◌==◌, Bool, false, not, if◌then◌else◌, List, [], ◌∷◌, nat_lt, count_by, replicate, slice_get, Option, Some, None}
 use Rattle.std.specs.List.{list_any}
 use Rattle.std.specs.Option.{option_and_then, is_some}
 use Rattle.sprite_ids.specs.Pid.{home_of}
-use Rattle.sprite_ids.specs.declared.names.Mode.{Mode}
-use Rattle.sprite_ids.specs.declared.running.Ending.{Ending}
-use Rattle.process_machine.specs.declared.call.Call.{Call}
-use Rattle.process_machine.specs.declared.call.Reply.{Reply}
-use Rattle.process_machine.specs.Machine.{Machine}
+use Rattle.sprite_ids.specs.Lists.{changed}
 use Rattle.unix_calls.specs.Tree.{FileName, Boot, Made, Named}
-
--- a file and its bytes; an unlinked one stays, for its streams
-pub record File : Type 0 where
-  pub name : FileName
-  pub bytes : List ℕ
-
--- what a stream leads to: a file, a device as its clients see it, or a device as its master sees it
-pub data Object : Type 0 where
-  OfFile : FileName → Object
-  OfDevice : ℕ → Object
-  OfMaster : ℕ → Object
-
--- an open stream, by the place of the entry that made it: all descriptors that lead to it share its offset
-pub record Stream : Type 0 where
-  pub place : ℕ
-  pub object : Object
-  pub mode : Mode
-  pub appends : Bool
-  pub offset : ℕ
-
--- an operation on a device that waits for its answer: the process, the number of its call, and the call
-pub record Ask : Type 0 where
-  pub pid : ℕ
-  pub number : ℕ
-  pub call : Call
-
--- an answer that a master left
-pub record Answer : Type 0 where
-  pub pid : ℕ
-  pub reply : Reply
-
--- a device, by the place of the entry that made it: the asks that wait, first in first out, the one that its master has
--- in hand, and the answers that were not fetched so far
-pub record Device : Type 0 where
-  pub place : ℕ
-  pub asks : List Ask
-  pub in_hand : Option Ask
-  pub answers : List Answer
-
--- a process. Its descriptors are sixteen places, each of a stream or free; `calls` is how many of its calls are done;
--- `asking` is the device in whose operation it is
-pub record Process : Type 0 where
-  pub pid : ℕ
-  pub image : Machine
-  pub descriptors : List (Option ℕ)
-  pub cwd : List (List ℕ)
-  pub parent : Option ℕ
-  pub calls : ℕ
-  pub asking : Option ℕ
-  pub killed : Bool
-  pub ending : Option Ending
-  pub waited : Bool
-  pub console : List ℕ
+-- the parts of the state are plain values of `src/`: a file, a stream and what it leads to, a device with its asks and answers,
+-- a process
+pub use Rattle.unix_calls.specs.declared.state.File.{File}
+pub use Rattle.unix_calls.specs.declared.state.Object.{Object}
+pub use Rattle.unix_calls.specs.declared.state.Object.TheVariants.{OfFile, OfDevice, OfMaster}
+pub use Rattle.unix_calls.specs.declared.state.Stream.{Stream}
+pub use Rattle.unix_calls.specs.declared.state.Ask.{Ask}
+pub use Rattle.unix_calls.specs.declared.state.Answer.{Answer}
+pub use Rattle.unix_calls.specs.declared.state.Device.{Device}
+pub use Rattle.unix_calls.specs.declared.state.Process.{Process}
 
 -- the state. `roots` are the domains' paths; `ticks` has a count for each kernel; `limit` is the most bytes that a file
 -- may have; `entries` is how many entries led here
@@ -89,7 +42,7 @@ bytes_of (f ∷ fs) name = if same_file f.name name then f.bytes else bytes_of f
 
 -- the files with other bytes in one
 abbrev pub with_bytes : FileName → List ℕ → List File → List File
-with_bytes name bytes files = map (λ (f : File). if same_file f.name name then record f { bytes = bytes } else f) files
+with_bytes name bytes files = changed (λ (f : File). same_file f.name name) (λ (f : File). record f { bytes = bytes }) files
 
 -- the stream that the entry at that place made
 abbrev pub stream_at : List Stream → ℕ → Option Stream
@@ -98,7 +51,7 @@ stream_at (s ∷ ss) place = if s.place == place then Some s else stream_at ss p
 
 -- the streams with this one in its place
 abbrev pub with_stream : Stream → List Stream → List Stream
-with_stream new streams = map (λ (s : Stream). if s.place == new.place then new else s) streams
+with_stream new streams = changed (λ (s : Stream). s.place == new.place) (λ s. new) streams
 
 -- the device that the entry at that place made
 abbrev pub device_at : List Device → ℕ → Option Device
@@ -107,7 +60,7 @@ device_at (d ∷ ds) place = if d.place == place then Some d else device_at ds p
 
 -- the devices with this one in its place
 abbrev pub with_device : Device → List Device → List Device
-with_device new devices = map (λ (d : Device). if d.place == new.place then new else d) devices
+with_device new devices = changed (λ (d : Device). d.place == new.place) (λ d. new) devices
 
 -- the process of that number
 abbrev pub process_at : List Process → ℕ → Option Process

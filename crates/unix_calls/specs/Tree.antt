@@ -3,22 +3,12 @@ use Rattle.std.specs.Prelude.{ℕ, Bool, true, false, ◌&&◌, ◌||◌, ◌==�
 use Rattle.std.specs.Cmp.Lexicographic.{pointwise}
 use Rattle.sprite_ids.specs.declared.errno.Errno.{Errno}
 use Rattle.sprite_ids.specs.declared.errno.Errno.TheVariants as errno
-
--- a file: of the cluster file's lines, the one at that place, or the one that the entry at that place of the journal made
-pub data FileName : Type 0 where
-  Boot : ℕ → FileName
-  Made : ℕ → FileName
-
--- what stands at a path; a device by the place of the entry that made it
-pub data Node : Type 0 where
-  Directory : Node
-  FileNode : FileName → Node
-  DeviceNode : ℕ → Node
-
--- a path and what stands there
-pub record Named : Type 0 where
-  pub path : List (List ℕ)
-  pub node : Node
+-- a file, what stands at a path, and a path with it: plain values of `src/`
+pub use Rattle.unix_calls.specs.declared.state.FileName.{FileName}
+pub use Rattle.unix_calls.specs.declared.state.FileName.TheVariants.{Boot, Made}
+pub use Rattle.unix_calls.specs.declared.state.Node.{Node}
+pub use Rattle.unix_calls.specs.declared.state.Node.TheVariants.{Directory, FileNode, DeviceNode}
+pub use Rattle.unix_calls.specs.declared.state.Named.{Named}
 
 -- whether two paths are the same
 abbrev pub same_path : List (List ℕ) → List (List ℕ) → Bool

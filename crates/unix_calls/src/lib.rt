@@ -8,6 +8,7 @@ mod entry;
 mod event;
 pub mod judged;
 mod laws;
+mod state;
 
 pub use description::{Description, EvictLine, FileLine, KernelLine, ProgramLine, StartLine};
 pub use entry::{Entry, Part};
@@ -15,4 +16,7 @@ pub use event::{About, DropCause, Event, Rec, SendKind};
 pub use laws::{
     death_is_of_killed, domain_is_longest, ended_is_silent, lawful_begins_within, others_stay,
     prefix_is_legal, refusal_changes_nothing, server_serves, sizes_stay_within, tests_tell,
+};
+pub use state::{
+    Answer, Ask, Device, File, FileName, Flags, Named, Node, Object, Process, Stream,
 };

@@ -1,0 +1,27 @@
+use Rattle.std.proofs.Common.{refl, sym, ap, ◌∙◌}
+use Rattle.std.specs.Prelude.{◌==◌}
+use Rattle.std.specs.List.{position}
+use Rattle.sprite_ids.specs.declared.errno.Errno.TheVariants as errno
+use Rattle.process_machine.specs.declared.call.Reply.TheVariants.{Error}
+use Rattle.unix_calls.specs.declared.state.Device.{Device}
+use Rattle.unix_calls.specs.declared.state.Process.{Process}
+use Rattle.unix_calls.specs.State.{with_process}
+use Rattle.unix_calls.specs.Answers.{Answered}
+use Rattle.unix_calls.specs.DeviceCalls.{get_from, pd_get}
+use Rattle.unix_run.specs.Worlds.{unix_of}
+use Rattle.unix_run.proofs.ChangeLaws.{no_device}
+use Rattle.unix_run.proofs.DeviceLaws.{comes_answered, no_master}
+use Rattle.unix_run.proofs.devices.pd_get.Goals as goal
+
+pub returns-in-None : goal.returns-in-None
+returns-in-None c =
+    let w = c.args.world.now in
+    let place = ap (position (λ (d : Device). d.place == c.in-OfMaster.place)) (sym c.as_slice.ensures) ∙ sym c.place_of.ensures ∙ c.in-None.is in
+    let none = no_device c.in-OfMaster.place w.devices place in
+    let found = sym c.stream_of.ensures.stream ∙ c.in-Some.is in
+    comes_answered c.args.c.now (λ u q. pd_get c.args.c.now u q c.args.fd c.args.max) w c.args.p.now (Error errno.BadMode) c.refuse-in-None.result w c.refuse-in-None.new.p
+    c.refuse-in-None.ensures.came
+    (λ ps. no_master c.args.c.now (unix_of c.args.c.now w ps) c.args.p.now c.args.fd c.in-OfMaster.place c.in-Some.stream (get_from c.args.c.now (unix_of c.args.c.now w ps) c.args.p.now c.args.max) found c.in-OfMaster.is none
+    ∙ ap (λ (q : Process). Answered (Error errno.BadMode) (with_process q (unix_of c.args.c.now w ps))) (sym c.refuse-in-None.ensures.process))
+    (ap (λ (q : Process). q.pid) c.refuse-in-None.ensures.process)
+    refl

@@ -1,0 +1,4 @@
+pub mod Worlds
+pub mod Contents
+pub mod Names
+pub mod Devices
