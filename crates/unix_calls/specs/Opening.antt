@@ -10,7 +10,6 @@ use Rattle.unix_calls.specs.Tree.{FileName, Made, Node, Directory, FileNode, Dev
 use Rattle.unix_calls.specs.State.{Object, OfFile, OfDevice, OfMaster, Process, Unix, with_bytes, free_descriptor}
 use Rattle.unix_calls.specs.Answers.{Outcome, gives, refuses, unless_refused}
 use Rattle.unix_calls.specs.NameCalls.{at_path, refusal_if, named, new_refusal}
-
 -- what an open asks for: a plain value of `src/`
 pub use Rattle.unix_calls.specs.declared.state.Flags.{Flags}
 

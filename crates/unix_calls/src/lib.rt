@@ -17,6 +17,4 @@ pub use laws::{
     death_is_of_killed, domain_is_longest, ended_is_silent, lawful_begins_within, others_stay,
     prefix_is_legal, refusal_changes_nothing, server_serves, sizes_stay_within, tests_tell,
 };
-pub use state::{
-    Answer, Ask, Device, File, FileName, Flags, Named, Node, Object, Process, Stream,
-};
+pub use state::{Answer, Ask, Device, File, FileName, Flags, Named, Node, Object, Process, Stream};
