@@ -3,8 +3,7 @@ ghost use Rattle.history_text.specs.Laws.{EntryIsOneLine, PrintedIsHistory, Text
 /// What is printed of an entry is one line, with byte 10 at its end alone (this project).
 pub fn entry_is_one_line()
     ensures { EntryIsOneLine }
-{
-}
+{}
 
 /// What is printed of entries is a history of these (this project).
 pub fn printed_is_history()
