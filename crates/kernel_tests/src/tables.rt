@@ -9,6 +9,8 @@ enum Step {
     Put(u32, u32),
     // Puts the value in the place of the one under the key.
     Set(u32, u32),
+    // Puts the second value in the place of the one under the key, where it is lent for change, and tells whether it was.
+    Lend(u32, u32, bool),
     // Whether a value is under the key.
     Has(u32, bool),
     // The value under the key.
@@ -21,7 +23,7 @@ enum Step {
     Len(usize),
 }
 
-const STEPS: [Step; 18] = [
+const STEPS: [Step; 21] = [
     Step::Len(0),
     Step::Take(1, None),
     Step::Put(5, 50),
@@ -37,7 +39,10 @@ const STEPS: [Step; 18] = [
     Step::Set(5, 51),
     Step::Get(5, Some(51)),
     Step::Has(3, false),
-    Step::Take(5, Some(51)),
+    Step::Lend(5, 52, true),
+    Step::Lend(3, 30, false),
+    Step::Get(5, Some(52)),
+    Step::Take(5, Some(52)),
     Step::Take(5, None),
     Step::Keys(&[2, 7, 9]),
 ];
@@ -46,6 +51,17 @@ const STEPS: [Step; 18] = [
 fn are_keys(alloc: Global, table: &Table<u32, u32>, keys: &[u32]) -> Result<bool, NoMemory> {
     let found: Items<u32> = table.keys(alloc)?;
     Ok(found.as_slice() == keys)
+}
+
+// Puts the value in the place of the one under the key, where there is one, and tells whether there is.
+fn lends(table: &mut Table<u32, u32>, key: u32, value: u32) -> bool {
+    match table.get_mut(&key) {
+        Some(place) => {
+            *place = value;
+            true
+        }
+        None => false,
+    }
 }
 
 // Whether the call gives what it should.
@@ -59,6 +75,7 @@ fn does(alloc: Global, table: &mut Table<u32, u32>, step: Step) -> Result<bool, 
             table.set(&key, value);
             Ok(true)
         }
+        Step::Lend(key, value, is_there) => Ok(lends(table, key, value) == is_there),
         Step::Has(key, is_there) => Ok(table.has(&key) == is_there),
         Step::Get(key, value) => Ok(table.get(&key).copied() == value),
         Step::Take(key, value) => Ok(table.take(&key) == value),

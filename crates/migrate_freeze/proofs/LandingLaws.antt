@@ -5,6 +5,7 @@ use Rattle.std.specs.List.{AllByRecursion, find, list_all}
 use Rattle.sprite_ids.proofs.ListLaws.{some_is}
 use Rattle.sprite_ids.specs.declared.Mode.{Mode}
 use Rattle.sprite_ids.specs.declared.Mode.TheVariants as open_for
+use Rattle.sprite_ids.specs.declared.StreamNo.{StreamNo}
 use Rattle.sprite_ids.specs.declared.Object.{Object}
 use Rattle.sprite_ids.specs.declared.Object.TheVariants as objects
 use Rattle.stream_table.specs.declared.Carried.{Carried}
@@ -24,8 +25,8 @@ use Rattle.migrate_freeze.specs.declared.arrival.Arrival.{Arrival}
 use Rattle.migrate_freeze.specs.declared.arrival.Load.TheVariants as loads
 use Rattle.migrate_freeze.specs.Moves.{frozen_for, is_before, is_moved, is_stream, lower, moved_stream, names, next_from, noted}
 use Rattle.migrate_freeze.specs.Packing.{before, body_for, can_move, can_travel, fds_of, gathered, offset_of, packed, packed_as, packed_stream, target_of}
-use Rattle.migrate_freeze.specs.Arriving.{arrived_of, brings, descriptor_of, descriptors_of, object_of, place_of, stream_of}
-use Rattle.migrate_freeze.specs.Landing.{EachLands, IsMoveOf, IsOneOf, Lands, MayBe, Took, landed, landed_stream, moved_all, moved_once, next_of}
+use Rattle.migrate_freeze.specs.Arriving.{arrived_of, brings, descriptor_of, descriptors_of, grant_in, grant_of, object_of, place_of, stream_of}
+use Rattle.migrate_freeze.specs.Landing.{EachLands, IsMoveOf, IsOneOf, Lands, MayBe, Took, landed, landed_stream, moved_all, moved_once, next_of, taken_grant}
 
 -- both of two are true where both together are
 pub both : (a b : Bool) → (a && b) ≡ true → (a ≡ true) × (b ≡ true)
@@ -137,6 +138,7 @@ pub record IsPacked (moved : MovedStream) : Type 0 where
   tells : packed_stream moved ≡ Some words
   number : words.stream ≡ moved.number
   stream : stream_of words ≡ moved.stream
+  grant : words.grant ≡ moved.grant
 
 abbrev pub Packs : Option MovedStream → Type 0
 Packs (Some moved) = IsPacked moved
@@ -151,6 +153,7 @@ packs_as moved target mode t m = record {
   words = record { stream = moved.number; object = target; mode = mode; offset = offset_of moved.stream.place; grant = moved.grant; grants = moved.stream.grants };
   tells = ap (λ (o : Option Target). packed_as moved o (carried moved.stream.mode moved.stream.append)) t ∙ ap (λ (o : Option CarriedMode). packed_as moved (Some target) o) m;
   number = refl;
+  grant = refl;
   stream = ap (λ (o : Object). record { object = o; mode = mode_of mode; place = place_of (offset_of moved.stream.place); grants = moved.stream.grants; append = appends mode }) (object_again moved.stream.object target t)
       ∙ ap (λ (o : Mode). record { object = moved.stream.object; mode = o; place = place_of (offset_of moved.stream.place); grants = moved.stream.grants; append = appends mode }) (mode_again moved.stream.mode moved.stream.append mode m).0
       ∙ ap (λ (o : Bool). record { object = moved.stream.object; mode = moved.stream.mode; place = place_of (offset_of moved.stream.place); grants = moved.stream.grants; append = o }) (mode_again moved.stream.mode moved.stream.append mode m).1
@@ -204,6 +207,20 @@ all_land (item ∷ rest) moved h k m =
     ∙ ap (λ (o : Option Carried). before o (descriptors_of (fds_of rest) (packed moved))) (lands_one item moved h m.0)
     ∙ ap (λ (items : List Carried). landed moved item ∷ items) (all_land rest moved h parts.1 m.1)
 
+-- the grants that a packet brings are those that the moves took
+grants_by : (number : StreamNo) (moved : MovedStream) (rest : List (Option MovedStream)) (h : IsPacked moved) (again : grant_of (packed rest) number ≡ taken_grant (find (names number) rest)) (b : Bool) → is_stream number moved.number ≡ b → grant_of (h.words ∷ packed rest) number ≡ taken_grant (cond b (Some (Some moved)) (find (names number) rest))
+grants_by number moved rest h again true e =
+    ap (λ b. grant_in (cond b (Some h.words) (find (brings number) (packed rest)))) (ap (is_stream number) h.number ∙ e) ∙ h.grant
+grants_by number moved rest h again false e =
+    ap (λ b. grant_in (cond b (Some h.words) (find (brings number) (packed rest)))) (ap (is_stream number) h.number ∙ e) ∙ again
+
+grants_are : (number : StreamNo) (moved : List (Option MovedStream)) → AllByRecursion Packs moved → grant_of (packed moved) number ≡ taken_grant (find (names number) moved)
+grants_are number [] h = refl
+grants_are number (None ∷ rest) h = grants_are number rest h.1
+grants_are number (Some moved ∷ rest) h =
+    ap (λ (o : Option CarriedStream). grant_of (before o (packed rest)) number) h.0.tells
+    ∙ grants_by number moved rest h.0 (grants_are number rest h.1) (is_stream number moved.number) refl
+
 -- a process that comes as it was
 abbrev pub came_whole : Freeze → Arrival
 came_whole freeze = record { pid = freeze.process.pid; number = freeze.process.number; load = loads.Image freeze.process.image; cwd = freeze.process.cwd; streams = packed freeze.moved; descriptors = descriptors_of (fds_of freeze.process.streams) (packed freeze.moved); killed = freeze.process.killed; moving = freeze.process.moving }
@@ -215,8 +232,9 @@ came_to_start freeze program = record { pid = freeze.process.pid; number = freez
 none_some : {A : Type 0} (program : ℕ) → None ≡ Some program → A
 none_some program e = absurd (cc)
 
-lands_for : (freeze : Freeze) (program : Option ℕ) → freeze.program ≡ program → AllByRecursion (MayBe freeze.process.streams) freeze.moved → descriptors_of (fds_of freeze.process.streams) (packed freeze.moved) ≡ map (landed freeze.moved) freeze.process.streams → Lands freeze
-lands_for freeze None e moves same = record {
+lands_for : (freeze : Freeze) (program : Option ℕ) → freeze.program ≡ program → AllByRecursion (MayBe freeze.process.streams) freeze.moved → descriptors_of (fds_of freeze.process.streams) (packed freeze.moved) ≡ map (landed freeze.moved) freeze.process.streams → ((number : StreamNo) → grant_of (packed freeze.moved) number ≡ taken_grant (find (names number) freeze.moved)) → Lands freeze
+lands_for freeze None e moves same grants = record {
+  grants = grants;
   moves = moves;
   arrival = came_whole freeze;
   brings = ap (λ (o : Option ℕ). arrived_of (body_for freeze o)) e;
@@ -224,7 +242,8 @@ lands_for freeze None e moves same = record {
   whole = λ _. ap (λ (items : List Carried). Some (record freeze.process { streams = items })) same;
   fresh = λ program image k. none_some program (sym e ∙ k);
 }
-lands_for freeze (Some program) e moves same = record {
+lands_for freeze (Some program) e moves same grants = record {
+  grants = grants;
   moves = moves;
   arrival = came_to_start freeze program;
   brings = ap (λ (o : Option ℕ). arrived_of (body_for freeze o)) e;
@@ -237,7 +256,8 @@ lands_of : (process : Process) (program : Option ℕ) (freeze : Freeze) → Stay
 lands_of process program freeze h can done =
     let travels = subst (λ (p : Process). list_all can_travel p.streams ≡ true) (sym h.same) (both (nat_le (length process.streams) 16) (list_all can_travel process.streams) can).1 in
     let moves = subst (λ (p : Process). AllByRecursion (MayBe p.streams) freeze.moved) (sym h.same) h.moves in
-    lands_for freeze freeze.program refl moves (all_land freeze.process.streams freeze.moved (each_packs freeze.process.streams freeze.moved travels moves) travels (all_moved freeze.moved freeze.process.streams done))
+    let packs = each_packs freeze.process.streams freeze.moved travels moves in
+    lands_for freeze freeze.program refl moves (all_land freeze.process.streams freeze.moved packs travels (all_moved freeze.moved freeze.process.streams done)) (λ number. grants_are number freeze.moved packs)
 
 pub each_lands : EachLands
 each_lands process to program moves can done =

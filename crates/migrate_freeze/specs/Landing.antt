@@ -2,6 +2,7 @@
 use Rattle.std.specs.Prelude.{◌≡◌, ◌⊎◌, ◌≤◌, ℕ, true, List, [], ◌∷◌, length, Option, Some, None, map, IsTrue}
 use Rattle.std.specs.List.{AllByRecursion, find}
 use Rattle.sprite_ids.specs.declared.Grant.{Grant}
+use Rattle.sprite_ids.specs.declared.StreamNo.{StreamNo}
 use Rattle.process_machine.specs.Machine.{Machine}
 use Rattle.stream_table.specs.declared.Carried.{Carried}
 use Rattle.stream_table.specs.declared.Place.{Place}
@@ -12,7 +13,7 @@ use Rattle.migrate_freeze.specs.declared.freeze.Freeze.{Freeze}
 use Rattle.migrate_freeze.specs.declared.arrival.Arrival.{Arrival}
 use Rattle.migrate_freeze.specs.Moves.{frozen_for, moved_on, names, next_from}
 use Rattle.migrate_freeze.specs.Packing.{body_of, can_move}
-use Rattle.migrate_freeze.specs.Arriving.{arrived_of, launched_of, process_with, thawed}
+use Rattle.migrate_freeze.specs.Arriving.{arrived_of, grant_of, launched_of, process_with, thawed}
 
 -- what a move of a stream took
 pub record Took : Type 0 where
@@ -52,6 +53,12 @@ landed_process freeze = record freeze.process { streams = map (landed freeze.mov
 abbrev pub launched_process : Freeze → Machine → Process
 launched_process freeze image = record (landed_process freeze) { image = image; moving = true }
 
+-- the grant that a looked-up move took
+abbrev pub taken_grant : Option (Option MovedStream) → Option Grant
+taken_grant (Some (Some moved)) = moved.grant
+taken_grant (Some None) = None
+taken_grant None = None
+
 -- the descriptor is one of these
 abbrev pub IsOneOf : List Carried → Carried → Type 0
 IsOneOf [] item = ⊥
@@ -70,12 +77,13 @@ MayBe streams (Some moved) = IsMoveOf streams moved
 MayBe streams None = Unit {0}
 
 -- a frozen process all of whose streams have moved: each move was of one of them, and the request that tells of it brings it
--- as it was frozen, but for what the moves took, or ready for its next program
+-- as it was frozen, but for what the moves took, or ready for its next program, with the grants that they took
 pub record Lands (freeze : Freeze) : Type 0 where
   pub moves : AllByRecursion (MayBe freeze.process.streams) freeze.moved
   pub arrival : Arrival
   pub brings : arrived_of (body_of freeze) ≡ Some arrival
   pub program : launched_of arrival.load ≡ freeze.program
+  pub grants : (number : StreamNo) → grant_of arrival.streams number ≡ taken_grant (find (names number) freeze.moved)
   pub whole : freeze.program ≡ None → thawed arrival ≡ Some (landed_process freeze)
   pub fresh : (program : ℕ) (image : Machine) → freeze.program ≡ Some program → process_with arrival image ≡ launched_process freeze image
 
