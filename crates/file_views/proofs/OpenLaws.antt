@@ -201,11 +201,11 @@ unique_taken (o ∷ opens) stream kernel grants u = unique_first o opens stream 
 
 pub shaped_taken : (count : ℕ) (opens : List Open) (stream : StreamNo) (kernel grants : ℕ) → OpensShaped count opens → OpensShaped count (take_off opens stream kernel grants)
 shaped_taken count opens stream kernel grants s = record {
-    differ = unique_taken opens stream kernel grants s.differ;
-    client = λ one m. let l : Left one opens = left_in opens stream kernel grants one m in subst (IsClient count) (sym l.kernel_is) (s.client l.before l.there);
-    counts = λ one m. let l : Left one opens = left_in opens stream kernel grants one m in l.counts (s.counts l.before l.there);
-    modes = λ one other m n e. let l : Left one opens = left_in opens stream kernel grants one m in let r : Left other opens = left_in opens stream kernel grants other n in l.mode_is ∙ s.modes l.before r.before l.there r.there (sym l.stream_is ∙ e ∙ r.stream_is) ∙ sym r.mode_is;
-  }
+  differ = unique_taken opens stream kernel grants s.differ;
+  client = λ one m. let l : Left one opens = left_in opens stream kernel grants one m in subst (IsClient count) (sym l.kernel_is) (s.client l.before l.there);
+  counts = λ one m. let l : Left one opens = left_in opens stream kernel grants one m in l.counts (s.counts l.before l.there);
+  modes = λ one other m n e. let l : Left one opens = left_in opens stream kernel grants one m in let r : Left other opens = left_in opens stream kernel grants other n in l.mode_is ∙ s.modes l.before r.before l.there r.there (sym l.stream_is ∙ e ∙ r.stream_is) ∙ sym r.mode_is;
+}
 
 -- one more open, in the mode of the others of its stream
 pub in_added : (opens : List Open) (stream : StreamNo) (kernel : ℕ) (mode : Mode) (one : Open) → In one (add_open opens stream kernel mode) → In one opens ⊎ ((one.stream ≡ stream) × (one.kernel ≡ kernel) × (one.mode ≡ mode))
@@ -226,15 +226,16 @@ counts_added opens stream kernel mode one f (inr e) = subst (λ (x : Open). 1 �
 
 pub shaped_added : (count : ℕ) (opens : List Open) (stream : StreamNo) (kernel : ℕ) (mode : Mode) → OpensShaped count opens → IsClient count kernel → ((one : Open) → In one opens → one.stream ≡ stream → one.mode ≡ mode) → OpensShaped count (add_open opens stream kernel mode)
 shaped_added count opens stream kernel mode s i f = record {
-    differ = subst Unique (sym (map-append open_key (filter (λ x. not (is_open stream kernel x)) opens) (record { stream = stream; kernel = kernel; mode = mode; count = open_count opens stream kernel + 1 } ∷ []))) (unique_append (map open_key (filter (λ x. not (is_open stream kernel x)) opens)) (stream, kernel) (unique_filter open_key (λ x. not (is_open stream kernel x)) opens s.differ) (key_free opens stream kernel));
-    client = λ one m. placed one (in_added opens stream kernel mode one m);
-    counts = λ one m. counts_added opens stream kernel mode one s.counts (in_last one (record { stream = stream; kernel = kernel; mode = mode; count = open_count opens stream kernel + 1 }) (filter (λ x. not (is_open stream kernel x)) opens) m);
-    modes = λ one other m n e. alike one other e (in_added opens stream kernel mode one m) (in_added opens stream kernel mode other n);
-  }
+  differ = subst Unique (sym (map-append open_key (filter (λ x. not (is_open stream kernel x)) opens) (record { stream = stream; kernel = kernel; mode = mode; count = open_count opens stream kernel + 1 } ∷ []))) (unique_append (map open_key (filter (λ x. not (is_open stream kernel x)) opens)) (stream, kernel) (unique_filter open_key (λ x. not (is_open stream kernel x)) opens s.differ) (key_free opens stream kernel));
+  client = λ one m. placed one (in_added opens stream kernel mode one m);
+  counts = λ one m. counts_added opens stream kernel mode one s.counts (in_last one (record { stream = stream; kernel = kernel; mode = mode; count = open_count opens stream kernel + 1 }) (filter (λ x. not (is_open stream kernel x)) opens) m);
+  modes = λ one other m n e. alike one other e (in_added opens stream kernel mode one m) (in_added opens stream kernel mode other n);
+}
   where
     placed : (one : Open) → In one opens ⊎ ((one.stream ≡ stream) × (one.kernel ≡ kernel) × (one.mode ≡ mode)) → IsClient count one.kernel
     placed one (inl n) = s.client one n
     placed one (inr e) = subst (IsClient count) (sym e.1) i
+
     alike : (one other : Open) → one.stream ≡ other.stream → In one opens ⊎ ((one.stream ≡ stream) × (one.kernel ≡ kernel) × (one.mode ≡ mode)) → In other opens ⊎ ((other.stream ≡ stream) × (other.kernel ≡ kernel) × (other.mode ≡ mode)) → one.mode ≡ other.mode
     alike one other e (inl a) (inl b) = s.modes one other a b e
     alike one other e (inl a) (inr b) = f one a (e ∙ b.0) ∙ sym b.2

@@ -27,14 +27,16 @@ before_self v one m = record { before = one; there = m; number_is = refl; from_i
 -- a client that changes, but for its streams
 pub rests_client : (v : View) (kernel : ℕ) (c : Client) → IsClient (length v.clients) kernel → c.streams ≡ (client v kernel).streams → ((step : FileStep) → In step c.waiting → In step (client v kernel).waiting) → Rests v (set_client v kernel c)
 rests_client v kernel c i e w = record {
-    calm = record {
-      count = count_set v kernel c;
-      streams = λ other j. by_kernel (λ k. (client (set_client v kernel c) k).streams ≡ (client v k).streams) kernel other (ap (λ (x : Client). x.streams) (client_set v kernel c i) ∙ e) (λ d. ap (λ (x : Client). x.streams) (client_other v kernel other c i.0 j.0 d));
-      waiting = λ other j step. by_kernel (λ k. In step (client (set_client v kernel c) k).waiting → In step (client v k).waiting) kernel other (λ m. w step (subst (λ (x : Client). In step x.waiting) (client_set v kernel c i) m)) (λ d m. subst (λ (x : Client). In step x.waiting) (client_other v kernel other c i.0 j.0 d) m);
-      calls = before_self v;
-    };
-    opens = refl; shared = refl; carried = λ one m. m;
-  }
+  calm = record {
+    count = count_set v kernel c;
+    streams = λ other j. by_kernel (λ k. (client (set_client v kernel c) k).streams ≡ (client v k).streams) kernel other (ap (λ (x : Client). x.streams) (client_set v kernel c i) ∙ e) (λ d. ap (λ (x : Client). x.streams) (client_other v kernel other c i.0 j.0 d));
+    waiting = λ other j step. by_kernel (λ k. In step (client (set_client v kernel c) k).waiting → In step (client v k).waiting) kernel other (λ m. w step (subst (λ (x : Client). In step x.waiting) (client_set v kernel c i) m)) (λ d m. subst (λ (x : Client). In step x.waiting) (client_other v kernel other c i.0 j.0 d) m);
+    calls = before_self v;
+  };
+  opens = refl;
+  shared = refl;
+  carried = λ one m. m;
+}
 
 pub streams_client : (v : View) (kernel : ℕ) (c : Client) → FlatStreams v → IsClient (length v.clients) kernel → c.streams ≡ (client v kernel).streams → ((step : FileStep) → In step c.waiting → In step (client v kernel).waiting) → FlatStreams (set_client v kernel c)
 streams_client v kernel c f i e w = rests v (set_client v kernel c) f (rests_client v kernel c i e w) (λ stream k. refl)
@@ -42,14 +44,16 @@ streams_client v kernel c f i e w = rests v (set_client v kernel c) f (rests_cli
 -- the server's own part changes
 pub streams_same : (v w : View) → w.clients ≡ v.clients → w.opens ≡ v.opens → w.shared ≡ v.shared → w.calls ≡ v.calls → w.carried ≡ v.carried → FlatStreams v → FlatStreams w
 streams_same v w a b c d e f = rests v w f (record {
-    calm = record {
-      count = ap length a;
-      streams = λ kernel i. ap (λ cs. (slice_index_or cs (kernel - 1) new_client).streams) a;
-      waiting = λ kernel i step m. subst (λ cs. In step (slice_index_or cs (kernel - 1) new_client).waiting) a m;
-      calls = λ one m. before_self v one (subst (In one) d m);
-    };
-    opens = b; shared = c; carried = λ one m. subst (In one) e m;
-  }) (λ stream k. ap₂ (λ xs ys. total (on_way stream k) (map as_call xs ++ ys)) e d)
+  calm = record {
+    count = ap length a;
+    streams = λ kernel i. ap (λ cs. (slice_index_or cs (kernel - 1) new_client).streams) a;
+    waiting = λ kernel i step m. subst (λ cs. In step (slice_index_or cs (kernel - 1) new_client).waiting) a m;
+    calls = λ one m. before_self v one (subst (In one) d m);
+  };
+  opens = b;
+  shared = c;
+  carried = λ one m. subst (In one) e m;
+}) (λ stream k. ap₂ (λ xs ys. total (on_way stream k) (map as_call xs ++ ys)) e d)
 
 -- a call is exchanged for itself with a reply
 with_before : (v : View) (one : FileCall) (reply : FileBody) → In one v.calls → (other : FileCall) → In other (with_call (replied one reply) v.calls) → Before v other
@@ -61,18 +65,22 @@ with_before v one reply m other n = by_place (in_with (replied one reply) other 
 
 pub streams_answer : (v : View) (one : FileCall) (reply : FileBody) → Apart v → In one v.calls → ((stream : StreamNo) (kernel : ℕ) → on_way stream kernel (replied one reply) ≡ on_way stream kernel one) → FlatStreams v → FlatStreams (answer v one reply)
 streams_answer v one reply u m same f = rests v (answer v one reply) f (record {
-    calm = record { count = refl; streams = λ kernel i. refl; waiting = λ kernel i step n. n; calls = with_before v one reply m };
-    opens = refl; shared = refl; carried = λ other n. n;
-  }) (λ stream kernel. let a : total (on_way stream kernel) (things (answer v one reply)) ≡ total (on_way stream kernel) (with_call (replied one reply) (things v)) = ap (total (on_way stream kernel)) (things_with v one (replied one reply) u m refl) in
+  calm = record { count = refl; streams = λ kernel i. refl; waiting = λ kernel i step n. n; calls = with_before v one reply m };
+  opens = refl;
+  shared = refl;
+  carried = λ other n. n;
+}) (λ stream kernel. let a : total (on_way stream kernel) (things (answer v one reply)) ≡ total (on_way stream kernel) (with_call (replied one reply) (things v)) = ap (total (on_way stream kernel)) (things_with v one (replied one reply) u m refl) in
     let b = total_with (on_way stream kernel) (things v) one (replied one reply) u (call_in_things v one m) refl in
     let c = same stream kernel in omega (arith, a, b, c))
 
 -- a call is finished
 rests_remove : (v : View) (one : FileCall) → Rests v (remove_call v one.number)
 rests_remove v one = record {
-    calm = record { count = refl; streams = λ kernel i. refl; waiting = λ kernel i step n. n; calls = λ other n. before_self v other (in_without one.number other v.calls n).0 };
-    opens = refl; shared = refl; carried = λ other n. n;
-  }
+  calm = record { count = refl; streams = λ kernel i. refl; waiting = λ kernel i step n. n; calls = λ other n. before_self v other (in_without one.number other v.calls n).0 };
+  opens = refl;
+  shared = refl;
+  carried = λ other n. n;
+}
 
 total_removed : (v : View) (one : FileCall) → Apart v → In one v.calls → (stream : StreamNo) (kernel : ℕ) → total (on_way stream kernel) (things v) ≡ on_way stream kernel one + total (on_way stream kernel) (things (remove_call v one.number))
 total_removed v one u m stream kernel = total_without (on_way stream kernel) (things v) one u (call_in_things v one m) ∙ ap (λ xs. on_way stream kernel one + total (on_way stream kernel) xs) (sym (things_without v one u m))
@@ -89,9 +97,11 @@ streams_remove v one u m none f = rests v (remove_call v one.number) f (rests_re
 -- the server takes a call
 pub streams_take : (v : View) (one : FileCall) → Apart v → In one v.calls → FlatStreams v → FlatStreams (to_the_end v one)
 streams_take v one u m f = rests v (to_the_end v one) f (record {
-    calm = record { count = refl; streams = λ kernel i. refl; waiting = λ kernel i step n. n; calls = λ other n. by_place other (in_last other (record one { taken = true }) (without_call one.number v.calls) n) };
-    opens = refl; shared = refl; carried = λ other n. n;
-  }) (λ stream kernel.
+  calm = record { count = refl; streams = λ kernel i. refl; waiting = λ kernel i step n. n; calls = λ other n. by_place other (in_last other (record one { taken = true }) (without_call one.number v.calls) n) };
+  opens = refl;
+  shared = refl;
+  carried = λ other n. n;
+}) (λ stream kernel.
     let a : total (on_way stream kernel) (things (to_the_end v one)) ≡ total (on_way stream kernel) (things (remove_call v one.number) ++ record one { taken = true } ∷ []) = ap (total (on_way stream kernel)) (sym (append_assoc (map as_call v.carried) (without_call one.number v.calls) (record one { taken = true } ∷ []))) in
     let b = total_last (on_way stream kernel) (things (remove_call v one.number)) (record one { taken = true }) in
     let c = total_removed v one u m stream kernel in omega (arith, a, b, c))
@@ -117,14 +127,24 @@ new_begin v source to body dirty f r apart fresh one m n pid number stream mode 
   where
     old : (k : In one v.calls) → NamedOnce v one.number stream → NamedOnce (begin v source to body dirty) one.number stream
     old k once = record {
-        shared = once.shared; opens = once.opens; carried = once.carried; installed = once.installed; waiting = once.waiting;
-        calls = λ other j d. elim (in_last other (new_call v source to body dirty) v.calls j) [ inl a ↦ once.calls other a d | inr q ↦ subst (λ (x : FileCall). is_about stream x.body ≡ false) (sym q) (apart one k n pid number stream mode truncate e) ];
-      }
+      shared = once.shared;
+      opens = once.opens;
+      carried = once.carried;
+      installed = once.installed;
+      waiting = once.waiting;
+      calls = λ other j d. elim (in_last other (new_call v source to body dirty) v.calls j) [ inl a ↦ once.calls other a d | inr q ↦ subst (λ (x : FileCall). is_about stream x.body ≡ false) (sym q) (apart one k n pid number stream mode truncate e) ];
+    }
+
     new : (q : one ≡ new_call v source to body dirty) → NamedOnce v v.next stream → NamedOnce (begin v source to body dirty) one.number stream
     new q once = record {
-        shared = once.shared; opens = once.opens; carried = once.carried; installed = once.installed; waiting = once.waiting;
-        calls = λ other j d. elim (in_last other (new_call v source to body dirty) v.calls j) [ inl a ↦ once.calls other a (λ h. let low = f.numbered.under other (call_in_things v other a) in omega (arith, low, h)) | inr k ↦ absurd (d (ap (λ (x : FileCall). x.number) k ∙ sym (ap (λ (x : FileCall). x.number) q))) ];
-      }
+      shared = once.shared;
+      opens = once.opens;
+      carried = once.carried;
+      installed = once.installed;
+      waiting = once.waiting;
+      calls = λ other j d. elim (in_last other (new_call v source to body dirty) v.calls j) [ inl a ↦ once.calls other a (λ h. let low = f.numbered.under other (call_in_things v other a) in omega (arith, low, h)) | inr k ↦ absurd (d (ap (λ (x : FileCall). x.number) k ∙ sym (ap (λ (x : FileCall). x.number) q))) ];
+    }
+
     by_place : In one v.calls ⊎ (one ≡ new_call v source to body dirty) → NamedOnce (begin v source to body dirty) one.number stream
     by_place (inl k) = old k (r.new one k n pid number stream mode truncate e)
     by_place (inr q) = new q (fresh pid number stream mode truncate (sym (ap (λ (x : FileCall). x.body) q) ∙ e))
@@ -136,18 +156,18 @@ pub streams_begin : (v : View) (source to : ℕ) (body : FileBody) (dirty : Opti
     (IsClient (length v.clients) source → Works (client v source).streams v.opens (new_call v source to body dirty)) →
     FlatStreams (begin v source to body dirty)
 streams_begin v source to body dirty f s none apart fresh works = record {
-    rest = record {
-      new = new_begin v source to body dirty f s.rest apart fresh;
-      opens = s.rest.opens;
-      works = λ one m i. by_place one i (in_last one (new_call v source to body dirty) v.calls m);
-      waits = s.rest.waits;
-    };
-    counts = λ kernel i stream.
+  rest = record {
+    new = new_begin v source to body dirty f s.rest apart fresh;
+    opens = s.rest.opens;
+    works = λ one m i. by_place one i (in_last one (new_call v source to body dirty) v.calls m);
+    waits = s.rest.waits;
+  };
+  counts = λ kernel i stream.
       let a = s.counts kernel i stream in
       let b : total (on_way stream kernel) (things (begin v source to body dirty)) ≡ total (on_way stream kernel) (things v ++ new_call v source to body dirty ∷ []) = ap (total (on_way stream kernel)) (things_begin v source to body dirty) in
       let c = total_last (on_way stream kernel) (things v) (new_call v source to body dirty) in
       let d = none stream kernel in omega (arith, a, b, c, d);
-  }
+}
   where
     by_place : (one : FileCall) → IsClient (length v.clients) one.from → In one v.calls ⊎ (one ≡ new_call v source to body dirty) → Works (client v one.from).streams v.opens one
     by_place one i (inl m) = s.rest.works one m i
@@ -156,31 +176,38 @@ streams_begin v source to body dirty f s none apart fresh works = record {
 -- what waits at a client changes
 pub streams_wait : (v : View) (kernel : ℕ) (waiting : List FileStep) → FlatStreams v → IsClient (length v.clients) kernel → ((step : FileStep) → In step waiting → StepOpen kernel (client v kernel).streams v.opens step) → FlatStreams (set_client v kernel (record (client v kernel) { waiting = waiting }))
 streams_wait v kernel waiting f i open_each = record {
-    rest = record {
-      new = λ one m n pid number stream mode truncate e. let once = f.rest.new one m n pid number stream mode truncate e in record {
-        shared = once.shared; opens = once.opens; calls = once.calls; carried = once.carried;
-        installed = λ other j. ap (has_stream stream) (streams_there other (within other j)) ∙ once.installed other (within other j);
-        waiting = λ other j. by_kernel (λ k. (step : FileStep) → In step (client w k).waiting → works_on stream step ≡ false) kernel other
+  rest = record {
+    new = λ one m n pid number stream mode truncate e. let once = f.rest.new one m n pid number stream mode truncate e in record {
+      shared = once.shared;
+      opens = once.opens;
+      calls = once.calls;
+      carried = once.carried;
+      installed = λ other j. ap (has_stream stream) (streams_there other (within other j)) ∙ once.installed other (within other j);
+      waiting = λ other j. by_kernel (λ k. (step : FileStep) → In step (client w k).waiting → works_on stream step ≡ false) kernel other
           (λ step k. away stream step (once.installed kernel i) (open_each step (subst (λ (x : Client). In step x.waiting) (client_set v kernel c i) k)))
           (λ d step k. once.waiting other (within other j) step (subst (λ (x : Client). In step x.waiting) (client_other v kernel other c i.0 j.0 d) k));
-      };
-      opens = subst (λ n. OpensShaped n v.opens) (sym (count_set v kernel c)) f.rest.opens;
-      works = λ one m j. subst (λ xs. Works xs v.opens one) (sym (streams_there one.from (within one.from j))) (f.rest.works one m (within one.from j));
-      waits = λ other j step. by_kernel (λ k. In step (client w k).waiting → StepOpen k (client w k).streams v.opens step) kernel other
+    };
+    opens = subst (λ n. OpensShaped n v.opens) (sym (count_set v kernel c)) f.rest.opens;
+    works = λ one m j. subst (λ xs. Works xs v.opens one) (sym (streams_there one.from (within one.from j))) (f.rest.works one m (within one.from j));
+    waits = λ other j step. by_kernel (λ k. In step (client w k).waiting → StepOpen k (client w k).streams v.opens step) kernel other
         (λ m. subst (λ (x : Client). StepOpen kernel x.streams v.opens step) (sym (client_set v kernel c i)) (open_each step (subst (λ (x : Client). In step x.waiting) (client_set v kernel c i) m)))
         (λ d m. subst (λ (x : Client). StepOpen other x.streams v.opens step) (sym (client_other v kernel other c i.0 j.0 d)) (f.rest.waits other (within other j) step (subst (λ (x : Client). In step x.waiting) (client_other v kernel other c i.0 j.0 d) m)));
-    };
-    counts = λ other j stream. f.counts other (within other j) stream ∙ ap (λ xs. copies stream xs + total (on_way stream other) (things v) + 0) (sym (streams_there other (within other j)));
-  }
+  };
+  counts = λ other j stream. f.counts other (within other j) stream ∙ ap (λ xs. copies stream xs + total (on_way stream other) (things v) + 0) (sym (streams_there other (within other j)));
+}
   where
     c : Client
     c = record (client v kernel) { waiting = waiting }
+
     w : View
     w = set_client v kernel c
+
     within : (other : ℕ) → IsClient (length w.clients) other → IsClient (length v.clients) other
     within other j = subst (λ n. IsClient n other) (count_set v kernel c) j
+
     streams_there : (other : ℕ) → IsClient (length v.clients) other → (client w other).streams ≡ (client v other).streams
     streams_there other j = by_kernel (λ k. (client w k).streams ≡ (client v k).streams) kernel other (ap (λ (x : Client). x.streams) (client_set v kernel c i)) (λ d. ap (λ (x : Client). x.streams) (client_other v kernel other c i.0 j.0 d))
+
     away : (stream : StreamNo) (step : FileStep) → has_stream stream (client v kernel).streams ≡ false → StepOpen kernel (client v kernel).streams v.opens step → works_on stream step ≡ false
     away stream step h s = by_test (works_on stream step) refl
       where
@@ -193,54 +220,65 @@ pub streams_install : (v : View) (kernel : ℕ) (c : Client) (stream : StreamNo)
     ((one : FileCall) → In one v.calls → one.reply ≡ None → (pid number : ℕ) (other : StreamNo) (mode : Mode) (truncate : Bool) → one.body ≡ form.Opening pid number other mode truncate → same_stream other stream ≡ false) →
     FlatStreams (set_client v kernel (install c stream))
 streams_install v kernel c stream f counts i e q apart = record {
-    rest = record {
-      new = λ one m n pid number other mode truncate k. let once = f.new one m n pid number other mode truncate k in record {
-        shared = once.shared; opens = once.opens; calls = once.calls; carried = once.carried;
-        installed = λ place j. by_kernel (λ x. has_stream other (client w x).streams ≡ false) kernel place
+  rest = record {
+    new = λ one m n pid number other mode truncate k. let once = f.new one m n pid number other mode truncate k in record {
+      shared = once.shared;
+      opens = once.opens;
+      calls = once.calls;
+      carried = once.carried;
+      installed = λ place j. by_kernel (λ x. has_stream other (client w x).streams ≡ false) kernel place
           (ap (has_stream other) here ∙ has_not_last other stream (client v kernel).streams (once.installed kernel i) (apart one m n pid number other mode truncate k))
           (λ d. ap (λ (x : Client). has_stream other x.streams) (there place j d) ∙ once.installed place (within place j));
-        waiting = λ place j. by_kernel (λ x. (step : FileStep) → In step (client w x).waiting → works_on other step ≡ false) kernel place
+      waiting = λ place j. by_kernel (λ x. (step : FileStep) → In step (client w x).waiting → works_on other step ≡ false) kernel place
           (λ step a. once.waiting kernel i step (subst (In step) here_waits a))
           (λ d step a. once.waiting place (within place j) step (subst (λ (x : Client). In step x.waiting) (there place j d) a));
-      };
-      opens = subst (λ n. OpensShaped n v.opens) (sym (count_set v kernel (install c stream))) f.opens;
-      works = λ one m j. by_kernel (λ x. one.from ≡ x → Works (client w x).streams v.opens one) kernel one.from
+    };
+    opens = subst (λ n. OpensShaped n v.opens) (sym (count_set v kernel (install c stream))) f.opens;
+    works = λ one m j. by_kernel (λ x. one.from ≡ x → Works (client w x).streams v.opens one) kernel one.from
         (λ a. subst (λ xs. Works xs v.opens one) (sym here) (works_more one (subst (λ k. Works (client v k).streams v.opens one) a (f.works one m (within one.from j)))))
         (λ d a. subst (λ (x : Client). Works x.streams v.opens one) (sym (there one.from j d)) (f.works one m (within one.from j))) refl;
-      waits = λ place j step. by_kernel (λ x. In step (client w x).waiting → StepOpen x (client w x).streams v.opens step) kernel place
+    waits = λ place j step. by_kernel (λ x. In step (client w x).waiting → StepOpen x (client w x).streams v.opens step) kernel place
         (λ m. subst (λ xs. StepOpen kernel xs v.opens step) (sym here) (open_more kernel step (f.waits kernel i step (subst (In step) here_waits m))))
         (λ d m. subst (λ (x : Client). StepOpen place x.streams v.opens step) (sym (there place j d)) (f.waits place (within place j) step (subst (λ (x : Client). In step x.waiting) (there place j d) m)));
-    };
-    counts = λ place j other. by_kernel (λ x. IsClient (length v.clients) x → open_count v.opens other x ≡ copies other (client w x).streams + total (on_way other x) (things v) + 0) kernel place
+  };
+  counts = λ place j other. by_kernel (λ x. IsClient (length v.clients) x → open_count v.opens other x ≡ copies other (client w x).streams + total (on_way other x) (things v) + 0) kernel place
       (λ k. let a = counts kernel k other in let b : copies other (client w kernel).streams ≡ copies other (client v kernel).streams + one_of other stream = ap (copies other) here ∙ copies_last other stream (client v kernel).streams in let d = one_counted other in omega (arith, a, b, d))
       (λ d k. let a = counts place k other in let b : copies other (client w place).streams ≡ copies other (client v place).streams = ap (λ (x : Client). copies other x.streams) (there place j d) in let n = none_counted other place d in omega (arith, a, b, n)) (within place j);
-  }
+}
   where
     w : View
     w = set_client v kernel (install c stream)
+
     within : (place : ℕ) → IsClient (length w.clients) place → IsClient (length v.clients) place
     within place j = subst (λ n. IsClient n place) (count_set v kernel (install c stream)) j
+
     here : (client w kernel).streams ≡ (client v kernel).streams ++ stream ∷ []
     here = ap (λ (x : Client). x.streams) (client_set v kernel (install c stream) i) ∙ ap (λ xs. xs ++ stream ∷ []) e
+
     here_waits : (client w kernel).waiting ≡ (client v kernel).waiting
     here_waits = ap (λ (x : Client). x.waiting) (client_set v kernel (install c stream) i) ∙ q
+
     there : (place : ℕ) → IsClient (length w.clients) place → place ≢ kernel → client w place ≡ client v place
     there place j d = client_other v kernel place (install c stream) i.0 j.0 d
+
     open_more : (place : ℕ) (step : FileStep) → StepOpen place (client v kernel).streams v.opens step → StepOpen place ((client v kernel).streams ++ stream ∷ []) v.opens step
     open_more place step s = record { installed = λ other a. has_last other stream (client v kernel).streams (s.installed other a); writing = s.writing }
+
     works_more : (one : FileCall) → Works (client v kernel).streams v.opens one → Works ((client v kernel).streams ++ stream ∷ []) v.opens one
     works_more one s = record {
-        operates = λ pid number stamp other way a. open_more one.from (step_of pid number one.from other way) (s.operates pid number stamp other way a);
-        keeps_none = s.keeps_none;
-        keeps_stream = λ n other place grants a. has_last other stream (client v kernel).streams (s.keeps_stream n other place grants a);
-        moves_some = s.moves_some;
-        closes_some = s.closes_some;
-      }
+      operates = λ pid number stamp other way a. open_more one.from (step_of pid number one.from other way) (s.operates pid number stamp other way a);
+      keeps_none = s.keeps_none;
+      keeps_stream = λ n other place grants a. has_last other stream (client v kernel).streams (s.keeps_stream n other place grants a);
+      moves_some = s.moves_some;
+      closes_some = s.closes_some;
+    }
+
     one_counted : (other : StreamNo) → counted_at 1 ((kernel == kernel) && same_stream other stream) ≡ one_of other stream
     one_counted other = ap (λ a. counted_at 1 (a && same_stream other stream)) (eq-eqb kernel kernel refl) ∙ as_one (same_stream other stream)
       where
         as_one : (b : Bool) → counted_at 1 b ≡ cond b 1 0
         as_one true = refl
         as_one false = refl
+
     none_counted : (other : StreamNo) (place : ℕ) → place ≢ kernel → counted_at 1 ((kernel == place) && same_stream other stream) ≡ 0
     none_counted other place d = ap (λ a. counted_at 1 (a && same_stream other stream)) (ne_eqb kernel place (λ h. d (sym h)))

@@ -30,7 +30,11 @@ use Rattle.file_views.proofs.StreamChangeLaws.{before_self, not_new}
 rest_carried : (v : View) (carry : Carry) → StreamRest v → ((other : FileCall) → In other v.calls → other.reply ≡ None → (pid number : ℕ) (stream : StreamNo) (mode : Mode) (truncate : Bool) → other.body ≡ form.Opening pid number stream mode truncate → same_stream stream carry.stream ≡ false) → StreamRest (record v { carried = v.carried ++ carry ∷ [] })
 rest_carried v carry f apart = rest_by v (record v { carried = v.carried ++ carry ∷ [] }) f (record { count = refl; streams = λ kernel i. refl; waiting = λ kernel i step m. m; calls = before_self v })
     (λ other m n pid number stream mode truncate q. let once = f.new other m n pid number stream mode truncate q in record {
-      shared = once.shared; opens = once.opens; calls = once.calls; installed = once.installed; waiting = once.waiting;
+      shared = once.shared;
+      opens = once.opens;
+      calls = once.calls;
+      installed = once.installed;
+      waiting = once.waiting;
       carried = λ c k. elim (in_last c carry v.carried k) [ inl a ↦ once.carried c a | inr h ↦ subst (λ (x : Carry). same_stream stream x.stream ≡ false) (sym h) (apart other m n pid number stream mode truncate q) ];
     })
     f.opens (λ kernel i step s. s)
@@ -45,16 +49,18 @@ total_carried v carry stream kernel =
 
 pub streams_carried : (v : View) (carry : Carry) → StreamRest v → Counted (λ stream kernel. on_way stream kernel (as_call carry)) v → ((other : FileCall) → In other v.calls → other.reply ≡ None → (pid number : ℕ) (stream : StreamNo) (mode : Mode) (truncate : Bool) → other.body ≡ form.Opening pid number stream mode truncate → same_stream stream carry.stream ≡ false) → FlatStreams (record v { carried = v.carried ++ carry ∷ [] })
 streams_carried v carry f c apart = record {
-    rest = rest_carried v carry f apart;
-    counts = λ kernel i stream. let a = c kernel i stream in let b = total_carried v carry stream kernel in omega (arith, a, b);
-  }
+  rest = rest_carried v carry f apart;
+  counts = λ kernel i stream. let a = c kernel i stream in let b = total_carried v carry stream kernel in omega (arith, a, b);
+}
 
 -- a carried stream that came
 rests_uncarried : (v : View) (carry : Carry) → Rests v (record v { carried = without_carried carry.call v.carried })
 rests_uncarried v carry = record {
-    calm = record { count = refl; streams = λ kernel i. refl; waiting = λ kernel i step n. n; calls = before_self v };
-    opens = refl; shared = refl; carried = λ other n. (in_filter (λ (c : Carry). not (c.call == carry.call)) other v.carried n).0;
-  }
+  calm = record { count = refl; streams = λ kernel i. refl; waiting = λ kernel i step n. n; calls = before_self v };
+  opens = refl;
+  shared = refl;
+  carried = λ other n. (in_filter (λ (c : Carry). not (c.call == carry.call)) other v.carried n).0;
+}
 
 pub rest_uncarried : (v : View) (carry : Carry) → StreamRest v → StreamRest (record v { carried = without_carried carry.call v.carried })
 rest_uncarried v carry f = rest_rests v (record v { carried = without_carried carry.call v.carried }) f (rests_uncarried v carry)
@@ -75,35 +81,41 @@ pub streams_leave : (v : View) (kernel : ℕ) (stream : StreamNo) (body : FileBo
     Works (client (set_client v kernel (uninstall (client v kernel) stream)) kernel).streams v.opens (new_call (set_client v kernel (uninstall (client v kernel) stream)) kernel server body None) →
     FlatStreams (begin (set_client v kernel (uninstall (client v kernel) stream)) kernel server body None)
 streams_leave v kernel stream body f s i has idle calm way about no_open works = record {
-    rest = record {
-      new = λ one m n pid number other mode truncate e. elim (in_last one new v.calls m) [ inl k ↦ still one k n pid number other mode truncate e | inr q ↦ absurd (no_open pid number other mode truncate (sym (ap (λ (x : FileCall). x.body) q) ∙ e)) ];
-      opens = subst (λ n. OpensShaped n v.opens) (sym (count_set v kernel (uninstall (client v kernel) stream))) s.rest.opens;
-      works = λ one m j. elim (in_last one new v.calls m) [ inl k ↦ by_place one k j | inr q ↦ subst (λ (x : FileCall). Works (client u x.from).streams v.opens x) (sym q) works ];
-      waits = λ place j step. by_kernel (λ x. In step (client u x).waiting → StepOpen x (client u x).streams v.opens step) kernel place
+  rest = record {
+    new = λ one m n pid number other mode truncate e. elim (in_last one new v.calls m) [ inl k ↦ still one k n pid number other mode truncate e | inr q ↦ absurd (no_open pid number other mode truncate (sym (ap (λ (x : FileCall). x.body) q) ∙ e)) ];
+    opens = subst (λ n. OpensShaped n v.opens) (sym (count_set v kernel (uninstall (client v kernel) stream))) s.rest.opens;
+    works = λ one m j. elim (in_last one new v.calls m) [ inl k ↦ by_place one k j | inr q ↦ subst (λ (x : FileCall). Works (client u x.from).streams v.opens x) (sym q) works ];
+    waits = λ place j step. by_kernel (λ x. In step (client u x).waiting → StepOpen x (client u x).streams v.opens step) kernel place
         (λ m. let old : In step (client v kernel).waiting = subst (λ (x : Client). In step x.waiting) (client_set v kernel (uninstall (client v kernel) stream) i) m in subst (λ xs. StepOpen kernel xs v.opens step) (sym here) (open_less kernel step (calm step old) (s.rest.waits kernel i step old)))
         (λ d m. subst (λ (x : Client). StepOpen place x.streams v.opens step) (sym (there place j d)) (s.rest.waits place (within place j) step (subst (λ (x : Client). In step x.waiting) (there place j d) m)));
-    };
-    counts = λ place j other. by_kernel (λ x. IsClient (length v.clients) x → open_count v.opens other x ≡ copies other (client u x).streams + total (on_way other x) (things (begin u kernel server body None)) + 0) kernel place
+  };
+  counts = λ place j other. by_kernel (λ x. IsClient (length v.clients) x → open_count v.opens other x ≡ copies other (client u x).streams + total (on_way other x) (things (begin u kernel server body None)) + 0) kernel place
       (λ k. count_here other k)
       (λ d k. let a = s.counts place k other in
-        let b : copies other (client u place).streams ≡ copies other (client v place).streams = ap (λ (x : Client). copies other x.streams) (there place j d) in
-        let c = grown other place in
-        let n : on_way_of other place kernel body None ≡ 0 = way other place ∙ ap (λ t. counted_at (copies stream (client v kernel).streams) (t && same_stream other stream)) (ne_eqb kernel place (λ h. d (sym h))) in
-        omega (arith, a, b, c, n)) (within place j);
-  }
+      let b : copies other (client u place).streams ≡ copies other (client v place).streams = ap (λ (x : Client). copies other x.streams) (there place j d) in
+      let c = grown other place in
+      let n : on_way_of other place kernel body None ≡ 0 = way other place ∙ ap (λ t. counted_at (copies stream (client v kernel).streams) (t && same_stream other stream)) (ne_eqb kernel place (λ h. d (sym h))) in
+      omega (arith, a, b, c, n)) (within place j);
+}
   where
     u : View
     u = set_client v kernel (uninstall (client v kernel) stream)
+
     new : FileCall
     new = new_call u kernel server body None
+
     within : (place : ℕ) → IsClient (length u.clients) place → IsClient (length v.clients) place
     within place j = subst (λ n. IsClient n place) (count_set v kernel (uninstall (client v kernel) stream)) j
+
     here : (client u kernel).streams ≡ filter (λ x. not (same_stream stream x)) (client v kernel).streams
     here = ap (λ (x : Client). x.streams) (client_set v kernel (uninstall (client v kernel) stream) i)
+
     there : (place : ℕ) → IsClient (length u.clients) place → place ≢ kernel → client u place ≡ client v place
     there place j d = client_other v kernel place (uninstall (client v kernel) stream) i.0 j.0 d
+
     grown : (other : StreamNo) (place : ℕ) → total (on_way other place) (things (begin u kernel server body None)) ≡ total (on_way other place) (things v) + on_way_of other place kernel body None
     grown other place = ap (total (on_way other place)) (things_begin u kernel server body None) ∙ total_last (on_way other place) (things v) new
+
     open_less : (place : ℕ) (step : FileStep) → works_on stream step ≡ false → StepOpen place (client v kernel).streams v.opens step → StepOpen place (filter (λ x. not (same_stream stream x)) (client v kernel).streams) v.opens step
     open_less place step away o = record { installed = λ other e. has_fewer other stream (client v kernel).streams (differs other e) ∙ o.installed other e; writing = o.writing }
       where
@@ -113,39 +125,47 @@ streams_leave v kernel stream body f s i has idle calm way about no_open works =
             by_test : (b : Bool) → same_stream other stream ≡ b → b ≡ false
             by_test true q = absurd (cc (away, e, ap (λ x. works_on x step) (same_is other stream q)))
             by_test false q = refl
+
     way_about : (pid number stamp : ℕ) (other : StreamNo) (way_of : Access) (one : FileCall) → one.body ≡ form.Op pid number stamp other way_of → is_about stream one.body ≡ false → works_on stream (step_of pid number one.from other way_of) ≡ false
     way_about pid number stamp other (access.Read from many) one e k = sym (ap (is_about stream) e) ∙ k
     way_about pid number stamp other (access.Write from bytes) one e k = sym (ap (is_about stream) e) ∙ k
     way_about pid number stamp other (access.Append bytes) one e k = sym (ap (is_about stream) e) ∙ k
+
     moved_away : (other : StreamNo) (one : FileCall) (place grants : ℕ) → one.body ≡ form.Move other place true grants → is_about stream one.body ≡ false → same_stream other stream ≡ false
     moved_away other one place grants e k = by_test (same_stream other stream) refl
       where
         by_test : (b : Bool) → same_stream other stream ≡ b → b ≡ false
         by_test true q = absurd (cc (k, ap (is_about stream) e, same_by stream other (sym (same_is other stream q))))
         by_test false q = refl
+
     works_less : (one : FileCall) → is_about stream one.body ≡ false → Works (client v kernel).streams v.opens one → Works (filter (λ x. not (same_stream stream x)) (client v kernel).streams) v.opens one
     works_less one k o = record {
-        operates = λ pid number stamp other way_of e. open_less one.from (step_of pid number one.from other way_of) (way_about pid number stamp other way_of one e k) (o.operates pid number stamp other way_of e);
-        keeps_none = o.keeps_none;
-        keeps_stream = λ n other place grants e. has_fewer other stream (client v kernel).streams (moved_away other one place grants e k) ∙ o.keeps_stream n other place grants e;
-        moves_some = o.moves_some;
-        closes_some = o.closes_some;
-      }
+      operates = λ pid number stamp other way_of e. open_less one.from (step_of pid number one.from other way_of) (way_about pid number stamp other way_of one e k) (o.operates pid number stamp other way_of e);
+      keeps_none = o.keeps_none;
+      keeps_stream = λ n other place grants e. has_fewer other stream (client v kernel).streams (moved_away other one place grants e k) ∙ o.keeps_stream n other place grants e;
+      moves_some = o.moves_some;
+      closes_some = o.closes_some;
+    }
+
     by_place : (one : FileCall) → In one v.calls → IsClient (length u.clients) one.from → Works (client u one.from).streams v.opens one
     by_place one k j = by_kernel (λ x. one.from ≡ x → Works (client u x).streams v.opens one) kernel one.from
-      (λ a. subst (λ xs. Works xs v.opens one) (sym here) (works_less one (idle one k a) (subst (λ x. Works (client v x).streams v.opens one) a (s.rest.works one k (within one.from j)))))
-      (λ d a. subst (λ (x : Client). Works x.streams v.opens one) (sym (there one.from j d)) (s.rest.works one k (within one.from j))) refl
+        (λ a. subst (λ xs. Works xs v.opens one) (sym here) (works_less one (idle one k a) (subst (λ x. Works (client v x).streams v.opens one) a (s.rest.works one k (within one.from j)))))
+        (λ d a. subst (λ (x : Client). Works x.streams v.opens one) (sym (there one.from j d)) (s.rest.works one k (within one.from j))) refl
+
     still : (one : FileCall) → In one v.calls → one.reply ≡ None → (pid number : ℕ) (other : StreamNo) (mode : Mode) (truncate : Bool) → one.body ≡ form.Opening pid number other mode truncate → NamedOnce (begin u kernel server body None) one.number other
     still one k n pid number other mode truncate e = let once = s.rest.new one k n pid number other mode truncate e in record {
-        shared = once.shared; opens = once.opens; carried = once.carried;
-        calls = λ c m d. elim (in_last c new v.calls m) [ inl a ↦ once.calls c a d | inr q ↦ ap (λ (x : FileCall). is_about other x.body) q ∙ about other ∙ not_new v s.rest one k n pid number other mode truncate e kernel i stream has ];
-        installed = λ place j. by_kernel (λ x. has_stream other (client u x).streams ≡ false) kernel place
+      shared = once.shared;
+      opens = once.opens;
+      carried = once.carried;
+      calls = λ c m d. elim (in_last c new v.calls m) [ inl a ↦ once.calls c a d | inr q ↦ ap (λ (x : FileCall). is_about other x.body) q ∙ about other ∙ not_new v s.rest one k n pid number other mode truncate e kernel i stream has ];
+      installed = λ place j. by_kernel (λ x. has_stream other (client u x).streams ≡ false) kernel place
           (ap (has_stream other) here ∙ has_none_fewer other stream (client v kernel).streams (once.installed kernel i))
           (λ d. ap (λ (x : Client). has_stream other x.streams) (there place j d) ∙ once.installed place (within place j));
-        waiting = λ place j. by_kernel (λ x. (step : FileStep) → In step (client u x).waiting → works_on other step ≡ false) kernel place
+      waiting = λ place j. by_kernel (λ x. (step : FileStep) → In step (client u x).waiting → works_on other step ≡ false) kernel place
           (λ step m. once.waiting kernel i step (subst (λ (x : Client). In step x.waiting) (client_set v kernel (uninstall (client v kernel) stream) i) m))
           (λ d step m. once.waiting place (within place j) step (subst (λ (x : Client). In step x.waiting) (there place j d) m));
-      }
+    }
+
     count_here : (other : StreamNo) → IsClient (length v.clients) kernel → open_count v.opens other kernel ≡ copies other (client u kernel).streams + total (on_way other kernel) (things (begin u kernel server body None)) + 0
     count_here other k = by_test (same_stream other stream) refl
       where
@@ -172,15 +192,15 @@ pub streams_grant : (v w : View) (one : FileCall) (reply : FileBody) (opens : Li
     ((kernel : ℕ) → IsClient (length v.clients) kernel → (other : StreamNo) → open_count opens other kernel + on_way other kernel one ≡ open_count v.opens other kernel + on_way other kernel (replied one reply)) →
     FlatStreams w
 streams_grant v w one reply opens f s m same_clients same_calls same_carried same_opens shared named shaped keeps counts = record {
-    rest = rest_by v w s.rest (record {
-      count = ap length same_clients;
-      streams = λ kernel i. ap (λ cs. (slice_index_or cs (kernel - 1) new_client).streams) same_clients;
-      waiting = λ kernel i step n. subst (λ cs. In step (slice_index_or cs (kernel - 1) new_client).waiting) same_clients n;
-      calls = λ other n. by_place other (in_with (replied one reply) other v.calls (subst (In other) same_calls n));
-    })
-    (λ other n e pid number stream mode truncate q. new_there other e pid number stream mode truncate q (in_with (replied one reply) other v.calls (subst (In other) same_calls n)))
-    (subst (OpensShaped (length v.clients)) (sym same_opens) shaped) (λ kernel i step o. subst (λ os. StepOpen kernel (client v kernel).streams os step) (sym same_opens) (keeps kernel i step o));
-    counts = λ kernel i other.
+  rest = rest_by v w s.rest (record {
+    count = ap length same_clients;
+    streams = λ kernel i. ap (λ cs. (slice_index_or cs (kernel - 1) new_client).streams) same_clients;
+    waiting = λ kernel i step n. subst (λ cs. In step (slice_index_or cs (kernel - 1) new_client).waiting) same_clients n;
+    calls = λ other n. by_place other (in_with (replied one reply) other v.calls (subst (In other) same_calls n));
+  })
+      (λ other n e pid number stream mode truncate q. new_there other e pid number stream mode truncate q (in_with (replied one reply) other v.calls (subst (In other) same_calls n)))
+      (subst (OpensShaped (length v.clients)) (sym same_opens) shaped) (λ kernel i step o. subst (λ os. StepOpen kernel (client v kernel).streams os step) (sym same_opens) (keeps kernel i step o));
+  counts = λ kernel i other.
       let j : IsClient (length v.clients) kernel = subst (λ cs. IsClient (length cs) kernel) same_clients i in
       let a : open_count w.opens other kernel ≡ open_count opens other kernel = ap (λ os. open_count os other kernel) same_opens in
       let b = counts kernel j other in
@@ -189,11 +209,12 @@ streams_grant v w one reply opens f s m same_clients same_calls same_carried sam
       let e : total (on_way other kernel) (things w) ≡ total (on_way other kernel) (with_call (replied one reply) (things v)) = ap₂ (λ xs ys. total (on_way other kernel) (map as_call xs ++ ys)) same_carried same_calls ∙ ap (total (on_way other kernel)) (things_with v one (replied one reply) f.numbered.differ m refl) in
       let g = total_with (on_way other kernel) (things v) one (replied one reply) f.numbered.differ (call_in_things v one m) refl in
       omega (arith, a, b, c, d, e, g);
-  }
+}
   where
     by_place : (other : FileCall) → (In other v.calls × (other.number ≢ one.number)) ⊎ (other ≡ replied one reply) → Before v other
     by_place other (inl k) = before_self v other k.0
     by_place other (inr e) = record { before = one; there = m; number_is = ap (λ (x : FileCall). x.number) e; from_is = ap (λ (x : FileCall). x.from) e; body_is = ap (λ (x : FileCall). x.body) e; reply_is = λ r. absurd (cc (r, ap (λ (x : FileCall). x.reply) e)) }
+
     new_there : (other : FileCall) → other.reply ≡ None → (pid number : ℕ) (stream : StreamNo) (mode : Mode) (truncate : Bool) → other.body ≡ form.Opening pid number stream mode truncate → (In other v.calls × (other.number ≢ one.number)) ⊎ (other ≡ replied one reply) → NamedOnce w other.number stream
     new_there other e pid number stream mode truncate q (inl k) =
         let once = s.rest.new other k.0 e pid number stream mode truncate q in

@@ -113,29 +113,29 @@ out_opened v kernel one m = let r = in_filter (λ (x : Open). x.kernel == kernel
 
 works_of : (v : View) (one : FileCall) → In one v.calls → LocalStreams (at_kernel v one.from) → Works (client v one.from).streams v.opens one
 works_of v one m l = record {
-    operates = λ pid number stamp stream way e. record {
-      installed = λ other k. subst (λ s. has_stream s (client v one.from).streams ≡ true) (sym (same_is other stream (sym (way_other pid number one.from stream other way) ∙ k))) (l.working.operates one (in_part v one m) refl pid number stamp stream way e);
-      writing = λ w other n q k. l.working.writes_open one (in_part v one m) refl pid number stamp stream way e (sym (way_writes pid number one.from stream way) ∙ w) other (in_opened v one.from other n q) (same_is other.stream stream (sym (way_other pid number one.from stream other.stream way) ∙ k));
-    };
-    keeps_none = λ r stream place grants e. l.working.keeps_none one (in_part v one m) refl r stream place grants e;
-    keeps_stream = λ r stream place grants e. l.working.keeps_stream one (in_part v one m) refl r stream place grants e;
-    moves_some = λ r stream place grants e. l.working.moves_some one (in_part v one m) refl r stream place grants e;
-    closes_some = λ r stream grants e. l.working.closes_some one (in_part v one m) refl r stream grants e;
-  }
+  operates = λ pid number stamp stream way e. record {
+    installed = λ other k. subst (λ s. has_stream s (client v one.from).streams ≡ true) (sym (same_is other stream (sym (way_other pid number one.from stream other way) ∙ k))) (l.working.operates one (in_part v one m) refl pid number stamp stream way e);
+    writing = λ w other n q k. l.working.writes_open one (in_part v one m) refl pid number stamp stream way e (sym (way_writes pid number one.from stream way) ∙ w) other (in_opened v one.from other n q) (same_is other.stream stream (sym (way_other pid number one.from stream other.stream way) ∙ k));
+  };
+  keeps_none = λ r stream place grants e. l.working.keeps_none one (in_part v one m) refl r stream place grants e;
+  keeps_stream = λ r stream place grants e. l.working.keeps_stream one (in_part v one m) refl r stream place grants e;
+  moves_some = λ r stream place grants e. l.working.moves_some one (in_part v one m) refl r stream place grants e;
+  closes_some = λ r stream grants e. l.working.closes_some one (in_part v one m) refl r stream grants e;
+}
 
 pub flat_streams : (v : View) → Streams v → FlatStreams v
 flat_streams v s = record {
-    rest = record {
-      new = s.new;
-      opens = s.opens;
-      works = λ one m i. works_of v one m (s.each one.from i);
-      waits = λ kernel i step m. record {
-        installed = λ stream e. (s.each kernel i).working.waits_open step m stream e;
-        writing = λ w other n q k. (s.each kernel i).working.waits_writing step m w other (in_opened v kernel other n q) k;
-      };
+  rest = record {
+    new = s.new;
+    opens = s.opens;
+    works = λ one m i. works_of v one m (s.each one.from i);
+    waits = λ kernel i step m. record {
+      installed = λ stream e. (s.each kernel i).working.waits_open step m stream e;
+      writing = λ w other n q k. (s.each kernel i).working.waits_writing step m w other (in_opened v kernel other n q) k;
     };
-    counts = λ kernel i stream. sym (here_count v kernel stream) ∙ (s.each kernel i).counts stream ∙ ap (λ n. copies stream (client v kernel).streams + n) (near_total v kernel stream) ∙ omega arith;
-  }
+  };
+  counts = λ kernel i stream. sym (here_count v kernel stream) ∙ (s.each kernel i).counts stream ∙ ap (λ n. copies stream (client v kernel).streams + n) (near_total v kernel stream) ∙ omega arith;
+}
 
 -- a carried stream is no call of a client
 no_carried : (v : View) (kernel : ℕ) (one : FileCall) → 1 ≤ kernel → In one (at_kernel v kernel).calls → one.from ≡ kernel → In one v.calls
@@ -150,22 +150,22 @@ works_there v f kernel i one m e = f.rest.works one (no_carried v kernel one i.0
 
 pub streams_of : (v : View) → FlatStreams v → Streams v
 streams_of v f = record {
-    new = f.rest.new;
-    opens = f.rest.opens;
-    each = λ kernel i. record {
-      counts = λ stream. let a = here_count v kernel stream in let b = f.counts kernel i stream in let c = near_total v kernel stream in omega (arith, a, b, c);
-      working = record {
-        operates = λ one m q pid number stamp stream way e. subst (λ k. has_stream stream (client v k).streams ≡ true) q (((works_there v f kernel i one m q).operates pid number stamp stream way e).installed stream (way_stream pid number one.from stream way));
-        writes_open = λ one m q pid number stamp stream way e w other n k. ((works_there v f kernel i one m q).operates pid number stamp stream way e).writing (way_writes pid number one.from stream way ∙ w) other (out_opened v kernel other n).0 ((out_opened v kernel other n).1 ∙ sym q) (way_other pid number one.from stream other.stream way ∙ same_by other.stream stream k);
-        keeps_none = λ one m q r stream place grants e. (works_there v f kernel i one m q).keeps_none r stream place grants e;
-        keeps_stream = λ one m q r stream place grants e. subst (λ k. has_stream stream (client v k).streams ≡ true) q ((works_there v f kernel i one m q).keeps_stream r stream place grants e);
-        moves_some = λ one m q r stream place grants e. (works_there v f kernel i one m q).moves_some r stream place grants e;
-        closes_some = λ one m q r stream grants e. (works_there v f kernel i one m q).closes_some r stream grants e;
-        waits_open = λ step m stream e. (f.rest.waits kernel i step m).installed stream e;
-        waits_writing = λ step m w other n k. (f.rest.waits kernel i step m).writing w other (out_opened v kernel other n).0 (out_opened v kernel other n).1 k;
-      };
+  new = f.rest.new;
+  opens = f.rest.opens;
+  each = λ kernel i. record {
+    counts = λ stream. let a = here_count v kernel stream in let b = f.counts kernel i stream in let c = near_total v kernel stream in omega (arith, a, b, c);
+    working = record {
+      operates = λ one m q pid number stamp stream way e. subst (λ k. has_stream stream (client v k).streams ≡ true) q (((works_there v f kernel i one m q).operates pid number stamp stream way e).installed stream (way_stream pid number one.from stream way));
+      writes_open = λ one m q pid number stamp stream way e w other n k. ((works_there v f kernel i one m q).operates pid number stamp stream way e).writing (way_writes pid number one.from stream way ∙ w) other (out_opened v kernel other n).0 ((out_opened v kernel other n).1 ∙ sym q) (way_other pid number one.from stream other.stream way ∙ same_by other.stream stream k);
+      keeps_none = λ one m q r stream place grants e. (works_there v f kernel i one m q).keeps_none r stream place grants e;
+      keeps_stream = λ one m q r stream place grants e. subst (λ k. has_stream stream (client v k).streams ≡ true) q ((works_there v f kernel i one m q).keeps_stream r stream place grants e);
+      moves_some = λ one m q r stream place grants e. (works_there v f kernel i one m q).moves_some r stream place grants e;
+      closes_some = λ one m q r stream grants e. (works_there v f kernel i one m q).closes_some r stream grants e;
+      waits_open = λ step m stream e. (f.rest.waits kernel i step m).installed stream e;
+      waits_writing = λ step m w other n k. (f.rest.waits kernel i step m).writing w other (out_opened v kernel other n).0 (out_opened v kernel other n).1 k;
     };
-  }
+  };
+}
 
 -- a call that stood there before, perhaps without its reply
 pub record Before (v : View) (one : FileCall) : Type 0 where
@@ -178,12 +178,12 @@ pub record Before (v : View) (one : FileCall) : Type 0 where
 
 pub works_before : (streams : List StreamNo) (opens : List Open) (one other : FileCall) → other.from ≡ one.from → other.body ≡ one.body → (other.reply ≡ None → one.reply ≡ None) → Works streams opens one → Works streams opens other
 works_before streams opens one other s b r w = record {
-    operates = λ pid number stamp stream way e. subst (λ k. StepOpen k streams opens (step_of pid number k stream way)) (sym s) (w.operates pid number stamp stream way (sym b ∙ e));
-    keeps_none = λ n stream place grants e. w.keeps_none (r n) stream place grants (sym b ∙ e);
-    keeps_stream = λ n stream place grants e. w.keeps_stream (r n) stream place grants (sym b ∙ e);
-    moves_some = λ n stream place grants e. w.moves_some (r n) stream place grants (sym b ∙ e);
-    closes_some = λ n stream grants e. w.closes_some (r n) stream grants (sym b ∙ e);
-  }
+  operates = λ pid number stamp stream way e. subst (λ k. StepOpen k streams opens (step_of pid number k stream way)) (sym s) (w.operates pid number stamp stream way (sym b ∙ e));
+  keeps_none = λ n stream place grants e. w.keeps_none (r n) stream place grants (sym b ∙ e);
+  keeps_stream = λ n stream place grants e. w.keeps_stream (r n) stream place grants (sym b ∙ e);
+  moves_some = λ n stream place grants e. w.moves_some (r n) stream place grants (sym b ∙ e);
+  closes_some = λ n stream grants e. w.closes_some (r n) stream grants (sym b ∙ e);
+}
 
 -- a view in which no stream was installed or taken away, and no call began
 pub record Calm (v w : View) : Type 0 where
@@ -201,28 +201,28 @@ KeepsOpen v opens = (kernel : ℕ) → IsClient (length v.clients) kernel → (s
 
 pub works_open : (kernel : ℕ) (streams : List StreamNo) (opens others : List Open) (one : FileCall) → one.from ≡ kernel → ((step : FileStep) → StepOpen kernel streams opens step → StepOpen kernel streams others step) → Works streams opens one → Works streams others one
 works_open kernel streams opens others one e f w = record {
-    operates = λ pid number stamp stream way q. subst (λ k. StepOpen k streams others (step_of pid number one.from stream way)) (sym e) (f (step_of pid number one.from stream way) (subst (λ k. StepOpen k streams opens (step_of pid number one.from stream way)) e (w.operates pid number stamp stream way q)));
-    keeps_none = w.keeps_none;
-    keeps_stream = w.keeps_stream;
-    moves_some = w.moves_some;
-    closes_some = w.closes_some;
-  }
+  operates = λ pid number stamp stream way q. subst (λ k. StepOpen k streams others (step_of pid number one.from stream way)) (sym e) (f (step_of pid number one.from stream way) (subst (λ k. StepOpen k streams opens (step_of pid number one.from stream way)) e (w.operates pid number stamp stream way q)));
+  keeps_none = w.keeps_none;
+  keeps_stream = w.keeps_stream;
+  moves_some = w.moves_some;
+  closes_some = w.closes_some;
+}
 
 pub rest_by : (v w : View) → StreamRest v → Calm v w → NewStreams w → OpensShaped (length v.clients) w.opens → KeepsOpen v w.opens → StreamRest w
 rest_by v w f r new shaped keeps = record {
-    new = new;
-    opens = subst (λ n. OpensShaped n w.opens) (sym r.count) shaped;
-    works = λ one m i.
+  new = new;
+  opens = subst (λ n. OpensShaped n w.opens) (sym r.count) shaped;
+  works = λ one m i.
       let b : Before v one = r.calls one m in
       let here : IsClient (length v.clients) one.from = calm_within v w r one.from i in
       let j : IsClient (length v.clients) b.before.from = subst (IsClient (length v.clients)) b.from_is here in
       let old : Works (client v b.before.from).streams v.opens b.before = f.works b.before b.there j in
       let moved : Works (client v one.from).streams v.opens one = subst (λ k. Works (client v k).streams v.opens one) (sym b.from_is) (works_before (client v b.before.from).streams v.opens b.before one b.from_is b.body_is b.reply_is old) in
       subst (λ xs. Works xs w.opens one) (sym (r.streams one.from here)) (works_open one.from (client v one.from).streams v.opens w.opens one refl (keeps one.from here) moved);
-    waits = λ kernel i step m.
+  waits = λ kernel i step m.
       let here : IsClient (length v.clients) kernel = calm_within v w r kernel i in
       subst (λ xs. StepOpen kernel xs w.opens step) (sym (r.streams kernel here)) (keeps kernel here step (f.waits kernel here step (r.waiting kernel here step m)));
-  }
+}
 
 -- and no open changes
 pub record Rests (v w : View) : Type 0 where

@@ -40,14 +40,14 @@ moves_keep_streams z v other e s t = streams_of (after_move z v other) (streams_
 -- a new file
 nothing_new : (count : ℕ) (bytes : List ℕ) → FlatStreams (new_view count bytes)
 nothing_new count bytes = record {
-    rest = record {
-      new = λ one m. absurd m;
-      opens = record { differ = tt; client = λ one m. absurd m; counts = λ one m. absurd m; modes = λ one other m. absurd m };
-      works = λ one m. absurd m;
-      waits = λ kernel i step m. absurd (subst (λ (c : Client). In step c.waiting) (fresh kernel i) m);
-    };
-    counts = λ kernel i stream. let none : copies stream (client (new_view count bytes) kernel).streams ≡ 0 = ap (λ (c : Client). copies stream c.streams) (fresh kernel i) in omega (arith, none);
-  }
+  rest = record {
+    new = λ one m. absurd m;
+    opens = record { differ = tt; client = λ one m. absurd m; counts = λ one m. absurd m; modes = λ one other m. absurd m };
+    works = λ one m. absurd m;
+    waits = λ kernel i step m. absurd (subst (λ (c : Client). In step c.waiting) (fresh kernel i) m);
+  };
+  counts = λ kernel i stream. let none : copies stream (client (new_view count bytes) kernel).streams ≡ 0 = ap (λ (c : Client). copies stream c.streams) (fresh kernel i) in omega (arith, none);
+}
   where
     fresh : (kernel : ℕ) → IsClient (length (new_view count bytes).clients) kernel → client (new_view count bytes) kernel ≡ new_client
     fresh kernel i = client_new count bytes kernel (subst (λ n. IsClient n kernel) (count_new count bytes) i)

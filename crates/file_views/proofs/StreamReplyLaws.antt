@@ -52,8 +52,8 @@ named_by v one stream b m s about other k n p c t md tr q = sym (about t) ∙ (b
 streams_moved : (v : View) (one : FileCall) (stream : StreamNo) (place : ℕ) (kept : Bool) (grants : ℕ) (reply : Option FileBody) → one.body ≡ form.Move stream place kept grants → one.reply ≡ reply → is_some reply ≡ true → Both v → In one v.calls → FlatStreams (move_answered (remove_call v one.number) one.number place stream reply)
 streams_moved v one stream place kept grants (Some (form.Moved grant more)) e r s b m =
     streams_carried (remove_call v one.number) (record { call = one.number; to = place; stream = stream; grant = grant }) (rest_removed v one b.streams.rest)
-      (counts_by _ _ (remove_call v one.number) (way_by one (form.Move stream place kept grants) (Some (form.Moved grant more)) e r) (counts_removed v one b.flat.numbered.differ m b.streams.counts))
-      (λ other k. named_by v one stream b m (ap is_some r) (λ t. ap (is_about t) e) other (in_filter (λ (x : FileCall). not (x.number == one.number)) other v.calls k).0)
+    (counts_by _ _ (remove_call v one.number) (way_by one (form.Move stream place kept grants) (Some (form.Moved grant more)) e r) (counts_removed v one b.flat.numbered.differ m b.streams.counts))
+    (λ other k. named_by v one stream b m (ap is_some r) (λ t. ap (is_about t) e) other (in_filter (λ (x : FileCall). not (x.number == one.number)) other v.calls k).0)
 streams_moved v one stream place kept grants (Some other) e r s b m = absurd (subst (λ x. Answers x other) e ((b.flat.calls one m).fits other r))
 streams_moved v one stream place kept grants None e r s b m = absurd (cc (s))
 
@@ -124,7 +124,7 @@ streams_carried_comes : (v : View) (one : Carry) (grant : Option FileGrant) → 
 streams_carried_comes v one (Some grant) e b m =
     let i : IsClient (length v.clients) one.to = (b.flat.carried one m).client in
     streams_install (record v { carried = without_carried one.call v.carried }) one.to (take_grant (client v one.to) grant) one.stream (rest_uncarried v one b.streams.rest) (counts_uncarried v one b.flat.numbered.differ m b.streams.counts) i (take_streams (client v one.to) grant) (take_waiting (client v one.to) grant)
-      (λ other k n p c t md tr q. (b.streams.rest.new other k n p c t md tr q).carried one m)
+    (λ other k n p c t md tr q. (b.streams.rest.new other k n p c t md tr q).carried one m)
 streams_carried_comes v one None e b m = absurd (cc ((b.flat.carried one m).granted, ap is_some e))
 
 streams_delivered : (z : Setting) (v : View) (number : ℕ) (carried : Option Carry) (call : Option FileCall) → find_carried v.carried number ≡ carried → find_call v.calls number ≡ call → is_due carried call ≡ true → Both v → FlatStreams (delivered z v carried call)
@@ -200,12 +200,12 @@ streams_opening v kernel pid number stream mode truncate b h = streams_begin v k
 
 streams_closing : (v : View) (kernel : ℕ) (stream : StreamNo) → Both v → Free v kernel stream → FlatStreams (closing v kernel stream)
 streams_closing v kernel stream b f = streams_leave v kernel stream (form.Close stream (copies stream (client v kernel).streams)) b.flat b.streams f.is_kernel f.installed f.idle f.calm (λ other place. refl) (λ other. refl) (λ p n s m t e. cc (e)) (record {
-    operates = λ p n s t w e. absurd (cc (e));
-    keeps_none = λ n s p g e. absurd (cc (e));
-    keeps_stream = λ n s p g e. absurd (cc (e));
-    moves_some = λ n s p g e. absurd (cc (e));
-    closes_some = λ n s g e. let same : copies stream (client v kernel).streams ≡ g = cc (e) in subst (λ x. 1 ≤ x) same (has_some stream (client v kernel).streams f.installed);
-  })
+  operates = λ p n s t w e. absurd (cc (e));
+  keeps_none = λ n s p g e. absurd (cc (e));
+  keeps_stream = λ n s p g e. absurd (cc (e));
+  moves_some = λ n s p g e. absurd (cc (e));
+  closes_some = λ n s g e. let same : copies stream (client v kernel).streams ≡ g = cc (e) in subst (λ x. 1 ≤ x) same (has_some stream (client v kernel).streams f.installed);
+})
 
 streams_away : (v : View) (stream : StreamNo) (source place : ℕ) (kept : Bool) → Both v → Free v source stream → FlatStreams (moving v stream source place kept)
 streams_away v stream source place true b f = streams_begin v source server (form.Move stream place true 0) None b.flat b.streams (λ s k. zero_at ((source == k) && same_stream s stream))
@@ -223,12 +223,12 @@ streams_away v stream source place true b f = streams_begin v source server (for
     zero_at true = refl
     zero_at false = refl
 streams_away v stream source place false b f = streams_leave v source stream (form.Move stream place false (copies stream (client v source).streams)) b.flat b.streams f.is_kernel f.installed f.idle f.calm (λ other k. refl) (λ other. refl) (λ p n s m t e. cc (e)) (record {
-    operates = λ p n s t w e. absurd (cc (e));
-    keeps_none = λ n s p g e. absurd (cc (e));
-    keeps_stream = λ n s p g e. absurd (cc (e));
-    moves_some = λ n s p g e. let same : copies stream (client v source).streams ≡ g = cc (e) in subst (λ x. 1 ≤ x) same (has_some stream (client v source).streams f.installed);
-    closes_some = λ n s g e. absurd (cc (e));
-  })
+  operates = λ p n s t w e. absurd (cc (e));
+  keeps_none = λ n s p g e. absurd (cc (e));
+  keeps_stream = λ n s p g e. absurd (cc (e));
+  moves_some = λ n s p g e. let same : copies stream (client v source).streams ≡ g = cc (e) in subst (λ x. 1 ≤ x) same (has_some stream (client v source).streams f.installed);
+  closes_some = λ n s g e. absurd (cc (e));
+})
 
 -- a process works on a stream that is open for it
 opened_mode : (may : Mode → Bool) (o : Option Mode) → is_opened_to may o ≡ true → may (or_reading o) ≡ true
@@ -237,15 +237,15 @@ opened_mode may None e = absurd (cc (e))
 
 works_reading : (v : View) (kernel : ℕ) (stream : StreamNo) (step : FileStep) → Free v kernel stream → ((t : StreamNo) → works_on t step ≡ same_stream t stream) → is_writing step ≡ false → StepOpen kernel (client v kernel).streams v.opens step
 works_reading v kernel stream step f works n = record {
-    installed = λ t e. subst (λ x. has_stream x (client v kernel).streams ≡ true) (sym (same_is t stream (sym (works t) ∙ e))) f.installed;
-    writing = λ w other m k e. absurd (cc (w, n));
-  }
+  installed = λ t e. subst (λ x. has_stream x (client v kernel).streams ≡ true) (sym (same_is t stream (sym (works t) ∙ e))) f.installed;
+  writing = λ w other m k e. absurd (cc (w, n));
+}
 
 works_writing : (v : View) (kernel : ℕ) (stream : StreamNo) (step : FileStep) → StreamRest v → Free v kernel stream → ((t : StreamNo) → works_on t step ≡ same_stream t stream) → is_opened_to writes (stream_mode v.opens stream) ≡ true → StepOpen kernel (client v kernel).streams v.opens step
 works_writing v kernel stream step r f works o = record {
-    installed = λ t e. subst (λ x. has_stream x (client v kernel).streams ≡ true) (sym (same_is t stream (sym (works t) ∙ e))) f.installed;
-    writing = λ w other m k e. ap writes (sym (mode_is stream other v.opens r.opens.modes m (sym (same_is other.stream stream (sym (works other.stream) ∙ e))))) ∙ opened_mode writes (stream_mode v.opens stream) o;
-  }
+  installed = λ t e. subst (λ x. has_stream x (client v kernel).streams ≡ true) (sym (same_is t stream (sym (works t) ∙ e))) f.installed;
+  writing = λ w other m k e. ap writes (sym (mode_is stream other v.opens r.opens.modes m (sym (same_is other.stream stream (sym (works other.stream) ∙ e))))) ∙ opened_mode writes (stream_mode v.opens stream) o;
+}
 
 streams_back_at : (z : Setting) (v : View) (kernel : ℕ) (one : Held) (dirty : Option ℕ) → Both v → IsClient (length v.clients) kernel → FlatStreams (writing_back_at z v kernel one dirty)
 streams_back_at z v kernel one None b i = streams_client v kernel (record (client v kernel) { blocks = without_block one.block.0 (client v kernel).blocks }) b.streams i refl (λ s m. m)

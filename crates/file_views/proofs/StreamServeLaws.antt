@@ -58,12 +58,12 @@ plain body = true
 
 pub plain_works : (streams : List StreamNo) (opens : List Open) (one : FileCall) → plain one.body ≡ true → Works streams opens one
 plain_works streams opens one p = record {
-    operates = λ pid number stamp stream way e. absurd (cc (p, ap plain e));
-    keeps_none = λ n stream place grants e. absurd (cc (p, ap plain e));
-    keeps_stream = λ n stream place grants e. absurd (cc (p, ap plain e));
-    moves_some = λ n stream place grants e. absurd (cc (p, ap plain e));
-    closes_some = λ n stream grants e. absurd (cc (p, ap plain e));
-  }
+  operates = λ pid number stamp stream way e. absurd (cc (p, ap plain e));
+  keeps_none = λ n stream place grants e. absurd (cc (p, ap plain e));
+  keeps_stream = λ n stream place grants e. absurd (cc (p, ap plain e));
+  moves_some = λ n stream place grants e. absurd (cc (p, ap plain e));
+  closes_some = λ n stream grants e. absurd (cc (p, ap plain e));
+}
 
 -- a quiet request is answered
 quiet_answer : (v : View) (one : FileCall) (body reply : FileBody) → one.body ≡ body → quiet body ≡ true → Apart v → In one v.calls → FlatStreams v → FlatStreams (answer v one reply)
@@ -72,18 +72,20 @@ quiet_answer v one body reply e q u m s = streams_answer v one reply u m (λ str
 -- one more grant leaves what is open for writing, where it is in the stream's mode
 keeps_added : (v : View) (base : List Open) (stream : StreamNo) (kernel : ℕ) (mode : Mode) → StreamRest v → Counted none_more v → ((x : Open) → In x base → Left x v.opens) → ((x : Open) → In x v.opens → x.stream ≡ stream → x.mode ≡ mode) → KeepsOpen v (add_open base stream kernel mode)
 keeps_added v base stream kernel mode f c left same place i step o = record {
-    installed = o.installed;
-    writing = λ w other m k works. by_place other w k works (in_added base stream kernel mode other m);
-  }
+  installed = o.installed;
+  writing = λ w other m k works. by_place other w k works (in_added base stream kernel mode other m);
+}
   where
     old : (x : Open) → is_writing step ≡ true → x.kernel ≡ place → works_on x.stream step ≡ true → Left x v.opens → writes x.mode ≡ true
     old x w k works l = ap writes l.mode_is ∙ o.writing w l.before l.there (sym l.kernel_is ∙ k) (subst (λ s. works_on s step ≡ true) l.stream_is works)
+
     new : (x : Open) → is_writing step ≡ true → works_on x.stream step ≡ true → x.stream ≡ stream → x.mode ≡ mode → writes x.mode ≡ true
     new x w works e k =
         let some = has_some x.stream (client v place).streams (o.installed x.stream works) in
         let count = c place i x.stream in
         let there : OpenAt x.stream place v.opens = open_there x.stream place v.opens (omega (arith, some, count)) in
         ap writes (k ∙ sym (same there.one there.there (sym there.stream_is ∙ e))) ∙ o.writing w there.one there.there there.kernel_is (subst (λ s. works_on s step ≡ true) there.stream_is works)
+
     by_place : (other : Open) → is_writing step ≡ true → other.kernel ≡ place → works_on other.stream step ≡ true → In other base ⊎ ((other.stream ≡ stream) × (other.kernel ≡ kernel) × (other.mode ≡ mode)) → writes other.mode ≡ true
     by_place other w k works (inl m) = old other w k works (left other m)
     by_place other w k works (inr e) = new other w works e.0 e.2
@@ -93,9 +95,9 @@ left_self opens x m = record { before = x; there = m; stream_is = refl; kernel_i
 
 keeps_fewer : (v : View) (opens : List Open) → ((x : Open) → In x opens → Left x v.opens) → KeepsOpen v opens
 keeps_fewer v opens left place i step o = record {
-    installed = o.installed;
-    writing = λ w other m k works. let l : Left other v.opens = left other m in ap writes l.mode_is ∙ o.writing w l.before l.there (sym l.kernel_is ∙ k) (subst (λ s. works_on s step ≡ true) l.stream_is works);
-  }
+  installed = o.installed;
+  writing = λ w other m k works. let l : Left other v.opens = left other m in ap writes l.mode_is ∙ o.writing w l.before l.there (sym l.kernel_is ∙ k) (subst (λ s. works_on s step ≡ true) l.stream_is works);
+}
 
 as_one : (b : Bool) → counted_at 1 b ≡ cond b 1 0
 as_one true = refl
@@ -137,9 +139,11 @@ fewer_shared other (x ∷ xs) opens h = first (list_any (λ one. same_stream x o
     or_second : (a b : Bool) → (a || b) ≡ false → b ≡ false
     or_second true b e = absurd (cc (e))
     or_second false b e = e
+
     or_first : (a b : Bool) → (a || b) ≡ false → a ≡ false
     or_first true b e = absurd (cc (e))
     or_first false b e = refl
+
     first : (b : Bool) → has_stream other (still_shared xs opens) ≡ false → has_stream other (cond b (x ∷ still_shared xs opens) (still_shared xs opens)) ≡ false
     first true k = ap₂ (λ a c. a || c) (or_first (same_stream other x) (has_stream other xs) h) k
     first false k = k
@@ -167,8 +171,10 @@ streams_opening v w one pid number stream mode truncate grant e n b m p q r o h 
   where
     once : NamedOnce v one.number stream
     once = b.streams.rest.new one m n pid number stream mode truncate e
+
     sender : IsClient (length v.clients) one.from
     sender = (subst (Ends (length v.clients) one.from one.to) e (b.flat.calls one m).ends).0
+
     by_place : (other : StreamNo) → ((x : Open) → In x v.opens → same_stream other x.stream ≡ false) → same_stream other stream ≡ false → (x : Open) → In x v.opens ⊎ ((x.stream ≡ stream) × (x.kernel ≡ one.from) × (x.mode ≡ mode)) → same_stream other x.stream ≡ false
     by_place other f a x (inl j) = f x j
     by_place other f a x (inr j) = ap (same_stream other) j.0 ∙ a
@@ -207,6 +213,7 @@ streams_moving v w one stream place kept grants grant more c e n b m p q r o h =
   where
     ends : Ends (length v.clients) one.from one.to (form.Move stream place kept grants)
     ends = subst (Ends (length v.clients) one.from one.to) e (b.flat.calls one m).ends
+
     by_place : (other : StreamNo) → ((x : Open) → In x v.opens → same_stream other x.stream ≡ false) → same_stream other stream ≡ false → (x : Open) → In x (left_by v.opens stream one.from kept grants) ⊎ ((x.stream ≡ stream) × (x.kernel ≡ place) × (x.mode ≡ mode_of_stream v.opens stream)) → same_stream other x.stream ≡ false
     by_place other f a x (inl j) = let l : Left x v.opens = left_off v stream one.from grants kept x j in subst (λ s. same_stream other s ≡ false) (sym l.stream_is) (f l.before l.there)
     by_place other f a x (inr j) = ap (same_stream other) j.0 ∙ a
@@ -222,10 +229,10 @@ both_settle v one n a b m = record { flat = flat_settle v one b.flat m a; stream
 -- callbacks go out
 both_call_out : (v : View) (kind : CallKind) (kernel : ℕ) → Both v → IsClient (length v.clients) kernel → Both (call_out v kind kernel)
 both_call_out v kind kernel b i = record {
-    flat = flat_call_out v kind kernel b.flat i;
-    streams = streams_begin (stamped v kind kernel) server kernel (form.Callback (last_stamp v + 1) kind) None (flat_stamped v kind kernel b.flat) (streams_same v (stamped v kind kernel) refl refl refl refl refl b.streams)
+  flat = flat_call_out v kind kernel b.flat i;
+  streams = streams_begin (stamped v kind kernel) server kernel (form.Callback (last_stamp v + 1) kind) None (flat_stamped v kind kernel b.flat) (streams_same v (stamped v kind kernel) refl refl refl refl refl b.streams)
       (λ stream k. refl) (λ one m n pid number stream mode truncate e. refl) (λ pid number stream mode truncate e. absurd (cc (e))) (λ j. plain_works _ _ (new_call (stamped v kind kernel) server kernel (form.Callback (last_stamp v + 1) kind) None) refl);
-  }
+}
 
 both_call_back : (called : List ℕ) (kind : CallKind) (v : View) → Both v → ((kernel : ℕ) → In kernel called → IsClient (length v.clients) kernel) → Both (call_back called kind v)
 both_call_back [] kind v b i = b
@@ -238,7 +245,7 @@ both_deciding v one kind (kernel ∷ rest) n a b m i = both_call_back (kernel �
 both_decide : (z : Setting) (v : View) (one : FileCall) → one.reply ≡ None → asks one.body ≡ true → Both v → In one v.calls → Both (decide z v one)
 both_decide z v one n a b m =
     both_deciding (told v (uncached_after z v one)) one (kind_of_calls (uncached_after z v one)) (called_kernels z v one) n a (record { flat = flat_told v (uncached_after z v one) b.flat; streams = streams_same v (told v (uncached_after z v one)) refl refl refl refl refl b.streams }) m
-        (λ kernel k. among_clients v kernel (in_filter (is_called (uncached_after z v one) v one) kernel (kernels v) k).0)
+    (λ kernel k. among_clients v kernel (in_filter (is_called (uncached_after z v one) v one) kernel (kernels v) k).0)
 
 -- a request is taken up
 streams_serve : (z : Setting) (v : View) (one : FileCall) (body : FileBody) → one.body ≡ body → one.reply ≡ None → Both v → In one v.calls → FlatStreams (serve_body z v one body)
@@ -261,14 +268,14 @@ both_serve_all : (z : Setting) (waiting : List FileCall) (v : View) → Both v �
 both_serve_all z [] v b m n u = b
 both_serve_all z (one ∷ rest) v b m n u =
     choose Both (busy v) v (serve_all z rest (serve z v one)) b
-        (both_serve_all z rest (serve z v one) (both_serve z v one (n one (inl refl)) b (m one (inl refl))) (λ other k. serve_keeps z v one other one.body (m other (inr k)) (apart_from one other rest u k)) (λ other k. n other (inr k)) u.1)
+    (both_serve_all z rest (serve z v one) (both_serve z v one (n one (inl refl)) b (m one (inl refl))) (λ other k. serve_keeps z v one other one.body (m other (inr k)) (apart_from one other rest u k)) (λ other k. n other (inr k)) u.1)
 
 both_resume : (z : Setting) (waiting : List FileCall) (v : View) → Both v → ((one : FileCall) → In one waiting → In one v.calls) → ((one : FileCall) → In one waiting → one.reply ≡ None) → Unique (numbers waiting) → Both (resume z waiting v)
 both_resume z [] v b m n u = b
 both_resume z (one ∷ rest) v b m n u =
     choose_by Both (asks one.body) (serve_all z rest (settle v one)) (serve_all z (one ∷ rest) v)
-        (λ a. both_serve_all z rest (settle v one) (both_settle v one (n one (inl refl)) a b (m one (inl refl))) (λ other k. with_in (replied one (granting one.body (grant_of v one))) other v.calls (m other (inr k)) (apart_from one other rest u k)) (λ other k. n other (inr k)) u.1)
-        (λ a. both_serve_all z (one ∷ rest) v b m n u)
+    (λ a. both_serve_all z rest (settle v one) (both_settle v one (n one (inl refl)) a b (m one (inl refl))) (λ other k. with_in (replied one (granting one.body (grant_of v one))) other v.calls (m other (inr k)) (apart_from one other rest u k)) (λ other k. n other (inr k)) u.1)
+    (λ a. both_serve_all z (one ∷ rest) v b m n u)
 
 pub no_reply : (o : Option FileBody) → is_none o ≡ true → o ≡ None
 no_reply None e = refl

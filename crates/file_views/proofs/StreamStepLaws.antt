@@ -41,12 +41,12 @@ OpenBody kernel streams opens body = Unit {0}
 
 op_works : (streams : List StreamNo) (opens : List Open) (one : FileCall) (pid number stamp : ℕ) (stream : StreamNo) (way : Access) → one.body ≡ form.Op pid number stamp stream way → StepOpen one.from streams opens (step_of pid number one.from stream way) → Works streams opens one
 op_works streams opens one pid number stamp stream way e o = record {
-    operates = λ p n s t w q. subst (OpenBody one.from streams opens) (sym e ∙ q) o;
-    keeps_none = λ n s place grants q. absurd (cc (e, q));
-    keeps_stream = λ n s place grants q. absurd (cc (e, q));
-    moves_some = λ n s place grants q. absurd (cc (e, q));
-    closes_some = λ n s grants q. absurd (cc (e, q));
-  }
+  operates = λ p n s t w q. subst (OpenBody one.from streams opens) (sym e ∙ q) o;
+  keeps_none = λ n s place grants q. absurd (cc (e, q));
+  keeps_stream = λ n s place grants q. absurd (cc (e, q));
+  moves_some = λ n s place grants q. absurd (cc (e, q));
+  closes_some = λ n s grants q. absurd (cc (e, q));
+}
 
 begin_op : (v : View) (kernel pid number stamp : ℕ) (stream : StreamNo) (way : Access) → Both v → IsClient (length v.clients) kernel → has_stream stream (client v kernel).streams ≡ true → StepOpen kernel (client v kernel).streams v.opens (step_of pid number kernel stream way) → FlatStreams (begin v kernel server (form.Op pid number stamp stream way) None)
 begin_op v kernel pid number stamp stream way b i h o = streams_begin v kernel server (form.Op pid number stamp stream way) None b.flat b.streams (λ s k. refl)
@@ -137,7 +137,7 @@ streams_called : (z : Setting) (v : View) (one : FileCall) (stamp : ℕ) (kind :
 streams_called z v one stamp kind e b m =
     let i : IsClient (length v.clients) one.to = (subst (Ends (length v.clients) one.from one.to) e (b.flat.calls one m).ends).1 in
     streams_answer (set_client v one.to (take_callback (client v one.to) stamp kind)) one _ b.flat.numbered.differ m (λ s k. quiet_way s k one.from one.body _ (ap quiet e) ∙ sym (quiet_way s k one.from one.body one.reply (ap quiet e)))
-        (streams_client v one.to (take_callback (client v one.to) stamp kind) b.streams i refl (λ s n. n))
+    (streams_client v one.to (take_callback (client v one.to) stamp kind) b.streams i refl (λ s n. n))
 
 pub streams_at_client : (z : Setting) (v : View) (one : FileCall) (body : FileBody) → one.body ≡ body → Both v → In one v.calls → FlatStreams (request_at_client z v one body)
 streams_at_client z v one (form.Callback stamp kind) e b m = streams_called z v one stamp kind e b m
@@ -155,8 +155,8 @@ pub streams_opened : (v : View) (one : FileCall) (pid number : ℕ) (stream : St
 streams_opened v one pid number stream mode truncate (Some (form.Opened grant)) e r s b m =
     let i : IsClient (length v.clients) one.from = (subst (Ends (length v.clients) one.from one.to) e (b.flat.calls one m).ends).0 in
     streams_install (remove_call v one.number) one.from (take_grant (client v one.from) grant) stream (rest_removed v one b.streams.rest)
-      (counts_by _ _ (remove_call v one.number) (way_by one (form.Opening pid number stream mode truncate) (Some (form.Opened grant)) e r) (counts_removed v one b.flat.numbered.differ m b.streams.counts)) i (take_streams (client v one.from) grant) (take_waiting (client v one.from) grant)
-      (λ other k n p c t md tr q. apart other (in_filter (λ (x : FileCall). not (x.number == one.number)) other v.calls k).0 n p c t md tr q)
+    (counts_by _ _ (remove_call v one.number) (way_by one (form.Opening pid number stream mode truncate) (Some (form.Opened grant)) e r) (counts_removed v one b.flat.numbered.differ m b.streams.counts)) i (take_streams (client v one.from) grant) (take_waiting (client v one.from) grant)
+    (λ other k n p c t md tr q. apart other (in_filter (λ (x : FileCall). not (x.number == one.number)) other v.calls k).0 n p c t md tr q)
   where
     apart : (other : FileCall) → In other v.calls → other.reply ≡ None → (p c : ℕ) (t : StreamNo) (md : Mode) (tr : Bool) → other.body ≡ form.Opening p c t md tr → same_stream t stream ≡ false
     apart other k n p c t md tr q = sym (ap (is_about t) e) ∙ (b.streams.rest.new other k n p c t md tr q).calls one m (λ h. let same : one ≡ other = same_call v.calls one other (calls_unique v b) m k h in cc (r, n, ap (λ (x : FileCall). x.reply) same))
