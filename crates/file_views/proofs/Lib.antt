@@ -13,3 +13,9 @@ pub mod StreamServeLaws
 pub mod StreamStepLaws
 pub mod StreamReplyLaws
 pub mod StreamMoveLaws
+pub mod StampLaws
+pub mod StampChangeLaws
+pub mod StampGrantLaws
+pub mod StampServeLaws
+pub mod StampStepLaws
+pub mod StampMoveLaws

@@ -152,7 +152,7 @@ flat_deciding : (v : View) (one : FileCall) (kind : CallKind) (kernels : List �
 flat_deciding v one kind [] f m a i = flat_settle v one f m a
 flat_deciding v one kind (kernel ∷ rest) f m a i = flat_call_back (kernel ∷ rest) kind v f i
 
-in_numbers : (first count number : ℕ) → In number (numbers_from first count) → (first ≤ number) × (number < first + count)
+pub in_numbers : (first count number : ℕ) → In number (numbers_from first count) → (first ≤ number) × (number < first + count)
 in_numbers first zero number m = absurd m
 in_numbers first (suc count) number (inl e) = (omega (arith, e), omega (arith, e))
 in_numbers first (suc count) number (inr m) = let r = in_numbers (first + 1) count number m in let low = r.0 in let high = r.1 in (omega (arith, low), omega (arith, high))
@@ -246,7 +246,7 @@ ends_sender count source to (form.Fetch stamp block) e l s = e.0
 ends_sender count source to (form.WriteBack stamp block size piece) e l s = e.0
 ends_sender count source to body e l s = absurd e
 
-ends_no_callback : (count source to : ℕ) (body : FileBody) → Ends count source to body → count ≤ 15 → to ≡ server → is_callback body ≡ true → ⊥
+pub ends_no_callback : (count source to : ℕ) (body : FileBody) → Ends count source to body → count ≤ 15 → to ≡ server → is_callback body ≡ true → ⊥
 ends_no_callback count source to (form.Callback stamp kind) e l s b = let i = e.1.1 in omega (arith, i, l, s)
 ends_no_callback count source to body e l s b = cc (b)
 

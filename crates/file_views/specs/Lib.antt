@@ -26,3 +26,4 @@ pub mod Plays
 pub mod Examples
 pub mod ShapeLaw
 pub mod StreamLaw
+pub mod StampLaw

@@ -1,4 +1,5 @@
 ghost use Rattle.file_views.specs.ShapeLaw.{ShapesStay};
+ghost use Rattle.file_views.specs.StampLaw.{StampsStay};
 ghost use Rattle.file_views.specs.StreamLaw.{StreamsStay};
 
 /// A law: in a new file and after any steps and moves of clients, each call has its request's kind of reply and goes between a
@@ -13,4 +14,12 @@ pub fn shapes_stay()
 /// else names, and what is done with a stream is done where it is installed, and is open for that.
 pub fn streams_stay()
     ensures { StreamsStay }
+{}
+
+/// A law: in a new file and after any steps and moves of clients, no stamp of a client, or on its way to it, is over the current one
+/// that the server gave it; those of grants and callbacks on their way differ; a request's stamp isn't over its client's, and one
+/// that is told to begin again was older than the current one; a client has one callback at most, which has its current stamp, and
+/// a recall is the only one. (A file that nobody has open is uncached by itself only while no callback is out.)
+pub fn stamps_stay()
+    ensures { StampsStay }
 {}
