@@ -1,5 +1,5 @@
 ghost use Rattle.std.specs.Prelude.{◌≡◌, [], map, Ok, IfOk, OnOk, OnErr};
-ghost use Rattle.server_names.specs.Names.{count_answer, found, make_answer, made, remove_answer, removed, rename_answer, done, lines, booted, with_way, entry_made, on_way, hung_all, Answers, IsRenamed, IsListing};
+ghost use Rattle.server_names.specs.Names.{count_answer, found, make_answer, made, remove_answer, removed, rename_answer, done, lines, booted, with_way, entry_made, on_way, hung_all, names_in, Answers, IsRenamed, IsListing};
 
 use crate::directories::{Directories, last_of, parent};
 use crate::end::NameEnd;
@@ -131,6 +131,17 @@ impl Names {
         let mut names = self.tree.names_in(&directory)?;
         names.sort()?;
         Ok(lines(self.alloc, names.as_slice())?)
+    }
+
+    /// The names of a directory's entries, in the order in which they were made. The errors are those of `find`, and NotDir
+    /// where the path names no directory.
+    pub fn names(&self, path: &Path) -> Result<Vec<Vec<u8>>, NameEnd>
+        ensures refused { Answers (done result) (done (count_answer self.now path.now)) }
+        ensures names { IfOk result (λ names. map (λ name. name.items) names.items ≡ names_in self.now path.now) }
+    {
+        self.tree.count(path.parts())?;
+        let directory = Name::of(self.alloc, path.parts())?;
+        Ok(self.tree.names_in(&directory)?)
     }
 
     /// How many entries the directory has. The errors are those of `find`, and NotDir where the path names no directory.
