@@ -1,0 +1,5 @@
+use Rattle.server_kernel.proofs.DomainLaws.{unchanged_at}
+use Rattle.server_kernel.proofs.directory.make_at.Goals as goal
+
+pub returns-clause-err : goal.returns-clause-err
+returns-clause-err c = unchanged_at c.make_name.result c.args.domains.now c.args.at _ c.make_name.new.domain c.at_mut.ensures.value c.make_name.ensures.err
