@@ -13,3 +13,5 @@ pub mod Requests
 pub mod Served
 pub mod Waits
 pub mod Steps
+pub mod Boot
+pub mod Facts

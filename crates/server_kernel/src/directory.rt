@@ -96,7 +96,7 @@ impl Server {
     }
 
     // Where that domain stands.
-    fn place_of(&self, path: &Path) -> Option<usize>
+    pub(crate) fn place_of(&self, path: &Path) -> Option<usize>
         ensures { result ≡ position (has_path path.now) self.now.domains }
     {
         self.domains

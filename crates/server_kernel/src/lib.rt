@@ -4,6 +4,7 @@
 #![tactic(auto)]
 
 mod asked;
+mod boot;
 mod devices;
 mod directory;
 mod files;

@@ -96,7 +96,7 @@ impl Server {
     }
 
     // The next file that is made.
-    fn new_file(&self) -> FileId
+    pub(crate) fn new_file(&self) -> FileId
         ensures { result ≡ new_file self.now }
     {
         FileId {
@@ -106,7 +106,7 @@ impl Server {
     }
 
     // One file more is made. Where its number was the last of 32 bits, the answer is want of memory.
-    fn count_file(&mut self) -> Result<(), NoMemory>
+    pub(crate) fn count_file(&mut self) -> Result<(), NoMemory>
         ensures { OnOk result (self.new ≡ counts_file self.old) }
     {
         self.next_file = self.next_file.checked_add(1).ok_or(NoMemory)?;
