@@ -2,3 +2,8 @@ pub mod Worlds
 pub mod Contents
 pub mod Names
 pub mod Devices
+pub mod Among
+pub mod Entering
+pub mod Starts
+pub mod Family
+pub mod Outcomes

@@ -1,7 +1,7 @@
 ghost use Rattle.std.specs.Prelude.{◌≡◌, ◌<◌, []};
 ghost use Rattle.std.specs.Option.{option_map};
 ghost use Rattle.process_machine.specs.declared.call.Reply.TheVariants.{Error, Value};
-ghost use Rattle.unix_calls.specs.Answers.{program_at, replied, value};
+ghost use Rattle.unix_calls.specs.Answers.{nothing, program_at, replied, value};
 ghost use Rattle.unix_run.specs.declared.world.Came.TheVariants as came;
 
 use crate::world::Came;
@@ -11,7 +11,7 @@ use std::alloc::Global;
 use unix_calls::{Description, Process, ProgramLine};
 
 /// The program at that place, from 1.
-pub(crate) fn program_at(lines: &[ProgramLine], place: u8) -> Option<&Program>
+pub fn program_at(lines: &[ProgramLine], place: u8) -> Option<&Program>
     ensures { option_map (λ program. program.now) result ≡ program_at lines.now place }
 {
     if place == 0 {
@@ -97,4 +97,16 @@ pub(crate) fn give_two(
             bytes,
         },
     )
+}
+
+/// No values and no bytes.
+pub(crate) fn nothing(alloc: Global) -> Reply
+    ensures { result ≡ nothing }
+{
+    let bytes = Bytes::new(alloc);
+    Reply::Value {
+        first: 0,
+        second: 0,
+        bytes,
+    }
 }

@@ -49,8 +49,8 @@ fn flags_by(number: u64, mode: Mode) -> Option<Flags>
     }
 }
 
-// 1 read, 2 write, 3 both; and 4 to create, 8 to truncate, 16 to append. No mode or another bit is none.
-fn flags_of(number: u64) -> Option<Flags>
+/// 1 read, 2 write, 3 both; and 4 to create, 8 to truncate, 16 to append. No mode or another bit is none.
+pub(crate) fn flags_of(number: u64) -> Option<Flags>
     ensures { result ≡ flags_of number }
 {
     if number >= 32 {

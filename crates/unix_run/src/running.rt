@@ -6,7 +6,7 @@ ghost use Rattle.unix_calls.specs.ProcessCalls.{ends, exec, host, is_host, kerne
 ghost use Rattle.unix_run.specs.declared.world.Came.TheVariants as came;
 ghost use Rattle.unix_run.specs.Worlds.{Comes, unix_of};
 
-use crate::answers::{answer, give_value, refuse};
+use crate::answers::{answer, give_value, nothing, refuse};
 use crate::lookups::holds_a_master;
 use crate::world::{Came, World};
 use process_machine::{Image, Program, Reply};
@@ -44,18 +44,6 @@ pub(crate) fn end(
     p.calls += 1;
     p.ending = Some(ending);
     Ok(Came::Answered(nothing(alloc)))
-}
-
-// No values and no bytes.
-fn nothing(alloc: Global) -> Reply
-    ensures { result ≡ nothing }
-{
-    let bytes = Bytes::new(alloc);
-    Reply::Value {
-        first: 0,
-        second: 0,
-        bytes,
-    }
 }
 
 /// `getpid`: the process's number.

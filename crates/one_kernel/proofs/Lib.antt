@@ -1,0 +1,4 @@
+pub mod ApplyLaws
+pub mod CheckLaws
+pub mod VerdictLaws
+pub mod WayLaws

@@ -1,0 +1,13 @@
+//! Histories checked against the one-kernel Unix: whether one Unix kernel without caches, packets or migration gives them for a
+//! description, within a bound of instructions (this project).
+#![tactic(auto)]
+
+mod apply;
+mod checking;
+mod laws;
+mod reach;
+mod verdict;
+
+pub use checking::check;
+pub use laws::{legal_is_legal, not_legal_is_first, steps_are_behind_legal};
+pub use verdict::Verdict;

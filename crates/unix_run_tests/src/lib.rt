@@ -1,0 +1,5 @@
+//! Tests of `unix_run`: what one kernel's Unix has at its start.
+#![tactic(auto)]
+
+#[cfg(test)]
+mod tests;
