@@ -5,3 +5,4 @@ pub mod CallLaws
 pub mod EntryLaws
 pub mod HistoryLaws
 pub mod LineLaws
+pub mod TogetherLaws

@@ -1,10 +1,12 @@
 -- How the entries of a history are printed, each on a line.
-use Rattle.std.specs.Prelude.{codes, List, [], ◌∷◌, Option, Some, None}
+use Rattle.std.specs.Prelude.{codes, ◌≡◌, Bool, true, false, List, [], ◌∷◌, Option, Some, None}
 use Rattle.process_machine.specs.declared.call.Call.{Call}
 use Rattle.process_machine.specs.declared.call.Reply.{Reply}
 use Rattle.unix_calls.specs.declared.entry.Entry.{Entry}
 use Rattle.unix_calls.specs.declared.entry.Part.{Part}
 use Rattle.unix_calls.specs.declared.entry.Part.TheVariants as part
+use Rattle.history_text.specs.declared.field_end.FieldEnd.{FieldEnd}
+use Rattle.history_text.specs.declared.field_end.FieldEnd.TheVariants.{NotPrinted, NoMemory}
 use Rattle.history_text.specs.Formats.{Format, parted, ◌then◌, followed, made_of, Shape, bare, form, Row, bare_row, row, named}
 use Rattle.history_text.specs.Numbers.{number32, pid}
 use Rattle.history_text.specs.Calls.{call_format, reply_format}
@@ -48,6 +50,22 @@ entry = made_of (pid then number32 then told)
 
 abbrev pub entry_line : Format Entry
 entry_line = followed entry (codes "\n")
+
+-- whether the parts of an entry belong together: a whole or an answered call has a call and a reply, an ask a call alone, a death neither
+abbrev pub belong : Part → Option Call → Option Reply → Bool
+belong part.Whole (Some call) (Some reply) = true
+belong part.Ask (Some call) None = true
+belong part.Done (Some call) (Some reply) = true
+belong part.Death None None = true
+belong _ _ _ = false
+
+abbrev pub is_together : Entry → Bool
+is_together e = belong e.part e.call e.reply
+
+-- why a part was not put
+abbrev pub TellsApart : Part → Option Call → Option Reply → FieldEnd → Type 0
+TellsApart part call reply NotPrinted = belong part call reply ≡ false
+TellsApart part call reply NoMemory = Unit {0}
 
 -- the line of an entry
 abbrev pub line_shape : Entry → Shape

@@ -5,7 +5,7 @@ use Rattle.unix_calls.specs.declared.entry.Entry.{Entry}
 use Rattle.history_text.specs.declared.history_error.HistoryError.{HistoryError}
 use Rattle.history_text.specs.declared.history_error.HistoryError.TheVariants.{Line, NoMemory}
 use Rattle.history_text.specs.Formats.{same}
-use Rattle.history_text.specs.Entries.{entry_line}
+use Rattle.history_text.specs.Entries.{entry_line, is_together}
 
 -- an entry that has a line: its parts belong together, and its numbers and bytes are in their ranges
 abbrev pub HasLine : Entry → Type 0
@@ -29,6 +29,7 @@ pub record IsFirstWithout (entries : List Entry) (number : ℕ) : Type 0 where
   pub before : AllByRecursion HasLine (take place entries)
   pub there : slice_get entries place ≡ Some entry
   pub without : HasLine entry → ⊥
+  pub apart : is_together entry ≡ false
 
 -- why no history was printed
 abbrev pub TellsUnprinted : List Entry → HistoryError → Type 0

@@ -2,6 +2,9 @@
 use Rattle.std.specs.Prelude.{◌≡◌, ℕ, ◌==◌, not, Bool, true, List, [], ◌∷◌, ◌++◌}
 use Rattle.std.specs.List.{list_all, AllByRecursion}
 use Rattle.unix_calls.specs.declared.entry.Entry.{Entry}
+use Rattle.unix_calls.specs.declared.description.Description.{Description}
+use Rattle.unix_calls.specs.After.{legal}
+use Rattle.history_text.specs.Entries.{is_together}
 use Rattle.history_text.specs.Histories.{HasLine, line_of, history_of, IsHistory, IsFirstBad}
 
 -- no end of a line
@@ -17,6 +20,13 @@ pub record IsOneLine (line : List ℕ) : Type 0 where
 -- what is printed of an entry is one line
 abbrev pub EntryIsOneLine : Type 0
 EntryIsOneLine = (e : Entry) → HasLine e → IsOneLine (line_of e)
+
+-- the parts of each entry of a history that one Unix kernel gives belong together
+abbrev pub IsTogether : Entry → Type 0
+IsTogether e = is_together e ≡ true
+
+abbrev pub LegalIsTogether : Type 0
+LegalIsTogether = (c : Description) (journal : List Entry) → legal c journal ≡ true → AllByRecursion IsTogether journal
 
 -- what is printed of entries is a history of these
 abbrev pub PrintedIsHistory : Type 0

@@ -1,8 +1,8 @@
-ghost use Rattle.std.specs.Prelude.{codes, ◌≡◌, ◌++◌, OnOk};
+ghost use Rattle.std.specs.Prelude.{codes, ◌≡◌, ◌++◌, OnOk, IfErr};
 ghost use Rattle.history_text.specs.Formats.{Takes, followed, form};
 ghost use Rattle.history_text.specs.Puts.{Puts};
 ghost use Rattle.history_text.specs.Calls.{call_format};
-ghost use Rattle.history_text.specs.Entries.{asked, answered, told, told_shape, entry, entry_line, line_shape};
+ghost use Rattle.history_text.specs.Entries.{TellsApart, asked, answered, told, told_shape, entry, entry_line, line_shape};
 
 use crate::field::{Field, put_form};
 use crate::field_end::FieldEnd;
@@ -18,7 +18,8 @@ type Told = (Part, (Option<Call>, Option<Reply>));
 /// Puts an entry's line at the end, with its byte 10. NotPrinted comes exactly where the entry has no line. After an
 /// error a part of the line may be there.
 pub fn put_line(alloc: Global, out: &mut Vec<u8>, entry: &Entry) -> Result<(), FieldEnd>
-    ensures { Puts (line_shape entry.now) result out.old.items out.new.items }
+    ensures puts { Puts (line_shape entry.now) result out.old.items out.new.items }
+    ensures apart { IfErr result (TellsApart entry.now.part entry.now.call entry.now.reply) }
 {
     (entry.pid, entry.number).put(alloc, out)?;
     out.push(b' ')?;
@@ -36,7 +37,8 @@ fn put_told(
     call: &Option<Call>,
     reply: &Option<Reply>,
 ) -> Result<(), FieldEnd>
-    ensures { Puts (told_shape part call.now reply.now) result out.old.items out.new.items }
+    ensures puts { Puts (told_shape part call.now reply.now) result out.old.items out.new.items }
+    ensures apart { IfErr result (TellsApart part call.now reply.now) }
 {
     match (part, call, reply) {
         (Part::Whole, Some(call), Some(reply)) => {

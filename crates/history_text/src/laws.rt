@@ -1,8 +1,14 @@
-ghost use Rattle.history_text.specs.Laws.{EntryIsOneLine, PrintedIsHistory, TextIsOneHistory, HistoryHasNoBadLine, TextHasOneBadLine};
+ghost use Rattle.history_text.specs.Laws.{EntryIsOneLine, LegalIsTogether, PrintedIsHistory, TextIsOneHistory, HistoryHasNoBadLine, TextHasOneBadLine};
 
 /// What is printed of an entry is one line, with byte 10 at its end alone (this project).
 pub fn entry_is_one_line()
     ensures { EntryIsOneLine }
+{}
+
+/// The parts of each entry belong together in a history that one Unix kernel gives, so that it is printed where memory suffices (this
+/// project).
+pub fn legal_is_together()
+    ensures { LegalIsTogether }
 {}
 
 /// What is printed of entries is a history of these (this project).

@@ -7,6 +7,7 @@ use Rattle.sprite_ids.specs.declared.no_memory.NoMemory.{NoMemory}
 use Rattle.sprite_top.specs.declared.top.Answer.{Answer}
 use Rattle.sprite_top.specs.declared.top.Status.{Status}
 use Rattle.sprite_top.specs.declared.top.Status.TheVariants as status
+use Rattle.sprite_top.specs.declared.top.Printing.{Printing}
 use Rattle.call_journal.specs.declared.closed.Closed.{Closed}
 use Rattle.unix_calls.specs.declared.description.Description.{Description}
 use Rattle.cluster_file.specs.declared.Refusal.{Refusal}
@@ -16,7 +17,7 @@ use Rattle.one_kernel.specs.declared.verdict.Verdict.TheVariants as verdict
 use Rattle.history_check.specs.declared.judgement.Judgement.{Judgement}
 use Rattle.history_check.specs.declared.judgement.Judgement.TheVariants as judgement
 use Rattle.sprite_top.specs.Judged.{TextCauses, judgement_status}
-use Rattle.sprite_top.specs.Top.{spelled, run_words, check_words, Causes, FileCauses, ClusterCauses}
+use Rattle.sprite_top.specs.Top.{spelled, words_of, check_words, Causes, FileCauses, ClusterCauses}
 
 -- one word is a text exactly where its bytes are
 pub one_word : (words : List (String Global)) (word : String Global) (text name : List ℕ) (same : Bool) → 1 ≤ length words → length words < 2 → word ≡ slice_index_or words 0 word → text ≡ string_bytes word → same ≡ pointwise nat_eq text name → IsTrue same ↔ (spelled words ≡ name ∷ [])
@@ -35,48 +36,48 @@ of_words words other left left_after faults faults_after r same why =
     subst (λ (ws : List (List ℕ)). IfOk r (λ (a : Answer). Causes a.status ws left left_after faults faults_after a.closed a.due)) (sym same) why
 
 -- what is due for a whole file is due for the words `run`, whose source was read to its end
-of_file : (state : Status) (words : List (List ℕ)) (left left_after : Option (List ℕ)) (faults faults_after : ℕ) (came : List ℕ) (closed : Option Closed) (due : List ℕ) → words ≡ run_words → Consumes left left_after came → IsAtEnd left_after → length came ≤ 1048576 → FileCauses state came closed due → Causes state words left left_after faults faults_after closed due
-of_file status.Ended words left left_after faults faults_after came closed due are read end short why =
-    record { words_are = are; came = came; read = read; at_end = end; short = short; run_of = why }
-of_file status.Refused words left left_after faults faults_after came closed due are read end short why =
-    inl (record { words_are = are; came = came; read = read; cause = inl (end, short, why.1); no_run = why.0 })
-of_file status.Budget words left left_after faults faults_after came closed due are read end short why =
-    record { words_are = are; came = came; read = read; at_end = end; short = short; run_of = why }
-of_file status.Usage words left left_after faults faults_after came closed due are read end short why = absurd why
-of_file status.ReadFault words left left_after faults faults_after came closed due are read end short why = absurd why
-of_file status.NoMemory words left left_after faults faults_after came closed due are read end short why = absurd why
-of_file status.Legal words left left_after faults faults_after came closed due are read end short why = absurd why
-of_file status.NotLegal words left left_after faults faults_after came closed due are read end short why = absurd why
-of_file status.TooLong words left left_after faults faults_after came closed due are read end short why = absurd why
-of_file status.WriteFault words left left_after faults faults_after came closed due are read end short why = absurd why
+of_file : (print : Printing) (state : Status) (words : List (List ℕ)) (left left_after : Option (List ℕ)) (faults faults_after : ℕ) (came : List ℕ) (closed : Option Closed) (due : List ℕ) → words ≡ words_of print → Consumes left left_after came → IsAtEnd left_after → length came ≤ 1048576 → FileCauses print state came closed due → Causes state words left left_after faults faults_after closed due
+of_file print status.Ended words left left_after faults faults_after came closed due are read end short why =
+    record { print = print; words_are = are; came = came; read = read; at_end = end; short = short; run_of = why }
+of_file print status.Refused words left left_after faults faults_after came closed due are read end short why =
+    inl (record { print = print; words_are = are; came = came; read = read; cause = inl (end, short, why.1); no_run = why.0 })
+of_file print status.Budget words left left_after faults faults_after came closed due are read end short why =
+    record { print = print; words_are = are; came = came; read = read; at_end = end; short = short; run_of = why }
+of_file print status.Usage words left left_after faults faults_after came closed due are read end short why = absurd why
+of_file print status.ReadFault words left left_after faults faults_after came closed due are read end short why = absurd why
+of_file print status.NoMemory words left left_after faults faults_after came closed due are read end short why = absurd why
+of_file print status.Legal words left left_after faults faults_after came closed due are read end short why = absurd why
+of_file print status.NotLegal words left left_after faults faults_after came closed due are read end short why = absurd why
+of_file print status.TooLong words left left_after faults faults_after came closed due are read end short why = absurd why
+of_file print status.WriteFault words left left_after faults faults_after came closed due are read end short why = absurd why
 
-pub from_file : (words : List (List ℕ)) (left left_after : Option (List ℕ)) (faults faults_after : ℕ) (came : List ℕ) (r : Result Answer NoMemory) → words ≡ run_words → Consumes left left_after came → IsAtEnd left_after → length came ≤ 1048576 → IfOk r (λ a. FileCauses a.status came a.closed a.due) → IfOk r (λ a. Causes a.status words left left_after faults faults_after a.closed a.due)
-from_file words left left_after faults faults_after came (Ok a) are read end short why = of_file a.status words left left_after faults faults_after came a.closed a.due are read end short why
-from_file words left left_after faults faults_after came (Err e) are read end short why = why
+pub from_file : (print : Printing) (words : List (List ℕ)) (left left_after : Option (List ℕ)) (faults faults_after : ℕ) (came : List ℕ) (r : Result Answer NoMemory) → words ≡ words_of print → Consumes left left_after came → IsAtEnd left_after → length came ≤ 1048576 → IfOk r (λ a. FileCauses print a.status came a.closed a.due) → IfOk r (λ a. Causes a.status words left left_after faults faults_after a.closed a.due)
+from_file print words left left_after faults faults_after came (Ok a) are read end short why = of_file print a.status words left left_after faults faults_after came a.closed a.due are read end short why
+from_file print words left left_after faults faults_after came (Err e) are read end short why = why
 
 -- what is due for a described cluster is due for a whole file
-of_cluster : (state : Status) (bytes : List ℕ) (c : Description) (closed : Option Closed) (due : List ℕ) → Describes bytes c → ClusterCauses state c closed due → FileCauses state bytes closed due
-of_cluster status.Ended bytes c closed due describes why = record { cluster = c; describes = describes; run_of = why }
-of_cluster status.Budget bytes c closed due describes why = record { cluster = c; describes = describes; run_of = why }
-of_cluster status.Refused bytes c closed due describes why =
+of_cluster : (print : Printing) (state : Status) (bytes : List ℕ) (c : Description) (closed : Option Closed) (due : List ℕ) → Describes bytes c → ClusterCauses print state c closed due → FileCauses print state bytes closed due
+of_cluster print status.Ended bytes c closed due describes why = record { cluster = c; describes = describes; run_of = why }
+of_cluster print status.Budget bytes c closed due describes why = record { cluster = c; describes = describes; run_of = why }
+of_cluster print status.Refused bytes c closed due describes why =
     (why.1.no_run, inr (record { cluster = c; describes = describes; not_today = why.0; line_is = why.1.output }))
-of_cluster status.Usage bytes c closed due describes why = absurd why
-of_cluster status.ReadFault bytes c closed due describes why = absurd why
-of_cluster status.NoMemory bytes c closed due describes why = absurd why
-of_cluster status.Legal bytes c closed due describes why = absurd why
-of_cluster status.NotLegal bytes c closed due describes why = absurd why
-of_cluster status.TooLong bytes c closed due describes why = absurd why
-of_cluster status.WriteFault bytes c closed due describes why = absurd why
+of_cluster print status.Usage bytes c closed due describes why = absurd why
+of_cluster print status.ReadFault bytes c closed due describes why = absurd why
+of_cluster print status.NoMemory bytes c closed due describes why = absurd why
+of_cluster print status.Legal bytes c closed due describes why = absurd why
+of_cluster print status.NotLegal bytes c closed due describes why = absurd why
+of_cluster print status.TooLong bytes c closed due describes why = absurd why
+of_cluster print status.WriteFault bytes c closed due describes why = absurd why
 
-pub from_cluster : (bytes : List ℕ) (c : Description) (r : Result Answer NoMemory) → Describes bytes c → IfOk r (λ a. ClusterCauses a.status c a.closed a.due) → IfOk r (λ a. FileCauses a.status bytes a.closed a.due)
-from_cluster bytes c (Ok a) describes why = of_cluster a.status bytes c a.closed a.due describes why
-from_cluster bytes c (Err e) describes why = why
+pub from_cluster : (print : Printing) (bytes : List ℕ) (c : Description) (r : Result Answer NoMemory) → Describes bytes c → IfOk r (λ a. ClusterCauses print a.status c a.closed a.due) → IfOk r (λ a. FileCauses print a.status bytes a.closed a.due)
+from_cluster print bytes c (Ok a) describes why = of_cluster print a.status bytes c a.closed a.due describes why
+from_cluster print bytes c (Err e) describes why = why
 
 -- the line of a refusal is due for a file that has it
-pub from_refusal : (bytes line : List ℕ) (refusal : Refusal) (r : Result Answer NoMemory) → Refuses bytes refusal → line ≡ refusal_line refusal → IfOk r (λ a. a ≡ record { status = status.Refused; due = line; closed = None }) → IfOk r (λ a. FileCauses a.status bytes a.closed a.due)
-from_refusal bytes line refusal (Ok a) refuses is made =
-    subst (λ (b : Answer). FileCauses b.status bytes b.closed b.due) (sym made) (refl, inl (record { refusal = refusal; refuses = refuses; line_is = is }))
-from_refusal bytes line refusal (Err e) refuses is made = made
+pub from_refusal : (print : Printing) (bytes line : List ℕ) (refusal : Refusal) (r : Result Answer NoMemory) → Refuses bytes refusal → line ≡ refusal_line refusal → IfOk r (λ a. a ≡ record { status = status.Refused; due = line; closed = None }) → IfOk r (λ a. FileCauses print a.status bytes a.closed a.due)
+from_refusal print bytes line refusal (Ok a) refuses is made =
+    subst (λ (b : Answer). FileCauses print b.status bytes b.closed b.due) (sym made) (refl, inl (record { refusal = refusal; refuses = refuses; line_is = is }))
+from_refusal print bytes line refusal (Err e) refuses is made = made
 
 -- a text's status is one of four
 no_other : (j : Judgement) → status.Ended ≡ judgement_status j → ⊥

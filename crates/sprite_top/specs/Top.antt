@@ -1,5 +1,5 @@
 -- What the top call promises for each status.
-use Rattle.std.specs.Prelude.{codes, IsTrue, false, ◌≡◌, ℕ, ◌<◌, ◌≤◌, ◌⊎◌, List, [], ◌∷◌, Option, Some, None, length, map, take, String, string_bytes}
+use Rattle.std.specs.Prelude.{codes, IsTrue, false, ◌≡◌, ℕ, ◌<◌, ◌≤◌, ◌⊎◌, List, [], ◌∷◌, ◌++◌, Option, Some, None, length, map, take, String, string_bytes}
 use Rattle.std.specs.Io.KnownBytes.{Consumes, Appends, IsAtEnd}
 use Rattle.std.specs.declared.alloc.Global.{Global}
 use Rattle.sprite_ids.specs.declared.running.Finish.{Finish}
@@ -22,21 +22,38 @@ use Rattle.call_journal.specs.Rules.{KeepsRules}
 use Rattle.call_journal.specs.Worth.{Worth}
 use Rattle.sprite_cluster.specs.Today.{is_run_today}
 use Rattle.sprite_cluster.specs.Histories.{IsFinished}
-use Rattle.unix_calls.specs.Output.{output_of}
+use Rattle.unix_calls.specs.declared.entry.Entry.{Entry}
+use Rattle.unix_calls.specs.Output.{output_of, last_line}
+use Rattle.history_text.specs.Histories.{history_of}
+use Rattle.sprite_top.specs.declared.top.Printing.{Printing}
+use Rattle.sprite_top.specs.declared.top.Printing.TheVariants as printing
 
 -- the words as texts
 abbrev pub spelled : List (String Global) → List (List ℕ)
 spelled words = map string_bytes words
 
--- the two commands that are built so far
+-- the three commands that are built so far
 abbrev pub run_words : List (List ℕ)
 run_words = codes "run" ∷ []
+
+abbrev pub history_words : List (List ℕ)
+history_words = codes "history" ∷ []
 
 abbrev pub check_words : List (List ℕ)
 check_words = codes "check" ∷ []
 
 abbrev pub IsCommand : List (List ℕ) → Type 0
-IsCommand words = (words ≡ run_words) ⊎ (words ≡ check_words)
+IsCommand words = (words ≡ run_words) ⊎ ((words ≡ history_words) ⊎ (words ≡ check_words))
+
+-- the words of the commands that run a cluster, by what they print of it
+abbrev pub words_of : Printing → List (List ℕ)
+words_of printing.Output = run_words
+words_of printing.History = history_words
+
+-- what they print of a journal: its output, or the history itself and why the run stopped where a process lives
+abbrev pub printed : Printing → Description → List Entry → Finish → List ℕ
+printed printing.Output c journal end = output_of c journal end
+printed printing.History c journal end = history_of journal ++ last_line end
 
 -- the lines that are written where nothing was run
 abbrev pub usage_line : List ℕ
@@ -53,8 +70,8 @@ fault_line = codes "read fault\n"
 
 -- a run of the cluster that came to that end: its journal is a history of one Unix kernel, each finished call stands in it
 -- once, its records are written as they should be, call no server unreachable without cause, keep the rules and are worth
--- their units, it ended so, and what is due is the output of the journal
-pub record IsRunOf (c : Description) (end : Finish) (closed : Option Closed) (due : List ℕ) : Type 0 where
+-- their units, it ended so, and what is due is what is printed of the journal
+pub record IsRunOf (print : Printing) (c : Description) (end : Finish) (closed : Option Closed) (due : List ℕ) : Type 0 where
   pub run : Closed
   pub kept : closed ≡ Some run
   pub same : run.description ≡ c
@@ -66,7 +83,7 @@ pub record IsRunOf (c : Description) (end : Finish) (closed : Option Closed) (du
   pub rules : KeepsRules c run.trace
   pub worth : Worth c run.trace
   pub finished : IsFinished c run.trace end
-  pub output : due ≡ output_of c (journal_of run.trace) end
+  pub output : due ≡ printed print c (journal_of run.trace) end
 
 -- nothing was run, and that line is due
 pub record IsLine (closed : Option Closed) (due line : List ℕ) : Type 0 where
@@ -74,19 +91,20 @@ pub record IsLine (closed : Option Closed) (due line : List ℕ) : Type 0 where
   pub output : due ≡ line
 
 -- the bytes are a cluster file, and were run so
-pub record IsFileRun (bytes : List ℕ) (end : Finish) (closed : Option Closed) (due : List ℕ) : Type 0 where
+pub record IsFileRun (print : Printing) (bytes : List ℕ) (end : Finish) (closed : Option Closed) (due : List ℕ) : Type 0 where
   pub cluster : Description
   pub describes : Describes bytes cluster
-  pub run_of : IsRunOf cluster end closed due
+  pub run_of : IsRunOf print cluster end closed due
 
--- the words are `run`, the source was read to its end, and its bytes were run so
+-- the words are `run` or `history`, the source was read to its end, and its bytes were run and printed so
 pub record IsEnded (end : Finish) (words : List (List ℕ)) (left left_after : Option (List ℕ)) (closed : Option Closed) (due : List ℕ) : Type 0 where
-  pub words_are : words ≡ run_words
+  pub print : Printing
+  pub words_are : words ≡ words_of print
   pub came : List ℕ
   pub read : Consumes left left_after came
   pub at_end : IsAtEnd left_after
   pub short : length came ≤ 1048576
-  pub run_of : IsFileRun came end closed due
+  pub run_of : IsFileRun print came end closed due
 
 -- the words are `check`, the source was read to its end, and what came is a text that comes to something of that status
 pub record IsChecked (state : Status) (words : List (List ℕ)) (left left_after : Option (List ℕ)) (closed : Option Closed) (due : List ℕ) : Type 0 where
@@ -115,9 +133,10 @@ abbrev pub AreRefused : Option (List ℕ) → List ℕ → List ℕ → Type 0
 AreRefused left_after came due =
     (IsAtEnd left_after × (length came ≤ 1048576) × (IsRefusal came due ⊎ IsLater came due)) ⊎ ((1048576 < length came) × (due ≡ too_long_line))
 
--- the words are `run`, and what was read is refused
+-- the words are `run` or `history`, and what was read is refused
 pub record IsRunRefused (words : List (List ℕ)) (left left_after : Option (List ℕ)) (closed : Option Closed) (due : List ℕ) : Type 0 where
-  pub words_are : words ≡ run_words
+  pub print : Printing
+  pub words_are : words ≡ words_of print
   pub came : List ℕ
   pub read : Consumes left left_after came
   pub cause : AreRefused left_after came due
@@ -163,18 +182,18 @@ Causes status.NoMemory words left left_after faults faults_after closed due = �
 Causes status.WriteFault words left left_after faults faults_after closed due = ⊥
 
 -- what is due for the bytes of a whole file
-abbrev pub FileCauses : Status → List ℕ → Option Closed → List ℕ → Type 0
-FileCauses status.Ended bytes closed due = IsFileRun bytes finish.AllEnded closed due
-FileCauses status.Budget bytes closed due = IsFileRun bytes finish.Budget closed due
-FileCauses status.Refused bytes closed due = (closed ≡ None) × (IsRefusal bytes due ⊎ IsLater bytes due)
-FileCauses _ bytes closed due = ⊥
+abbrev pub FileCauses : Printing → Status → List ℕ → Option Closed → List ℕ → Type 0
+FileCauses print status.Ended bytes closed due = IsFileRun print bytes finish.AllEnded closed due
+FileCauses print status.Budget bytes closed due = IsFileRun print bytes finish.Budget closed due
+FileCauses print status.Refused bytes closed due = (closed ≡ None) × (IsRefusal bytes due ⊎ IsLater bytes due)
+FileCauses print _ bytes closed due = ⊥
 
 -- what is due for a described cluster
-abbrev pub ClusterCauses : Status → Description → Option Closed → List ℕ → Type 0
-ClusterCauses status.Ended c closed due = IsRunOf c finish.AllEnded closed due
-ClusterCauses status.Budget c closed due = IsRunOf c finish.Budget closed due
-ClusterCauses status.Refused c closed due = (is_run_today c ≡ false) × IsLine closed due later_line
-ClusterCauses _ c closed due = ⊥
+abbrev pub ClusterCauses : Printing → Status → Description → Option Closed → List ℕ → Type 0
+ClusterCauses print status.Ended c closed due = IsRunOf print c finish.AllEnded closed due
+ClusterCauses print status.Budget c closed due = IsRunOf print c finish.Budget closed due
+ClusterCauses print status.Refused c closed due = (is_run_today c ≡ false) × IsLine closed due later_line
+ClusterCauses print _ c closed due = ⊥
 
 -- what was due was written behind what the sink held
 pub record Wrote (held held_after : Option (List ℕ)) (Due : List ℕ → Type 0) : Type 0 where

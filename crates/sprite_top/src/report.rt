@@ -1,17 +1,21 @@
 ghost use Rattle.std.specs.Prelude.{codes, ◌≡◌, ◌<◌, ◌++◌, IfOk, OnOk};
-ghost use Rattle.std.specs.List.{flat_map};
+ghost use Rattle.std.specs.List.{AllByRecursion, flat_map};
 ghost use Rattle.std.specs.Fmt.{decimal};
 ghost use Rattle.sprite_top.specs.Refused.{has_place, place_part, refusal_line};
 ghost use Rattle.unix_calls.specs.Output.{lines_of, hexadecimal, escape, console_line, process_line, ending_text, last_line, program_name};
 ghost use Rattle.unix_calls.specs.ProcessCalls.{kernel_name};
 ghost use Rattle.sprite_cluster.specs.Histories.{text_of};
+ghost use Rattle.call_journal.specs.Journal.{journal_of};
+ghost use Rattle.history_text.specs.Laws.{IsTogether};
+ghost use Rattle.history_text.specs.Histories.{history_of};
 
 use crate::lines::first_line;
 use cluster_file::Refusal;
+use history_text::{HistoryError, print_history};
 use sprite_cluster::{Kept, Outcome};
 use sprite_ids::{Ending, Finish, Kernel, NoMemory};
 use std::alloc::Global;
-use unix_calls::{Description, KernelLine, ProgramLine};
+use unix_calls::{Description, Entry, KernelLine, ProgramLine};
 
 /// The digit of that value, 0 to 15, in lower case.
 fn hexadecimal(digit: u8) -> u8
@@ -87,6 +91,33 @@ pub fn output(
     }
     push_last_line(&mut out, outcome.finish)?;
     Ok(out)
+}
+
+/// The journal of a run, a line for each entry, and why the run stopped where a process lives.
+pub fn history(alloc: Global, outcome: &Outcome) -> Result<Vec<u8>, NoMemory>
+    requires { AllByRecursion IsTogether (journal_of outcome.now.trace) }
+    ensures { IfOk result (λ out. out.items ≡ history_of (journal_of outcome.now.trace) ++ last_line outcome.now.finish) }
+{
+    let journal = outcome.trace.journal(alloc)?;
+    let mut out = lines(alloc, journal.as_slice())?;
+    push_last_line(&mut out, outcome.finish)?;
+    Ok(out)
+}
+
+/// The lines of entries whose parts belong together, so that each has one.
+fn lines(alloc: Global, entries: &[Entry]) -> Result<Vec<u8>, NoMemory>
+    requires { AllByRecursion IsTogether entries.now }
+    ensures { IfOk result (λ out. out.items ≡ history_of entries.now) }
+{
+    match print_history(alloc, entries) {
+        Ok(text) => Ok(text),
+        Err(HistoryError::Line(number)) => {
+            let never = number == 0;
+            prove!(never);
+            Err(NoMemory)
+        }
+        Err(HistoryError::NoMemory) => Err(NoMemory),
+    }
 }
 
 /// Puts why a run stopped, where a process lives.

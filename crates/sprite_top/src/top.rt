@@ -2,16 +2,18 @@ ghost use Rattle.std.specs.Prelude.{◌≡◌, ◌↔◌, ◌∷◌, [], None, I
 ghost use Rattle.sprite_ids.specs.declared.running.Finish.TheVariants.{AllEnded, Budget as Spent};
 ghost use Rattle.unix_calls.specs.Lawful.{Lawful};
 ghost use Rattle.sprite_top.specs.Judged.{TextCauses, judgement_status, verdict_status};
-ghost use Rattle.sprite_top.specs.Top.{spelled, run_words, check_words, IsEnded, IsChecked, IsRefused, IsUsage, IsReadFault, Causes, FileCauses, ClusterCauses, Wrote, Broke, status_of, status_number};
+ghost use Rattle.call_journal.specs.Journal.{journal_of};
+ghost use Rattle.sprite_cluster.specs.Histories.{IsHistory};
+ghost use Rattle.sprite_top.specs.Top.{spelled, words_of, check_words, IsEnded, IsChecked, IsRefused, IsUsage, IsReadFault, Causes, FileCauses, ClusterCauses, Wrote, Broke, printed, status_of, status_number};
 
 use crate::judged::judgement_line;
-use crate::report::{output, refusal_line};
+use crate::report::{history, output, refusal_line};
 use call_journal::Closed;
 use cluster_file::{FileEnd, read_description};
 use history_check::{Judgement, judge};
 use one_kernel::Verdict;
 use sprite_bytes::{ReadEnd, Sink, Source, read_all, write_all};
-use sprite_cluster::{is_run_today, run};
+use sprite_cluster::{Outcome, is_run_today, run};
 use sprite_ids::{Bytes, Finish, NoMemory};
 use std::alloc::Global;
 use unix_calls::Description;
@@ -60,6 +62,15 @@ pub enum Status {
     TooLong,
 }
 
+/// What a command prints of the cluster that it ran (this project).
+#[derive(Clone, Copy, Debug, PartialEq, Eq)]
+pub enum Printing {
+    /// `run`: what each process printed and how it ended.
+    Output,
+    /// `history`: the entries of the run's journal, a line each.
+    History,
+}
+
 /// What the top call gives back.
 #[derive(Debug, Drop)]
 pub struct Ended {
@@ -78,8 +89,8 @@ pub struct Answer {
 
 /// Does the command that the words spell with what the source holds, and writes to the sink.
 ///
-/// The words are those behind the program's name. So far there are two commands: `run` runs the cluster of a cluster file, and
-/// `check` judges a history, which stands behind a cluster file and a line `=====`, against the one-kernel Unix, without
+/// The words are those behind the program's name. So far there are three commands: `run` and `history` run the cluster of a cluster
+/// file and print its output or its journal, and `check` judges a history, which stands behind a cluster file and a line `=====`, against the one-kernel Unix, without
 /// running a cluster. All that is due is made before its first byte is written. Want of memory may come at any point before, and then nothing is written. Where a source or a
 /// sink tells nothing of its bytes, the clauses say that some bytes were read or written so.
 pub fn sprite<S: Source, K: Sink>(
@@ -122,7 +133,10 @@ fn answer_to<S: Source>(alloc: Global, words: &[String], source: &mut S) -> Resu
     ensures { IfOk result (λ a. Causes a.status (spelled words.now) (S.left source.old) (S.left source.new) (S.faults source.old) (S.faults source.new) a.closed a.due) }
 {
     if is_command(words, "run") {
-        return answer_run(alloc, source);
+        return answer_run(alloc, source, Printing::Output);
+    }
+    if is_command(words, "history") {
+        return answer_run(alloc, source, Printing::History);
     }
     if is_command(words, "check") {
         return answer_check(alloc, source);
@@ -140,12 +154,12 @@ fn is_command(words: &[String], name: &str) -> bool
     }
 }
 
-/// What is due for the word `run` and this source. The one error is want of memory.
-fn answer_run<S: Source>(alloc: Global, source: &mut S) -> Result<Answer, NoMemory>
-    ensures { IfOk result (λ a. Causes a.status run_words (S.left source.old) (S.left source.new) (S.faults source.old) (S.faults source.new) a.closed a.due) }
+/// What is due for the word `run` or `history` and this source. The one error is want of memory.
+fn answer_run<S: Source>(alloc: Global, source: &mut S, print: Printing) -> Result<Answer, NoMemory>
+    ensures { IfOk result (λ a. Causes a.status (words_of print) (S.left source.old) (S.left source.new) (S.faults source.old) (S.faults source.new) a.closed a.due) }
 {
     match read_all(alloc, source, FILE_BYTES) {
-        Ok(bytes) => answer_file(alloc, bytes.as_slice()),
+        Ok(bytes) => answer_file(alloc, bytes.as_slice(), print),
         Err(ReadEnd::TooLong) => refuse(alloc, Status::Refused, TOO_LONG_LINE),
         Err(ReadEnd::Fault { .. }) => refuse(alloc, Status::ReadFault, FAULT_LINE),
         Err(ReadEnd::NoMemory) => Err(NoMemory),
@@ -208,11 +222,11 @@ fn refuse(alloc: Global, status: Status, line: &[u8]) -> Result<Answer, NoMemory
 }
 
 /// What is due for a whole cluster file. The one error is want of memory.
-fn answer_file(alloc: Global, bytes: &[u8]) -> Result<Answer, NoMemory>
-    ensures { IfOk result (λ a. FileCauses a.status bytes.now a.closed a.due) }
+fn answer_file(alloc: Global, bytes: &[u8], print: Printing) -> Result<Answer, NoMemory>
+    ensures { IfOk result (λ a. FileCauses print a.status bytes.now a.closed a.due) }
 {
     match read_description(alloc, bytes) {
-        Ok(description) => answer_cluster(alloc, description),
+        Ok(description) => answer_cluster(alloc, description, print),
         Err(FileEnd::Refused(refusal)) => {
             let line = refusal_line(alloc, &refusal)?;
             refuse(alloc, Status::Refused, line.as_slice())
@@ -222,15 +236,19 @@ fn answer_file(alloc: Global, bytes: &[u8]) -> Result<Answer, NoMemory>
 }
 
 /// What is due for a described cluster, which is lawful. The one error is want of memory.
-fn answer_cluster(alloc: Global, description: Description) -> Result<Answer, NoMemory>
+fn answer_cluster(
+    alloc: Global,
+    description: Description,
+    print: Printing,
+) -> Result<Answer, NoMemory>
     requires { Lawful description }
-    ensures { IfOk result (λ a. ClusterCauses a.status description a.closed a.due) }
+    ensures { IfOk result (λ a. ClusterCauses print a.status description a.closed a.due) }
 {
     if !is_run_today(&description) {
         return refuse(alloc, Status::Refused, REFUSED_LINE);
     }
     let outcome = run(alloc, &description)?;
-    let due = output(alloc, &description, &outcome)?;
+    let due = printed(alloc, &description, &outcome, print)?;
     Ok(Answer {
         status: status_of(outcome.finish),
         due: Bytes::of_vec(due),
@@ -240,6 +258,22 @@ fn answer_cluster(alloc: Global, description: Description) -> Result<Answer, NoM
             finish: outcome.finish,
         }),
     })
+}
+
+/// What is printed of a run. The one error is want of memory.
+fn printed(
+    alloc: Global,
+    description: &Description,
+    outcome: &Outcome,
+    print: Printing,
+) -> Result<Vec<u8>, NoMemory>
+    requires { IsHistory description.now outcome.now }
+    ensures { IfOk result (λ text. text.items ≡ printed print description.now (journal_of outcome.now.trace) outcome.now.finish) }
+{
+    match print {
+        Printing::Output => output(alloc, description, outcome),
+        Printing::History => history(alloc, outcome),
+    }
 }
 
 /// The status of a run that came to its end so.

@@ -44,8 +44,7 @@ program = \"p\"
 
 const HELLO_OUTPUT: &[u8] = b"pid 1001 hello c1 exit 0\n| hello\n";
 
-const USAGE: &[u8] =
-    b"usage: sprite run | run --seed N | run --stats | history | load N | check\n";
+const USAGE: &[u8] = b"usage: sprite run | run --seed N | run --stats | history | load N | check\n";
 
 /// What a call of the program left: its status, what it wrote, and how many records its trace has, if it ran.
 #[derive(Drop)]
@@ -120,6 +119,35 @@ fn leaves(
     Ok(is_left(&left, status, written, records))
 }
 
+/// The journal of that run: the process prints and exits.
+const HELLO_HISTORY: &[u8] =
+    b"1001 1 whole print \"hello\\0a\" -> ok 6 0 \"\"\n1001 2 whole exit 0 -> ok 0 0 \"\"\n";
+
+#[test]
+fn a_history_is_printed(rt: HostRuntime) -> Result<(), Fail> {
+    assert!(rt;
+        leaves(
+            rt.alloc(),
+            &["history"],
+            SOUND,
+            Status::Ended,
+            HELLO_HISTORY,
+            Some(7)
+        )?
+    );
+    assert!(rt;
+        leaves(
+            rt.alloc(),
+            &["check"],
+            SOUND,
+            Status::Refused,
+            b"refused: 14\n",
+            None
+        )?
+    );
+    Ok(())
+}
+
 /// How many bytes a read gives and a write takes at most.
 const PIECES: [(usize, usize); 8] = [
     (1, 1),
@@ -162,6 +190,7 @@ fn hello_is_printed_by_pieces_of_any_size(rt: HostRuntime) -> Result<(), Fail> {
 
 /// Words that are no command so far; nothing is read, though the source's first read would fail.
 const WORDS: [&[&str]; 15] = [
+    &["history", "run"],
     &["check", "run"],
     &["run", "check"],
     &["Check"],
@@ -173,7 +202,6 @@ const WORDS: [&[&str]; 15] = [
     &["run", "--seed", "1"],
     &["run", "--seed=1"],
     &["run", "--stats"],
-    &["history"],
     &["load", "65"],
     &["--help"],
     &[""],

@@ -6,4 +6,4 @@ pub answer_cluster-requires : goal.answer_cluster-requires
 answer_cluster-requires c = described_is_lawful c.args.bytes.now c.in-Ok.description c.in-Ok.ensures.described
 
 pub returns-in-Ok : goal.returns-in-Ok
-returns-in-Ok c = from_cluster c.args.bytes.now c.in-Ok.description c.answer_cluster.result c.in-Ok.ensures.described c.answer_cluster.ensures
+returns-in-Ok c = from_cluster c.args.print c.args.bytes.now c.in-Ok.description c.answer_cluster.result c.in-Ok.ensures.described c.answer_cluster.ensures
