@@ -121,7 +121,7 @@ fn leaves(
 
 /// The journal of that run: the process prints and exits.
 const HELLO_HISTORY: &[u8] =
-    b"1001 1 whole print \"hello\\0a\" -> ok 6 0 \"\"\n1001 2 whole exit 0 -> ok 0 0 \"\"\n";
+    b"1001 1 whole print \"hello\\0a\" -> ok 0 0 \"\"\n1001 2 whole exit 0 -> ok 0 0 \"\"\n";
 
 #[test]
 fn a_history_is_printed(rt: HostRuntime) -> Result<(), Fail> {
