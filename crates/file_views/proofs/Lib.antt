@@ -19,3 +19,8 @@ pub mod StampGrantLaws
 pub mod StampServeLaws
 pub mod StampStepLaws
 pub mod StampMoveLaws
+pub mod DataLaws
+pub mod DecisionLaws
+pub mod DecisionServeLaws
+pub mod DecisionCallLaws
+pub mod DecisionStepLaws

@@ -11,7 +11,6 @@ use Rattle.file_views.specs.declared.call.FileCall.{FileCall}
 use Rattle.file_views.specs.declared.call.Carry.{Carry}
 use Rattle.file_views.specs.declared.view.View.{View}
 use Rattle.file_views.specs.Views.{client, current_stamp, mode_given, grant_given, is_callback, as_call, things}
-use Rattle.file_views.specs.Clients.{granted}
 use Rattle.file_views.specs.Settled.{goes_of, goes_to, arrival}
 use Rattle.file_views.specs.Here.{In, Pairs, IsClient, target, about, at_kernel, request_stamp}
 use Rattle.file_views.specs.SoundShapes.{Ends, Answers, Shaped}

@@ -1,3 +1,4 @@
+ghost use Rattle.file_views.specs.DecisionLaw.{DecisionsStay};
 ghost use Rattle.file_views.specs.ShapeLaw.{ShapesStay};
 ghost use Rattle.file_views.specs.StampLaw.{StampsStay};
 ghost use Rattle.file_views.specs.StreamLaw.{StreamsStay};
@@ -22,4 +23,12 @@ pub fn streams_stay()
 /// a recall is the only one. (A file that nobody has open is uncached by itself only while no callback is out.)
 pub fn stamps_stay()
     ensures { StampsStay }
+{}
+
+/// A law: in a new file and after any steps and moves of clients, an open or a move waits first of all at the server while a
+/// callback is out, and nothing waits while none is; the file is uncached where that open or move makes it so, and blocks aren't
+/// recalled from its receiver unless it truncates; a shared stream is open, and its file uncached; while the file is uncached no
+/// client was given On last, and while it isn't each client that has it open was.
+pub fn decisions_stay()
+    ensures { DecisionsStay }
 {}
