@@ -20,7 +20,7 @@ use Rattle.file_views.specs.Coherent.{first_asks}
 use Rattle.file_views.specs.Here.{In, Unique, IsClient}
 use Rattle.file_views.specs.SoundShapes.{numbers}
 use Rattle.file_views.specs.SoundDecisions.{SharedUncached, Decisions}
-use Rattle.file_views.proofs.MemberLaws.{in_left, in_last, in_filter, in_with, in_without, with_in, without_in, filter_swap, filter_with, without_absent, with_absent, same_call}
+use Rattle.file_views.proofs.MemberLaws.{in_left, in_last, in_filter, in_with, in_without, with_in, with_new, without_in, filter_swap, filter_with, without_absent, with_absent, same_call}
 use Rattle.file_views.proofs.EffectLaws.{count_set, filter_last}
 use Rattle.file_views.proofs.CountLaws.{or_left, or_right, or_is}
 use Rattle.file_views.proofs.StreamLaws.{in_opened, out_opened}
@@ -241,18 +241,7 @@ stays_with v one new u m e b t w x = record {
   waiting = filter_with waits new v.calls (λ other n q. ap waits (same_call v.calls other one u n m (q ∙ e)) ∙ w ∙ sym x) ∙ with_absent new (filter waits v.calls) (λ other n q. not_waiting v.calls one u m w other n (q ∙ e));
   back = λ other n c. elim (in_with new other v.calls n) [ inl k ↦ back_self v.calls other k.0 | inr q ↦ record { other = one; there = m; body_is = ap (λ (y : FileCall). y.body) q ∙ b; to_is = ap (λ (y : FileCall). y.to) q ∙ t } ];
   on = λ c. elim (eqb_tells c.call.number new.number) [
-    | inl k ↦ record { call = new; there = new_in; is_call = ap is_callback (b ∙ ap (λ (y : FileCall). y.body) (sym (same_call v.calls c.call one u c.there m (k.1 ∙ e)))) ∙ c.is_call }
+    | inl k ↦ record { call = new; there = with_new new one v.calls e m; is_call = ap is_callback (b ∙ ap (λ (y : FileCall). y.body) (sym (same_call v.calls c.call one u c.there m (k.1 ∙ e)))) ∙ c.is_call }
     | inr k ↦ record { call = c.call; there = with_in new c.call v.calls c.there k.1; is_call = c.is_call }
   ];
 }
-  where
-    new_there : (calls : List FileCall) → In one calls → In new (with_call new calls)
-    new_there [] k = absurd k
-    new_there (c ∷ calls) (inl q) = inl (sym (ap (λ z. cond z new c) (at_first (ap (λ (y : FileCall). y.number) (sym q) ∙ sym e))))
-      where
-        at_first : c.number ≡ new.number → (c.number == new.number) ≡ true
-        at_first p = eq-eqb c.number new.number p
-    new_there (c ∷ calls) (inr k) = inr (new_there calls k)
-
-    new_in : In new (with_call new v.calls)
-    new_in = new_there v.calls m

@@ -183,12 +183,12 @@ mode_at modes kernel mode other l = elim (eqb_tells (other - 1) (kernel - 1)) [
   | inr b ↦ inr (b.1, get_or-set_other modes (kernel - 1) (other - 1) mode cache.None b.1)
 ]
 
-receiver_client : (count source to : ℕ) (body : FileBody) → asks body ≡ true → Ends count source to body → IsClient count (receiver_of source body)
+pub receiver_client : (count source to : ℕ) (body : FileBody) → asks body ≡ true → Ends count source to body → IsClient count (receiver_of source body)
 receiver_client count source to (form.Opening pid number stream mode truncate) a e = e.0
 receiver_client count source to (form.Move stream place kept grants) a e = e.2
 receiver_client count source to body a e = absurd (cc (a))
 
-on_given : (uncached : Bool) → uncached ≡ false → is_on (mode_of (not uncached)) ≡ true
+pub on_given : (uncached : Bool) → uncached ≡ false → is_on (mode_of (not uncached)) ≡ true
 on_given true e = absurd (cc (e))
 on_given false e = refl
 

@@ -24,3 +24,6 @@ pub mod DecisionLaws
 pub mod DecisionServeLaws
 pub mod DecisionCallLaws
 pub mod DecisionStepLaws
+pub mod ModeLaws
+pub mod ModeChangeLaws
+pub mod ModeGrantLaws
