@@ -107,7 +107,7 @@ client_kernel v kernel i = numbers_in 1 (length v.clients) kernel i.0 (let h = i
 told_is : (z : Setting) (v : View) (one : FileCall) (b : Bool) → uncached_after z v one ≡ b → b ≡ false → uncached_after z (told v b) one ≡ false
 told_is z v one b e u = ap (λ c. makes_uncached z c v.shared v.opens one) u ∙ (neither v.uncached (makes_uncached z false v.shared v.opens one) (e ∙ u)).1
 
-ruled_told : (z : Setting) (v : View) (one : FileCall) (b : Bool) → uncached_after z v one ≡ b → [] ≡ filter (is_called b v one) (kernels v) → Ruled v → Ruled (told v b)
+pub ruled_told : (z : Setting) (v : View) (one : FileCall) (b : Bool) → uncached_after z v one ≡ b → [] ≡ filter (is_called b v one) (kernels v) → Ruled v → Ruled (told v b)
 ruled_told z v one b e none r = record {
   shared = record { uncached = λ s k. sym e ∙ or_left v.uncached (makes_uncached z false v.shared v.opens one) (r.shared.uncached s k); stays = r.shared.stays };
   off = λ kernel i u. by_test kernel i u (is_on (mode_given v kernel)) refl;
@@ -194,7 +194,7 @@ served_body z v one rest (form.Op pid number stamp stream way) e f n w r = choos
 served_body z v one rest (form.Callback stamp kind) e f n w r = absurd (cc (n one (first_waits v one rest w), ap is_callback e))
 served_body z v one rest body e f n w r = absurd (subst (Ends (length v.clients) one.from one.to) e (f.calls one (first_waits v one rest w)).ends)
 
-served : (z : Setting) (v : View) (one : FileCall) (rest : List FileCall) → Flat v → NoCall v → waiting_calls v ≡ one ∷ rest → Ruled v → Served z rest (serve z v one)
+pub served : (z : Setting) (v : View) (one : FileCall) (rest : List FileCall) → Flat v → NoCall v → waiting_calls v ≡ one ∷ rest → Ruled v → Served z rest (serve z v one)
 served z v one rest f n w r = served_body z v one rest one.body refl f n w r
 
 -- what waits is taken up in order
@@ -202,7 +202,7 @@ busy_queue : (z : Setting) (v : View) (waiting : List FileCall) → busy v ≡ t
 busy_queue z v waiting h (inl a) = absurd (busy_quiet v a.0 h)
 busy_queue z v waiting h (inr b) = inr b
 
-idle_waiting : (z : Setting) (v : View) (waiting : List FileCall) → busy v ≡ false → Queues z waiting v → waiting_calls v ≡ waiting
+pub idle_waiting : (z : Setting) (v : View) (waiting : List FileCall) → busy v ≡ false → Queues z waiting v → waiting_calls v ≡ waiting
 idle_waiting z v waiting h (inl a) = a.1
 idle_waiting z v waiting h (inr b) = absurd (cc (idle v h b.0.call b.0.there, b.0.is_call))
 

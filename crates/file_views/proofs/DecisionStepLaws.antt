@@ -53,7 +53,7 @@ carries_decisions : (z : Setting) → Carries (FlatDecisions z)
 carries_decisions z = record { client = λ v kernel c d i a. decisions_client z v kernel c d; begins = λ v kernel body dirty d i n. decisions_begin z v kernel body dirty n d }
 
 -- a call that has its reply is finished
-answered_waits : (one : FileCall) → is_some one.reply ≡ true → waits one ≡ false
+pub answered_waits : (one : FileCall) → is_some one.reply ≡ true → waits one ≡ false
 answered_waits one h = by_reply one.taken one.reply h
   where
     by_reply : (taken : Bool) (reply : Option FileBody) → is_some reply ≡ true → (taken && is_none reply) ≡ false

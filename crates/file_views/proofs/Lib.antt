@@ -27,3 +27,5 @@ pub mod DecisionStepLaws
 pub mod ModeLaws
 pub mod ModeChangeLaws
 pub mod ModeGrantLaws
+pub mod ModeServeLaws
+pub mod ModeStepLaws

@@ -1,9 +1,7 @@
 -- The fifth layer of soundness under the smallest changes of a view.
-use Rattle.std.proofs.Common.{◌≡◌, ◌≢◌, ◌≤◌, ◌<◌, ◌⊎◌, ℕ, ◌-◌, ◌==◌, nat_le, Bool, true, false, cond, List, [], ◌∷◌, ◌++◌, length, map, Option, Some, None, refl, sym, ap, ◌∙◌, subst, inl, inr, arith, le_refl, leb-true, leb-false, append_assoc, slice_index_or}
+use Rattle.std.proofs.Common.{◌≡◌, ◌≢◌, ◌≤◌, ◌<◌, ◌⊎◌, ℕ, ◌-◌, nat_le, Bool, true, false, cond, List, [], ◌∷◌, ◌++◌, length, map, Option, Some, None, refl, sym, ap, ◌∙◌, subst, inl, inr, arith, le_refl, leb-true, leb-false, append_assoc, slice_index_or}
 use Rattle.std.proofs.lemmas.Bool.Decides.{eqb_tells}
-use Rattle.sprite_ids.specs.declared.BlockNo.{BlockNo}
 use Rattle.sprite_ids.specs.declared.StreamNo.{StreamNo}
-use Rattle.sprite_ids.specs.declared.CallKind.{CallKind}
 use Rattle.file_views.specs.declared.grant.FileGrant.{FileGrant}
 use Rattle.file_views.specs.declared.body.FileBody.{FileBody}
 use Rattle.file_views.specs.declared.body.FileBody.TheVariants as form
@@ -13,18 +11,17 @@ use Rattle.file_views.specs.declared.call.Carry.{Carry}
 use Rattle.file_views.specs.declared.view.View.{View}
 use Rattle.sprite_ids.specs.declared.CacheMode.TheVariants as cache
 use Rattle.file_views.specs.Clients.{new_client, mode_of, granted, take_grant}
-use Rattle.file_views.specs.Views.{server, client, set_client, current_stamp, mode_given, grant_given, greatest, is_callback, as_call, things, begin, new_call, replied, answer, remove_call, to_the_end, with_call, without_call}
+use Rattle.file_views.specs.Views.{server, client, set_client, current_stamp, mode_given, grant_given, greatest, is_callback, as_call, things, begin, new_call, replied, remove_call, to_the_end, with_call, without_call}
 use Rattle.file_views.specs.Settled.{goes_of, goes_to, arrival}
-use Rattle.file_views.specs.Here.{In, Unique, IsClient, Arrives, request_stamp}
-use Rattle.file_views.specs.SoundShapes.{numbers}
+use Rattle.file_views.specs.Here.{In, IsClient, Arrives}
 use Rattle.file_views.specs.SoundModes.{SameNewer}
-use Rattle.file_views.proofs.MemberLaws.{in_left, in_right, in_join, in_last, last_in, in_with, with_in, in_without, without_in, same_call}
-use Rattle.file_views.proofs.EffectLaws.{Apart, count_set, client_set, client_other, by_kernel, things_begin, things_with, things_without, things_uncarried, call_in_things, same_thing}
+use Rattle.file_views.proofs.MemberLaws.{in_left, in_right, in_join, in_last, last_in, in_with, with_in, in_without, without_in}
+use Rattle.file_views.proofs.EffectLaws.{Apart, count_set, client_set, client_other, by_kernel, things_begin, things_without, call_in_things, same_thing}
 use Rattle.file_views.proofs.ShapeLaws.{in_middle, things_carried}
-use Rattle.file_views.proofs.StampLaws.{own_stamp, FlatStamps, StampedIn}
-use Rattle.file_views.proofs.StampChangeLaws.{NoCall, no_call_thing, Reads}
-use Rattle.file_views.proofs.DataLaws.{Alike, Carries}
-use Rattle.file_views.proofs.ModeLaws.{Brought, CallDue, Dues, modes_due, modes_took, modes_equal, FactsAt, FlatModes, Under, Moded, facts_moded, modes_moded, dues_self}
+use Rattle.file_views.proofs.StampLaws.{own_stamp}
+use Rattle.file_views.proofs.StampChangeLaws.{Reads}
+use Rattle.file_views.proofs.DataLaws.{Carries}
+use Rattle.file_views.proofs.ModeLaws.{Brought, Dues, modes_due, modes_took, modes_equal, FactsAt, FlatModes, Under, Moded, modes_moded, dues_self}
 
 -- a request begins
 pub dues_begin : (v : View) (kernel : ℕ) (new : FileCall) → FactsAt v kernel (things v) → arrival new.reply ≡ None → ((grant : FileGrant) → new.reply ≡ Some (form.Again grant) → ⊥) → Dues kernel (own_stamp v kernel) (own_stamp v kernel) (things v) (things v ++ new ∷ [])
@@ -72,7 +69,7 @@ dues_reads v w kernel one other f r m c n back on = record {
 }
 
 -- of views
-moded_self : (v w : View) → w.clients ≡ v.clients → w.stamps ≡ v.stamps → w.modes ≡ v.modes → w.given ≡ v.given → w.uncached ≡ v.uncached → Moded v w
+pub moded_self : (v w : View) → w.clients ≡ v.clients → w.stamps ≡ v.stamps → w.modes ≡ v.modes → w.given ≡ v.given → w.uncached ≡ v.uncached → Moded v w
 moded_self v w a b c d e = record {
   count = ap length a;
   own = λ kernel i. ap (λ cs. (slice_index_or cs (kernel - 1) new_client).stamp) a;
@@ -102,7 +99,7 @@ moded_client v kernel c i a b = record {
   uncached = refl;
 }
 
-under_moded : (v w : View) → Moded v w → Under v → ((one : FileCall) → In one (things w) → (grant : FileGrant) → arrival one.reply ≡ Some grant → Brought (goes_to one) grant (things v)) → Under w
+pub under_moded : (v w : View) → Moded v w → Under v → ((one : FileCall) → In one (things w) → (grant : FileGrant) → arrival one.reply ≡ Some grant → Brought (goes_to one) grant (things v)) → Under w
 under_moded v w h u back = record {
   own = λ kernel i. let j : IsClient (length v.clients) kernel = subst (λ n. IsClient n kernel) h.count i in let a = u.own kernel j in let b = h.own kernel j in let c : current_stamp w kernel ≡ current_stamp v kernel = ap (λ xs. slice_index_or xs (kernel - 1) 0) h.stamps in omega (arith, a, b, c);
   given = λ kernel i grant e. subst (λ xs. grant.stamp ≤ greatest xs) (sym h.stamps) (u.given kernel (subst (λ n. IsClient n kernel) h.count i) grant (ap (λ xs. slice_index_or xs (kernel - 1) None) (sym h.given) ∙ e));

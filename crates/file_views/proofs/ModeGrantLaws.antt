@@ -1,13 +1,11 @@
 -- The fifth layer of soundness where grants are given and callbacks go out and are taken.
-use Rattle.std.proofs.Common.{◌≡◌, ◌≢◌, ◌≤◌, ◌<◌, ◌⊎◌, ℕ, zero, suc, ◌+◌, ◌-◌, ◌==◌, max, Bool, true, false, cond, not, ◌&&◌, List, [], ◌∷◌, ◌++◌, length, Option, Some, None, refl, sym, ap, ◌∙◌, subst, inl, inr, arith, slice_set, slice_index_or, get_or-set_same, get_or-set_other, eq-eqb, length-set}
-use Rattle.std.proofs.lemmas.Bool.Decides.{eqb_tells}
+use Rattle.std.proofs.Common.{◌≡◌, ◌≢◌, ◌≤◌, ◌<◌, ◌⊎◌, ℕ, zero, suc, ◌+◌, ◌-◌, Bool, true, false, cond, not, List, [], ◌∷◌, ◌++◌, length, Option, Some, None, refl, sym, ap, ◌∙◌, subst, inl, inr, arith, slice_set, get_or-set_same, get_or-set_other, eq-eqb, length-set}
 use Rattle.sprite_ids.specs.declared.BlockNo.{BlockNo}
 use Rattle.sprite_ids.specs.declared.CacheMode.{CacheMode}
 use Rattle.sprite_ids.specs.declared.CacheMode.TheVariants as cache
 use Rattle.sprite_ids.specs.declared.CallKind.{CallKind}
 use Rattle.sprite_ids.specs.declared.CallKind.TheVariants.{Recall, Stop}
 use Rattle.file_views.specs.declared.grant.FileGrant.{FileGrant}
-use Rattle.file_views.specs.declared.body.FileBody.{FileBody}
 use Rattle.file_views.specs.declared.body.FileBody.TheVariants as form
 use Rattle.file_views.specs.declared.client.Client.{Client}
 use Rattle.file_views.specs.declared.call.FileCall.{FileCall}
@@ -18,17 +16,17 @@ use Rattle.file_views.specs.Grants.{asks, receiver, granting, grant_of, settle, 
 use Rattle.file_views.specs.Settled.{goes_to, arrival}
 use Rattle.file_views.specs.Here.{In, IsClient, Arrives, Stopped}
 use Rattle.file_views.specs.SoundModes.{GrantWith, CallbackWith, SameNewer, ModeFacts}
-use Rattle.file_views.proofs.MemberLaws.{in_left, in_last, last_in, in_with, with_in, with_new}
+use Rattle.file_views.proofs.MemberLaws.{in_last, last_in, in_with, with_in, with_new}
 use Rattle.file_views.proofs.EffectLaws.{Apart, by_kernel, places_apart, count_set, client_set, client_other, things_begin, things_with, call_in_things, same_thing}
 use Rattle.file_views.proofs.CountLaws.{bool_cases}
 use Rattle.file_views.proofs.ShapeLaws.{Flat}
 use Rattle.file_views.proofs.StampLaws.{own_stamp, FlatStamps}
 use Rattle.file_views.proofs.StampChangeLaws.{NoCall, no_call_thing}
-use Rattle.file_views.proofs.StampGrantLaws.{under_greatest, stamp_rises}
+use Rattle.file_views.proofs.StampGrantLaws.{stamp_rises}
 use Rattle.file_views.proofs.StampServeLaws.{goes_asked, granting_arrives, granting_no_again, current_is}
 use Rattle.file_views.proofs.DecisionLaws.{Ruled}
 use Rattle.file_views.proofs.DecisionServeLaws.{receiver_client, on_given}
-use Rattle.file_views.proofs.ModeLaws.{Brought, Dues, modes_due, modes_equal, off_of, FactsAt, FlatModes, Under}
+use Rattle.file_views.proofs.ModeLaws.{modes_due, modes_equal, FactsAt, FlatModes, Under}
 use Rattle.file_views.proofs.ModeChangeLaws.{Moding, dues_begin, dues_answer}
 
 -- one reply brings one grant

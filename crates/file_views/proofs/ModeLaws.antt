@@ -1,5 +1,5 @@
 -- The fifth layer of soundness, said of one kernel and a list of calls, and where other calls bring the same.
-use Rattle.std.proofs.Common.{◌≡◌, ◌≢◌, ◌≤◌, ◌<◌, ◌⊎◌, ℕ, ◌-◌, ◌==◌, Bool, true, false, ◌||◌, List, length, filter, Option, Some, None, refl, sym, ap, ◌∙◌, subst, inl, inr, arith, eq-eqb, slice_index_or}
+use Rattle.std.proofs.Common.{◌≡◌, ◌≤◌, ◌<◌, ◌⊎◌, ℕ, ◌-◌, ◌==◌, Bool, true, false, List, length, Option, Some, None, refl, sym, ap, ◌∙◌, subst, inl, inr, arith, eq-eqb, slice_index_or}
 use Rattle.std.proofs.lemmas.Bool.Decides.{eqb_tells}
 use Rattle.sprite_ids.specs.declared.CacheMode.{CacheMode}
 use Rattle.sprite_ids.specs.declared.CacheMode.TheVariants as cache
@@ -12,7 +12,7 @@ use Rattle.file_views.specs.declared.view.View.{View}
 use Rattle.file_views.specs.Clients.{is_on, mode_of}
 use Rattle.file_views.specs.Views.{client, current_stamp, mode_given, grant_given, last_stamp, things}
 use Rattle.file_views.specs.Settled.{goes_to, arrival}
-use Rattle.file_views.specs.Here.{In, IsClient, target, about, at_kernel, Arrives, Newer, EachNewer, Stopped}
+use Rattle.file_views.specs.Here.{In, IsClient, about, at_kernel, Arrives, EachNewer, Stopped}
 use Rattle.file_views.specs.SoundModes.{GrantWith, CallbackWith, SameNewer, ModeFacts, Modes}
 use Rattle.file_views.proofs.MemberLaws.{in_filter, filter_in}
 use Rattle.file_views.proofs.CountLaws.{or_left, or_right}
@@ -164,8 +164,8 @@ flat_modes v s p kernel i = modes_due kernel (own_stamp v kernel) (current_stamp
 about_to : (kernel : ℕ) (one : FileCall) → one.to ≡ kernel → about kernel one ≡ true
 about_to kernel one e = or_right (one.from == kernel) _ (or_left (one.to == kernel) _ (eq-eqb one.to kernel e))
 
-pub modes_of : (v : View) → FlatStamps v → FlatModes v → Modes v
-modes_of v s p kernel i = modes_due kernel (own_stamp v kernel) (current_stamp v kernel) (client v kernel).mode (mode_given v kernel) (grant_given v kernel) v.uncached (things v) (at_kernel v kernel).calls (s.own_below kernel i) (p kernel i) (record {
+pub modes_of : (v : View) → ((kernel : ℕ) → IsClient (length v.clients) kernel → own_stamp v kernel ≤ current_stamp v kernel) → FlatModes v → Modes v
+modes_of v own p kernel i = modes_due kernel (own_stamp v kernel) (current_stamp v kernel) (client v kernel).mode (mode_given v kernel) (grant_given v kernel) v.uncached (things v) (at_kernel v kernel).calls (own kernel i) (p kernel i) (record {
   grants = λ one m grant a. record { call = one; there = (in_filter (about kernel) one (things v) m).0; arrives = a };
   comes = λ one m grant a n. record { call = one; there = filter_in (about kernel) one (things v) m (about_arrives kernel one grant a); arrives = a };
   called = λ one m t stamp kind e u. record { call = one; there = filter_in (about kernel) one (things v) m (about_to kernel one t); to_kernel = t; is_call = e; untaken = u };

@@ -128,7 +128,7 @@ request_sender count source to (form.Fetch other block) stamp e q = e.0
 request_sender count source to (form.WriteBack other block size piece) stamp e q = e.0
 request_sender count source to body stamp e q = absurd (cc (q))
 
-reply_of_arrival : (reply : Option FileBody) (grant : FileGrant) → arrival reply ≡ Some grant → (r : FileBody) × (reply ≡ Some r)
+pub reply_of_arrival : (reply : Option FileBody) (grant : FileGrant) → arrival reply ≡ Some grant → (r : FileBody) × (reply ≡ Some r)
 reply_of_arrival (Some r) grant e = (r, refl)
 reply_of_arrival None grant e = absurd (cc (e))
 

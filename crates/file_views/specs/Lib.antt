@@ -28,3 +28,4 @@ pub mod ShapeLaw
 pub mod StreamLaw
 pub mod StampLaw
 pub mod DecisionLaw
+pub mod ModeLaw
