@@ -19,3 +19,13 @@ pub mod StampGrantLaws
 pub mod StampServeLaws
 pub mod StampStepLaws
 pub mod StampMoveLaws
+pub mod DataLaws
+pub mod DecisionLaws
+pub mod DecisionServeLaws
+pub mod DecisionCallLaws
+pub mod DecisionStepLaws
+pub mod ModeLaws
+pub mod ModeChangeLaws
+pub mod ModeGrantLaws
+pub mod ModeServeLaws
+pub mod ModeStepLaws

@@ -1,5 +1,5 @@
 -- What stands in a list after its edits, and lists in which each item stands once.
-use Rattle.std.proofs.Common.{◌≡◌, ◌≢◌, ◌⊎◌, ap₂, ℕ, ◌==◌, Bool, true, false, cond, not, List, [], ◌∷◌, ◌++◌, map, filter, Some, refl, sym, ap, ◌∙◌, subst, inl, inr, eqb-true, ne_eqb}
+use Rattle.std.proofs.Common.{◌≡◌, ◌≢◌, ◌⊎◌, ap₂, ℕ, ◌==◌, Bool, true, false, cond, not, List, [], ◌∷◌, ◌++◌, map, filter, Some, refl, sym, ap, ◌∙◌, subst, inl, inr, eqb-true, eq-eqb, ne_eqb}
 use Rattle.std.proofs.lemmas.Bool.Decides.{eqb_tells}
 use Rattle.file_views.specs.declared.call.FileCall.{FileCall}
 use Rattle.file_views.specs.declared.client.Held.{Held}
@@ -171,6 +171,12 @@ pub with_in : (new one : FileCall) (calls : List FileCall) → In one calls → 
 with_in new one [] m k = absurd m
 with_in new one (c ∷ calls) (inl e) k = inl (e ∙ sym (ap (λ b. cond b new c) (ne_eqb c.number new.number (λ q. k (ap (λ (x : FileCall). x.number) e ∙ q)))))
 with_in new one (c ∷ calls) (inr m) k = inr (with_in new one calls m k)
+
+-- the one that is put there stands there
+pub with_new : (new one : FileCall) (calls : List FileCall) → new.number ≡ one.number → In one calls → In new (with_call new calls)
+with_new new one [] e m = absurd m
+with_new new one (c ∷ calls) e (inl q) = inl (sym (ap (λ b. cond b new c) (eq-eqb c.number new.number (ap (λ (x : FileCall). x.number) (sym q) ∙ sym e))))
+with_new new one (c ∷ calls) e (inr m) = inr (with_new new one calls e m)
 
 -- the numbers stay
 pub numbers_with : (new : FileCall) (calls : List FileCall) → numbers (with_call new calls) ≡ numbers calls

@@ -1,5 +1,5 @@
 -- The first layer of soundness under a client's moves, and of a new file.
-use Rattle.std.proofs.Common.{◌≡◌, ◌≤◌, ℕ, ◌-◌, true, List, length, None, refl, sym, ◌∙◌, subst, arith, leb-true, replicate}
+use Rattle.std.proofs.Common.{◌≡◌, ◌≤◌, ℕ, ◌-◌, true, List, length, None, refl, sym, ◌∙◌, subst, arith, leb-true}
 use Rattle.std.proofs.lemmas.Bool.{and_parts}
 use Rattle.std.proofs.lemmas.List.{length-replicate, get_or-replicate}
 use Rattle.sprite_ids.specs.declared.CacheMode.TheVariants as cache

@@ -11,7 +11,7 @@ use Rattle.file_views.specs.declared.call.FileCall.{FileCall}
 use Rattle.file_views.specs.declared.call.Carry.{Carry}
 use Rattle.file_views.specs.declared.view.View.{View}
 use Rattle.file_views.specs.Views.{set_client, current_stamp, mode_given, is_callback, as_call, things, begin, new_call, replied, answer, remove_call, to_the_end, with_call, without_call, without_carried}
-use Rattle.file_views.specs.Clients.{new_client, granted}
+use Rattle.file_views.specs.Clients.{new_client}
 use Rattle.file_views.specs.Settled.{goes_of, goes_to, arrival}
 use Rattle.file_views.specs.Here.{In, IsClient, request_stamp}
 use Rattle.file_views.proofs.MemberLaws.{in_last, in_with, in_without}

@@ -11,7 +11,6 @@ use Rattle.file_views.specs.declared.call.FileCall.{FileCall}
 use Rattle.file_views.specs.declared.call.Carry.{Carry}
 use Rattle.file_views.specs.declared.view.View.{View}
 use Rattle.file_views.specs.Views.{client, current_stamp, mode_given, grant_given, is_callback, as_call, things}
-use Rattle.file_views.specs.Clients.{granted}
 use Rattle.file_views.specs.Settled.{goes_of, goes_to, arrival}
 use Rattle.file_views.specs.Here.{In, Pairs, IsClient, target, about, at_kernel, request_stamp}
 use Rattle.file_views.specs.SoundShapes.{Ends, Answers, Shaped}
@@ -84,18 +83,18 @@ stamps_of v f = record {
     there kernel one m = (in_filter (about kernel) one (things v) m).0
 
 -- a call stands in the part of whom it is about
-by_from : (v : View) (one : FileCall) → In one (things v) → In one (at_kernel v one.from).calls
+pub by_from : (v : View) (one : FileCall) → In one (things v) → In one (at_kernel v one.from).calls
 by_from v one m = filter_in (about one.from) one (things v) m (or_left (one.from == one.from) _ (eq-eqb one.from one.from refl))
 
 by_to : (v : View) (one : FileCall) → In one (things v) → In one (at_kernel v one.to).calls
 by_to v one m = filter_in (about one.to) one (things v) m (or_right (one.from == one.to) _ (or_left (one.to == one.to) _ (eq-eqb one.to one.to refl)))
 
-about_goes : (source to : ℕ) (body : FileBody) → ((source == goes_of source body) || ((to == goes_of source body) || (target body == goes_of source body))) ≡ true
+pub about_goes : (source to : ℕ) (body : FileBody) → ((source == goes_of source body) || ((to == goes_of source body) || (target body == goes_of source body))) ≡ true
 about_goes source to (form.Move stream place kept grants) = or_right (source == place) _ (or_right (to == place) _ (eq-eqb place place refl))
 about_goes source to (form.Opening pid number stream mode truncate) = or_left (source == source) _ (eq-eqb source source refl)
 about_goes source to body = or_left (source == source) _ (eq-eqb source source refl)
 
-by_goes : (v : View) (one : FileCall) → In one (things v) → In one (at_kernel v (goes_to one)).calls
+pub by_goes : (v : View) (one : FileCall) → In one (things v) → In one (at_kernel v (goes_to one)).calls
 by_goes v one m = filter_in (about (goes_to one)) one (things v) m (about_goes one.from one.to one.body)
 
 -- who is meant is a client
@@ -129,7 +128,7 @@ request_sender count source to (form.Fetch other block) stamp e q = e.0
 request_sender count source to (form.WriteBack other block size piece) stamp e q = e.0
 request_sender count source to body stamp e q = absurd (cc (q))
 
-reply_of_arrival : (reply : Option FileBody) (grant : FileGrant) → arrival reply ≡ Some grant → (r : FileBody) × (reply ≡ Some r)
+pub reply_of_arrival : (reply : Option FileBody) (grant : FileGrant) → arrival reply ≡ Some grant → (r : FileBody) × (reply ≡ Some r)
 reply_of_arrival (Some r) grant e = (r, refl)
 reply_of_arrival None grant e = absurd (cc (e))
 

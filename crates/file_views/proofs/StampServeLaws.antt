@@ -165,17 +165,17 @@ asked (form.Opening pid number stream mode truncate) a = refl
 asked (form.Move stream place kept grants) a = refl
 asked body a = absurd (cc (a))
 
-goes_asked : (source : ℕ) (body : FileBody) → asks body ≡ true → goes_of source body ≡ receiver_of source body
+pub goes_asked : (source : ℕ) (body : FileBody) → asks body ≡ true → goes_of source body ≡ receiver_of source body
 goes_asked source (form.Opening pid number stream mode truncate) a = refl
 goes_asked source (form.Move stream place kept grants) a = refl
 goes_asked source body a = absurd (cc (a))
 
-granting_arrives : (body : FileBody) (grant : FileGrant) → asks body ≡ true → arrival (Some (granting body grant)) ≡ Some grant
+pub granting_arrives : (body : FileBody) (grant : FileGrant) → asks body ≡ true → arrival (Some (granting body grant)) ≡ Some grant
 granting_arrives (form.Opening pid number stream mode truncate) grant a = refl
 granting_arrives (form.Move stream place kept grants) grant a = refl
 granting_arrives body grant a = absurd (cc (a))
 
-granting_no_again : (body : FileBody) (grant other : FileGrant) → asks body ≡ true → granting body grant ≡ form.Again other → ⊥
+pub granting_no_again : (body : FileBody) (grant other : FileGrant) → asks body ≡ true → granting body grant ≡ form.Again other → ⊥
 granting_no_again (form.Opening pid number stream mode truncate) grant other a e = cc (e)
 granting_no_again (form.Move stream place kept grants) grant other a e = cc (e)
 granting_no_again body grant other a e = cc (a)
@@ -234,7 +234,7 @@ two_decide z v one t m n a =
     (recall_told (uncached_after z v one)) (stop_told (uncached_after z v one))
 
 -- a request with an old stamp
-current_is : (v : View) (kernel : ℕ) (given : Option FileGrant) → (current_in v kernel given).stamp ≡ current_stamp v kernel
+pub current_is : (v : View) (kernel : ℕ) (given : Option FileGrant) → (current_in v kernel given).stamp ≡ current_stamp v kernel
 current_is v kernel (Some grant) = choose_by (λ (g : FileGrant). g.stamp ≡ current_stamp v kernel) (grant.stamp == current_stamp v kernel) _ _ (λ e. eqb-true grant.stamp (current_stamp v kernel) e) (λ e. refl)
 current_is v kernel None = refl
 
@@ -254,12 +254,12 @@ stamps_old v one body stamp e q c d t m n = stamps_answer v one (form.Again (cur
         below (inl a) x l o = absurd (cc (a.0, d))
         below (inr b) x l o = let ne = b.1 in omega (arith, x, l, o, ne)
 
-op_arrival : (z : Setting) (bytes : List ℕ) (way : Access) → arrival (Some (op_reply z bytes way)) ≡ None
+pub op_arrival : (z : Setting) (bytes : List ℕ) (way : Access) → arrival (Some (op_reply z bytes way)) ≡ None
 op_arrival z bytes (access.Read from many) = refl
 op_arrival z bytes (access.Write from new) = refl
 op_arrival z bytes (access.Append new) = choose (λ (r : FileBody). arrival (Some r) ≡ None) (nat_lt z.most (length bytes + length new)) _ _ refl refl
 
-op_no_again : (z : Setting) (bytes : List ℕ) (way : Access) (grant : FileGrant) → op_reply z bytes way ≡ form.Again grant → ⊥
+pub op_no_again : (z : Setting) (bytes : List ℕ) (way : Access) (grant : FileGrant) → op_reply z bytes way ≡ form.Again grant → ⊥
 op_no_again z bytes (access.Read from many) grant e = cc (e)
 op_no_again z bytes (access.Write from new) grant e = cc (e)
 op_no_again z bytes (access.Append new) grant e = choose (λ (r : FileBody). r ≡ form.Again grant → ⊥) (nat_lt z.most (length bytes + length new)) _ _ (λ q. cc (q)) (λ q. cc (q)) e

@@ -131,11 +131,11 @@ stamps_take_grant v kernel grant c t i h e = by_place (newer_or_same (client v k
         let cur : stamp ≡ current_stamp v kernel = (t.stamps.each x m).called stamp kind q ∙ ap (current_stamp v) same in
         let g = b.1 in let l = h.low in omega (arith, ne, cur, g, l, e))
 
-two_grant : (v : View) (kernel : ℕ) (grant : FileGrant) → Two v → IsClient (length v.clients) kernel → Coming v kernel grant → Two (grant_comes v kernel grant)
+pub two_grant : (v : View) (kernel : ℕ) (grant : FileGrant) → Two v → IsClient (length v.clients) kernel → Coming v kernel grant → Two (grant_comes v kernel grant)
 two_grant v kernel grant t i h = record { flat = flat_grant v kernel grant t.flat i; stamps = stamps_take_grant v kernel grant (take_grant (client v kernel) grant) t i h refl }
 
 -- a grant that a finished call brought
-two_removed : (v : View) (one : FileCall) → Two v → In one v.calls → Two (remove_call v one.number)
+pub two_removed : (v : View) (one : FileCall) → Two v → In one v.calls → Two (remove_call v one.number)
 two_removed v one t m = record { flat = flat_remove v one t.flat m; stamps = stamps_remove v one t.flat.numbered.differ m t.stamps }
 
 arrived : (v : View) (one : FileCall) (grant : FileGrant) (kernel : ℕ) → Two v → In one v.calls → arrival one.reply ≡ Some grant → goes_to one ≡ kernel → Coming (remove_call v one.number) kernel grant
@@ -144,7 +144,7 @@ arrived v one grant kernel t m a g = record {
   differs = λ x n stamp kind q u z. (t.stamps.pairs one x (call_in_things v one m) (in_without one.number x (things v) (subst (In x) (things_without v one t.flat.numbered.differ m) n)).0).callback grant a stamp kind q u (g ∙ sym z);
 }
 
-told_again : (v : View) (one : FileCall) (grant : FileGrant) → Two v → In one v.calls → one.reply ≡ Some (form.Again grant) → Coming (remove_call v one.number) one.from grant
+pub told_again : (v : View) (one : FileCall) (grant : FileGrant) → Two v → In one v.calls → one.reply ≡ Some (form.Again grant) → Coming (remove_call v one.number) one.from grant
 told_again v one grant t m a = record {
   low = (t.stamps.each one (call_in_things v one m)).again grant a;
   differs = λ x n stamp kind q u z. (t.stamps.pairs one x (call_in_things v one m) (in_without one.number x (things v) (subst (In x) (things_without v one t.flat.numbered.differ m) n)).0).again grant a stamp kind q u (sym z);

@@ -105,10 +105,10 @@ here_count v kernel stream = total_filter (counted stream kernel) (λ (one : Ope
 in_part : (v : View) (one : FileCall) → In one v.calls → In one (at_kernel v one.from).calls
 in_part v one m = filter_in (about one.from) one (things v) (call_in_things v one m) (or_left (one.from == one.from) _ (eq-eqb one.from one.from refl))
 
-in_opened : (v : View) (kernel : ℕ) (one : Open) → In one v.opens → one.kernel ≡ kernel → In one (at_kernel v kernel).opened
+pub in_opened : (v : View) (kernel : ℕ) (one : Open) → In one v.opens → one.kernel ≡ kernel → In one (at_kernel v kernel).opened
 in_opened v kernel one m e = filter_in (λ (x : Open). x.kernel == kernel) one v.opens m (eq-eqb one.kernel kernel e)
 
-out_opened : (v : View) (kernel : ℕ) (one : Open) → In one (at_kernel v kernel).opened → In one v.opens × (one.kernel ≡ kernel)
+pub out_opened : (v : View) (kernel : ℕ) (one : Open) → In one (at_kernel v kernel).opened → In one v.opens × (one.kernel ≡ kernel)
 out_opened v kernel one m = let r = in_filter (λ (x : Open). x.kernel == kernel) one v.opens m in (r.0, eqb-true one.kernel kernel r.1)
 
 works_of : (v : View) (one : FileCall) → In one v.calls → LocalStreams (at_kernel v one.from) → Works (client v one.from).streams v.opens one

@@ -58,7 +58,7 @@ streams_moved v one stream place kept grants (Some other) e r s b m = absurd (su
 streams_moved v one stream place kept grants None e r s b m = absurd (cc (s))
 
 -- a quiet call is finished
-both_quiet : (v : View) (one : FileCall) (body : FileBody) → one.body ≡ body → quiet body ≡ true → Both v → In one v.calls → Both (remove_call v one.number)
+pub both_quiet : (v : View) (one : FileCall) (body : FileBody) → one.body ≡ body → quiet body ≡ true → Both v → In one v.calls → Both (remove_call v one.number)
 both_quiet v one body e q b m = record { flat = flat_remove v one b.flat m; streams = streams_remove v one b.flat.numbered.differ m (λ s k. quiet_way s k one.from one.body one.reply (ap quiet e ∙ q)) b.streams }
 
 both_fetched : (z : Setting) (v : View) (kernel : ℕ) (block : BlockNo) (reply : Option FileBody) → Both v → IsClient (length v.clients) kernel → Both (fetch_answered z v kernel block reply)

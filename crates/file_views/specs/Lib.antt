@@ -27,3 +27,5 @@ pub mod Examples
 pub mod ShapeLaw
 pub mod StreamLaw
 pub mod StampLaw
+pub mod DecisionLaw
+pub mod ModeLaw

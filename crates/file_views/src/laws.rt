@@ -1,3 +1,5 @@
+ghost use Rattle.file_views.specs.DecisionLaw.{DecisionsStay};
+ghost use Rattle.file_views.specs.ModeLaw.{ModesStay};
 ghost use Rattle.file_views.specs.ShapeLaw.{ShapesStay};
 ghost use Rattle.file_views.specs.StampLaw.{StampsStay};
 ghost use Rattle.file_views.specs.StreamLaw.{StreamsStay};
@@ -22,4 +24,21 @@ pub fn streams_stay()
 /// a recall is the only one. (A file that nobody has open is uncached by itself only while no callback is out.)
 pub fn stamps_stay()
     ensures { StampsStay }
+{}
+
+/// A law: in a new file and after any steps and moves of clients, an open or a move waits first of all at the server while a
+/// callback is out, and nothing waits while none is; the file is uncached where that open or move makes it so, and blocks aren't
+/// recalled from its receiver unless it truncates; a shared stream is open, and its file uncached; while the file is uncached no
+/// client was given On last, and while it isn't each client that has it open was.
+pub fn decisions_stay()
+    ensures { DecisionsStay }
+{}
+
+/// A law: in a new file and after any steps and moves of clients, a client's stamp is its current one, or a grant or a callback with
+/// that one is on its way to it; the grant given last tells the mode given last where its stamp is the current one, and is the
+/// newest on its way; what a client is told to begin again with is a grant that is on its way, or not newer; a client that uses its
+/// cache, or will by a newer grant, was given On last or is being stopped; and a newer grant Off comes only while the file is
+/// uncached, to a client that doesn't use its cache and won't.
+pub fn modes_stay()
+    ensures { ModesStay }
 {}

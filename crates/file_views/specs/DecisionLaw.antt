@@ -1,0 +1,16 @@
+-- The fourth layer of soundness holds of each new file, and each step and each move of a client keeps it, with the first.
+use Rattle.std.specs.Prelude.{◌≡◌, ℕ, true, List}
+use Rattle.file_views.specs.declared.step.FileStep.{FileStep}
+use Rattle.file_views.specs.declared.moves.ClientMove.{ClientMove}
+use Rattle.file_views.specs.declared.view.View.{View}
+use Rattle.file_views.specs.Setting.{Setting}
+use Rattle.file_views.specs.Views.{new_view}
+use Rattle.file_views.specs.Possible.{stepped}
+use Rattle.file_views.specs.Moves.{may_move, after_move}
+use Rattle.file_views.specs.SoundShapes.{Shapes}
+use Rattle.file_views.specs.SoundDecisions.{Decisions}
+
+pub record DecisionsStay : Type 0 where
+  pub new : (z : Setting) (count : ℕ) (bytes : List ℕ) → Decisions z (new_view count bytes)
+  pub steps : (z : Setting) (v : View) (step : FileStep) → Shapes v → Decisions z v → Decisions z (stepped z v step)
+  pub moves : (z : Setting) (v : View) (other : ClientMove) → may_move z v other ≡ true → Decisions z v → Decisions z (after_move z v other)
