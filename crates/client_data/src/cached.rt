@@ -26,11 +26,7 @@ pub(crate) fn use_cached(
 }
 
 // The first block of the range that isn't held.
-pub(crate) fn missing_of(
-    files: &ClientFiles,
-    call: &DataCall,
-    extent: &Extent,
-) -> Option<BlockNo>
+pub(crate) fn missing_of(files: &ClientFiles, call: &DataCall, extent: &Extent) -> Option<BlockNo>
     ensures { result ≡ missing_of call.now extent.now files.now }
 {
     files.missing(&call.file, extent)

@@ -27,7 +27,12 @@ pub fn take_grant(files: &mut ClientFiles, grant: &Grant) -> Result<(), NoMemory
     if keeps {
         return Ok(());
     }
-    drop_all(files, &grant.file, held.as_slice(), cause_of_grant(grant.on))
+    drop_all(
+        files,
+        &grant.file,
+        held.as_slice(),
+        cause_of_grant(grant.on),
+    )
 }
 
 // Whether the file's blocks stay at that grant.
@@ -48,7 +53,11 @@ fn mode_of_grant(on: bool) -> CacheMode
 fn cause_of_grant(on: bool) -> DropCause
     ensures { result ≡ cause_of_grant on }
 {
-    if on { DropCause::Version } else { DropCause::Stop }
+    if on {
+        DropCause::Version
+    } else {
+        DropCause::Stop
+    }
 }
 
 // Notes that the blocks were dropped; they wait no more to be written back.

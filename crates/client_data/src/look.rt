@@ -87,9 +87,7 @@ fn carry_out(
         Plan::Seek { to } => seek_here(files, alloc, pid, call, to),
         Plan::Refuse => end_here(files, alloc, pid, call, Reply::Error(Errno::TooBig)),
         Plan::Ask { offset } => ask_server(files, alloc, pid, call, offset, append),
-        Plan::Tell { size } => {
-            end_here(files, alloc, pid, call, plain(alloc, u64::from(size)))
-        }
+        Plan::Tell { size } => { end_here(files, alloc, pid, call, plain(alloc, u64::from(size))) }
         Plan::Use { extent } => use_cached(files, alloc, pid, call, &extent),
     }
 }

@@ -92,13 +92,7 @@ fn offset_at(kind: &DataKind, offset: Option<u32>, append: bool) -> Option<u32>
 {
     match kind {
         DataKind::Read { .. } => offset,
-        DataKind::Write { .. } => {
-            if append {
-                None
-            } else {
-                offset
-            }
-        }
+        DataKind::Write { .. } => { if append { None } else { offset } }
         DataKind::Seek { offset: to } => Some(*to),
         DataKind::Size => None,
     }

@@ -48,12 +48,7 @@ fn is_dirty(files: &ClientFiles, file: &FileId, block: BlockNo) -> bool
     files.cache.dirty(*file, block).is_some()
 }
 
-fn sync_on(
-    files: &mut ClientFiles,
-    alloc: Global,
-    pid: Pid,
-    call: SyncCall,
-) -> Result<(), NoMemory>
+fn sync_on(files: &mut ClientFiles, alloc: Global, pid: Pid, call: SyncCall) -> Result<(), NoMemory>
     ensures { OnOk result (files.new ≡ syncs_on pid call files.old) }
 {
     match first_todo(&call) {
@@ -157,11 +152,7 @@ pub(crate) fn answer_sync(
     }
 }
 
-fn answer_process(
-    files: &mut ClientFiles,
-    pid: Pid,
-    body: &ReplyBody,
-) -> Result<(), NoMemory>
+fn answer_process(files: &mut ClientFiles, pid: Pid, body: &ReplyBody) -> Result<(), NoMemory>
     ensures { OnOk result (files.new ≡ sync_answered pid body.now files.old) }
 {
     match files.pending.take(&pid) {

@@ -1,5 +1,5 @@
 -- The cached blocks, each call with the tests that it needs: where one fails, nothing changes.
-use Rattle.std.specs.Prelude.{ℕ, ◌+◌, nat_le, nat_lt, Bool, true, false, ◌&&◌, if◌then◌else◌, List, [], length, Option, Some, None, is_some}
+use Rattle.std.specs.Prelude.{ℕ, ◌+◌, nat_le, nat_lt, Bool, false, ◌&&◌, if◌then◌else◌, List, [], length, Option, Some, None, is_some}
 use Rattle.sprite_ids.specs.declared.FileId.{FileId}
 use Rattle.sprite_ids.specs.declared.BlockNo.{BlockNo}
 use Rattle.block_cache.specs.declared.BlockKey.{BlockKey}

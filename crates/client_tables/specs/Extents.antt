@@ -1,5 +1,5 @@
 -- Ranges of a file's bytes.
-use Rattle.std.specs.Prelude.{ℕ, ◌+◌, ◌-◌, nat_le, Bool}
+use Rattle.std.specs.Prelude.{◌+◌, ◌-◌, nat_le, Bool}
 use Rattle.sprite_ids.specs.declared.BlockNo.{BlockNo}
 use Rattle.block_cache.specs.Ranges.{first_block, block_count}
 use Rattle.client_tables.specs.declared.extent.Extent.{Extent}

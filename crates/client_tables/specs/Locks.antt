@@ -1,5 +1,5 @@
 -- The locks of streams, and who waits for them.
-use Rattle.std.specs.Prelude.{ℕ, Bool, if◌then◌else◌, List, [], ◌∷◌, ◌++◌, Option, Some, None}
+use Rattle.std.specs.Prelude.{ℕ, Bool, if◌then◌else◌, [], ◌∷◌, ◌++◌, Option, Some, None}
 use Rattle.std.specs.List.{list_any}
 use Rattle.sprite_ids.specs.declared.StreamNo.{StreamNo}
 use Rattle.kernel_steps.specs.Rows.{is_row}

@@ -1,5 +1,5 @@
 -- Streams' offsets, new streams and working directories.
-use Rattle.std.specs.Prelude.{ℕ, Bool, if◌then◌else◌, List, [], ◌∷◌, ◌++◌, Option, Some, None}
+use Rattle.std.specs.Prelude.{ℕ, if◌then◌else◌, List, [], ◌∷◌, ◌++◌, Option, None}
 use Rattle.std.specs.List.{list_any}
 use Rattle.sprite_ids.specs.declared.StreamNo.{StreamNo}
 use Rattle.sprite_ids.specs.Lists.{changed}

@@ -46,7 +46,7 @@ pub struct MoveWork {
 }
 
 /// What the processes' side of a kernel is told beside the replies (this project).
-#[derive(Debug, Drop)]
+#[derive(Clone, Copy, Debug, PartialEq, Eq)]
 pub enum Report {
     /// A stream of the process has moved (Douglis and Ousterhout 1991).
     Moved {

@@ -52,7 +52,7 @@ impl ClientFiles {
     pub fn report(&mut self, report: Report) -> Result<(), NoMemory>
         ensures { OnOk result (self.new ≡ reports report self.old) }
     {
-        self.results.push(report)
+        self.results.append(&[report])
     }
 
     /// Whether the remote call is one of this side of the kernel that has no answer yet.
