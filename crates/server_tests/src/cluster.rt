@@ -1,0 +1,75 @@
+use link_plan::Plan;
+use server_kernel::Server;
+use sprite_ids::{Bytes, Items, Kernel, NoMemory};
+use sprite_paths::Path;
+use std::alloc::Global;
+use unix_calls::{Description, FileLine, KernelLine};
+
+/// The path of that text.
+pub(crate) fn path(alloc: Global, text: &[u8]) -> Result<Path, NoMemory> {
+    Path::clean(alloc, &Path::root(alloc), text).or(Err(NoMemory))
+}
+
+/// The kernel of that number.
+pub(crate) fn kernel(number: u8) -> Result<Kernel, NoMemory> {
+    Kernel::new(number).ok_or(NoMemory)
+}
+
+// A kernel that serves these domains.
+fn line(alloc: Global, texts: &[&'static [u8]]) -> Result<KernelLine, NoMemory> {
+    let mut serves = Items::new(alloc);
+    for text in texts {
+        serves.push(path(alloc, text)?)?;
+    }
+    Ok(KernelLine {
+        name: Bytes::of_slice(alloc, b"k")?,
+        serves,
+    })
+}
+
+// Kernels 1 to 14 are clients, 15 serves `/m`, and 16 serves `/` and `/d`.
+fn kernels(alloc: Global) -> Result<Items<KernelLine>, NoMemory> {
+    let mut lines = Items::new(alloc);
+    for _number in 0..14 {
+        lines.push(line(alloc, &[])?)?;
+    }
+    lines.push(line(alloc, &[b"/m"])?)?;
+    lines.push(line(alloc, &[b"/", b"/d"])?)?;
+    Ok(lines)
+}
+
+fn described(alloc: Global, files: Items<FileLine>) -> Result<Description, NoMemory> {
+    Ok(Description {
+        version: 1,
+        budget: 100,
+        cache: 32,
+        kernels: kernels(alloc)?,
+        programs: Items::new(alloc),
+        starts: Items::new(alloc),
+        files,
+        plan: Plan {
+            entries: Items::new(alloc),
+        },
+        evicts: Items::new(alloc),
+    })
+}
+
+/// A line of a file.
+pub(crate) fn file_line(
+    alloc: Global,
+    text: &[u8],
+    bytes: &[u8],
+    append: bool,
+) -> Result<FileLine, NoMemory> {
+    Ok(FileLine {
+        path: path(alloc, text)?,
+        bytes: Bytes::of_slice(alloc, bytes)?,
+        append,
+    })
+}
+
+/// Kernel 16 when the cluster begins with these files.
+pub(crate) fn server(alloc: Global, files: Items<FileLine>) -> Result<Server, NoMemory> {
+    let description = described(alloc, files)?;
+    Server::boot(alloc, &description, kernel(16)?)?.ok_or(NoMemory)
+}
