@@ -29,3 +29,5 @@ pub mod ModeChangeLaws
 pub mod ModeGrantLaws
 pub mod ModeServeLaws
 pub mod ModeStepLaws
+pub mod HolderLaws
+pub mod HolderTakeLaws

@@ -70,7 +70,7 @@ abbrev pub OpenForReading : List Open → FileCall → Type 0
 OpenForReading opened one = (other : Open) → In other opened → asked_stream one.body ≡ Some other.stream → writes other.mode ≡ false
 
 -- the grant that made the kernel the holder is on its way: of the newer grants On those up to one aren't the holder's, that one alone
--- gives the server's version and alone may be of a stream open for writing, and those behind it keep everything
+-- gives the server's version and alone is of a stream open for writing, and those behind it keep everything
 pub record Coming (kernel own seen version : ℕ) (opened : List Open) (calls : List FileCall) : Type 0 where
   pub call : FileCall
   pub grant : FileGrant
@@ -84,6 +84,7 @@ pub record Coming (kernel own seen version : ℕ) (opened : List Open) (calls : 
   pub writer : Open
   pub has_open : In writer opened
   pub writing : writes writer.mode ≡ true
+  pub asked : asked_stream call.body ≡ Some writer.stream
 
 -- newer grants On follow each other by version, from at least the client's own to the server's
 pub record Chained (kernel own seen version : ℕ) (calls : List FileCall) : Type 0 where
