@@ -31,3 +31,4 @@ pub mod ModeServeLaws
 pub mod ModeStepLaws
 pub mod HolderLaws
 pub mod HolderTakeLaws
+pub mod HolderGiveLaws
