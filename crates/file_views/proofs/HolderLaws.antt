@@ -121,6 +121,7 @@ holders_ways h ys f w = record {
   holder_grants = λ one m grant a n o e. let b : Came h.kernel grant (asked_stream one.body) h.calls = w.arrivals.back one m grant a in f.holder_grants b.call b.there grant b.arrives n o e;
   recall_ready = λ r. back (f.recall_ready (recalled_back h.kernel h.client.stamp h.holds h.calls ys w r));
   recall_on = λ one m t s e. let c : CallAt h.kernel s Recall one.taken h.calls = w.called one m t s Recall e in f.recall_on c.call c.there c.to_kernel s c.is_call;
+  recall_holds = λ one m t s e. let c : CallAt h.kernel s Recall one.taken h.calls = w.called one m t s Recall e in f.recall_holds c.call c.there c.to_kernel s c.is_call;
   writer_ready = λ a e. back (f.writer_ready (active_back h.kernel h.client.stamp h.client.stamp h.client.mode h.calls ys w.arrivals a) (engaged_back h.kernel h.client.stamp h.client.stamp h.client.streams h.opened h.calls ys w.arrivals e));
   dirty_ready = λ one m d. back (f.dirty_ready one m d);
   dirty_unanswered = λ one m d a. f.dirty_unanswered one m d (answered_back h.kernel h.client.stamp h.holds h.calls ys w a);
@@ -156,6 +157,7 @@ holders_milder h d f m = subst (λ x. HolderFacts h.kernel x h.current d.version
       holder_grants = f.holder_grants;
       recall_ready = f.recall_ready;
       recall_on = f.recall_on;
+      recall_holds = f.recall_holds;
       writer_ready = λ a e. f.writer_ready a (record { one = e.one; there = e.there; writing = e.writing; works = elim e.works [ inl k ↦ m.streams e.one.stream k | inr k ↦ inr k ] });
       dirty_ready = λ one k e. let b : DirtyIn h.client.blocks = m.blocks (record { one = one; there = k; dirty = e }) in f.dirty_ready b.one b.there b.dirty;
       dirty_unanswered = λ one k e. let b : DirtyIn h.client.blocks = m.blocks (record { one = one; there = k; dirty = e }) in f.dirty_unanswered b.one b.there b.dirty;
@@ -176,6 +178,7 @@ holders_written h d f a b c e r n = subst (λ x. HolderFacts h.kernel x h.curren
       holder_grants = f.holder_grants;
       recall_ready = f.recall_ready;
       recall_on = f.recall_on;
+      recall_holds = f.recall_holds;
       writer_ready = f.writer_ready;
       dirty_ready = λ one k q. r;
       dirty_unanswered = λ one k q. n;
@@ -200,6 +203,7 @@ holders_opened h opened f back on = record {
   holder_grants = f.holder_grants;
   recall_ready = f.recall_ready;
   recall_on = f.recall_on;
+      recall_holds = f.recall_holds;
   writer_ready = λ a e. f.writer_ready a (engaged e);
   dirty_ready = f.dirty_ready;
   dirty_unanswered = f.dirty_unanswered;

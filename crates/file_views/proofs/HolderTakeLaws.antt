@@ -63,6 +63,7 @@ holders_took h d ys grant f modes t = record {
   holder_grants = λ one m x a n o e. let b : Came h.kernel x (asked_stream one.body) h.calls = w.back one m x a in f.holder_grants b.call b.there x b.arrives (over n) o e;
   recall_ready = λ r. ready (f.recall_ready (recalled_back h.kernel d.stamp h.holds h.calls ys t.ways r));
   recall_on = λ one m to s e. let c : CallAt h.kernel s Recall one.taken h.calls = t.ways.called one m to s Recall e in f.recall_on c.call c.there c.to_kernel s c.is_call;
+  recall_holds = λ one m to s e. let c : CallAt h.kernel s Recall one.taken h.calls = t.ways.called one m to s Recall e in f.recall_holds c.call c.there c.to_kernel s c.is_call;
   writer_ready = λ a e. let held = f.writer_holds e.one e.there e.writing (active a) in elim (f.holder_state held) [ inl k ↦ absurd (t.unanswered k) | inr b ↦ elim b.1 [ inl r ↦ ready r | inr c ↦ writer held a e c (order g.stamp c.grant.stamp) ] ];
   dirty_ready = λ one m q. let b : DirtyIn h.client.blocks = t.blocks (record { one = one; there = m; dirty = q }) in ready (f.dirty_ready b.one b.there b.dirty);
   dirty_unanswered = λ one m q k. t.unanswered (answered_back h.kernel d.stamp h.holds h.calls ys t.ways k);
@@ -216,6 +217,7 @@ holders_flushed h d ys kind f t = record {
   holder_grants = λ one m x a n. absurd (none one m x a n);
   recall_ready = λ r. absurd (t.no_recall r);
   recall_on = λ one m to s e. let r : Recalled h.kernel h.calls = t.recall (t.recall_only one m to s e) in f.recall_on r.call r.there r.to_kernel r.stamp r.recalls;
+  recall_holds = λ one m to s e. (f.recall_ready (t.recall (t.recall_only one m to s e))).holds_it;
   writer_ready = λ a e. by_active a;
   dirty_ready = λ one m q. absurd (t.clean (record { one = one; there = m; dirty = q }));
   dirty_unanswered = λ one m q k. t.clean (record { one = one; there = m; dirty = q });
@@ -264,6 +266,7 @@ holders_called h ys top kind f t = record {
   holder_grants = λ one m x a n o e. let b : Came h.kernel x (asked_stream one.body) h.calls = t.arrivals.back one m x a in f.holder_grants b.call b.there x b.arrives n o e;
   recall_ready = λ r. back (t.recall (sym (t.only r.call r.there r.to_kernel r.stamp Recall r.recalls).0)).0;
   recall_on = λ one m to s e. let k : kind ≡ Recall = sym (t.only one m to s Recall e).0 in ap (λ x. is_on (mode_called h.mode x)) k ∙ (t.recall k).1;
+  recall_holds = λ one m to s e. (t.recall (sym (t.only one m to s Recall e).0)).0.holds_it;
   writer_ready = λ a e. back (f.writer_ready (active_back h.kernel h.client.stamp h.client.stamp h.client.mode h.calls ys t.arrivals a) (engaged_back h.kernel h.client.stamp h.client.stamp h.client.streams h.opened h.calls ys t.arrivals e));
   dirty_ready = λ one m q. back (f.dirty_ready one m q);
   dirty_unanswered = λ one m q k. cc ((t.only k.call k.there k.to_kernel k.stamp k.kind k.is_call).1, k.taken);
@@ -284,7 +287,7 @@ pub record Unheld (h : Here) (opened : List Open) (ys : List FileCall) : Type 0 
   pub called : (one : FileCall) → In one ys → one.to ≡ h.kernel → (stamp : ℕ) (kind : CallKind) → one.body ≡ form.Callback stamp kind → CallAt h.kernel stamp kind one.taken h.calls
   pub opens : (one : Open) → In one opened → SameOpen one h.opened
   pub no_writer : (one : Open) → In one opened → writes one.mode ≡ true → Active h.kernel h.client.stamp h.client.mode h.calls → ⊥
-  pub no_recall : Recalled h.kernel ys → ⊥
+  pub no_recall : (one : FileCall) → In one ys → one.to ≡ h.kernel → (stamp : ℕ) → one.body ≡ form.Callback stamp Recall → ⊥
   pub no_grant : (one : FileCall) → In one h.calls → (grant : FileGrant) → Arrives h.kernel one grant → h.client.stamp < grant.stamp → grant.on ≡ true → grant.holder ≡ true → ⊥
   pub clean : DirtyIn h.client.blocks → ⊥
 
@@ -296,7 +299,8 @@ holders_unheld h opened ys f t = record {
   writer_holds = λ one m r a. absurd (t.no_writer one m r (active_back h.kernel h.client.stamp h.client.stamp h.client.mode h.calls ys t.arrivals a));
   holder_state = λ e. absurd (cc (e));
   holder_grants = λ one m x a n o e. let b : Came h.kernel x (asked_stream one.body) h.calls = t.arrivals.back one m x a in absurd (t.no_grant b.call b.there x b.arrives n o e);
-  recall_ready = λ r. absurd (t.no_recall r);
+  recall_ready = λ r. absurd (t.no_recall r.call r.there r.to_kernel r.stamp r.recalls);
+  recall_holds = λ one m to s e. absurd (t.no_recall one m to s e);
   recall_on = λ one m to s e. let c : CallAt h.kernel s Recall one.taken h.calls = t.called one m to s Recall e in f.recall_on c.call c.there c.to_kernel s c.is_call;
   writer_ready = λ a e. absurd (t.no_writer e.one e.there e.writing (active_back h.kernel h.client.stamp h.client.stamp h.client.mode h.calls ys t.arrivals a));
   dirty_ready = λ one m q. absurd (t.clean (record { one = one; there = m; dirty = q }));

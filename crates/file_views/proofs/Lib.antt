@@ -32,3 +32,5 @@ pub mod ModeStepLaws
 pub mod HolderLaws
 pub mod HolderTakeLaws
 pub mod HolderGiveLaws
+pub mod HolderChangeLaws
+pub mod HolderSettleLaws

@@ -14,7 +14,7 @@ use Rattle.file_views.specs.Views.{server, kernels, client, mode_given, grant_gi
 use Rattle.file_views.specs.Grants.{asks, uncached_after, is_called, kind_of_calls, called_kernels, settle, told, deciding, decide, current_grant}
 use Rattle.file_views.specs.Serving.{close, op_reply, bytes_after, block_of, refuse_old, serve_body, serve, serve_all, request_comes, resume, resumed}
 use Rattle.file_views.specs.Settled.{goes_of, goes_to, arrival}
-use Rattle.file_views.specs.Here.{In, IsClient}
+use Rattle.file_views.specs.Here.{In, IsClient, Arrives, asked_stream}
 use Rattle.file_views.specs.SoundShapes.{Answers, Shaped}
 use Rattle.file_views.specs.SoundModes.{SameNewer}
 use Rattle.file_views.specs.SoundStreams.{counted_at, on_way_of, on_way}
@@ -52,10 +52,11 @@ counted_one false b p q = absurd (cc (p))
 record OnWay (source : ℕ) (body reply : FileBody) : Type 0 where
   stream : StreamNo
   counts : 1 ≤ on_way_of stream (goes_of source body) source body (Some reply)
+  asked : asked_stream body ≡ Some stream
 
 way_arrives : (source : ℕ) (body reply : FileBody) (grant : FileGrant) → Answers body reply → arrival (Some reply) ≡ Some grant → OnWay source body reply
-way_arrives source (form.Opening pid number stream mode truncate) reply grant a r = record { stream = stream; counts = counted_one (source == source) (same_stream stream stream) (eq-eqb source source refl) (same_self stream) }
-way_arrives source (form.Move stream place kept grants) reply grant a r = record { stream = stream; counts = counted_one (place == place) (same_stream stream stream) (eq-eqb place place refl) (same_self stream) }
+way_arrives source (form.Opening pid number stream mode truncate) reply grant a r = record { stream = stream; counts = counted_one (source == source) (same_stream stream stream) (eq-eqb source source refl) (same_self stream); asked = refl }
+way_arrives source (form.Move stream place kept grants) reply grant a r = record { stream = stream; counts = counted_one (place == place) (same_stream stream stream) (eq-eqb place place refl) (same_self stream); asked = refl }
 way_arrives source (form.Close stream grants) form.Done grant a r = absurd (cc (r))
 way_arrives source (form.Close stream grants) reply grant a r = absurd a
 way_arrives source (form.Op pid number stamp stream way) (form.Value first second piece) grant a r = absurd (cc (r))
@@ -73,23 +74,31 @@ way_arrives source (form.Callback stamp kind) reply grant a r = absurd a
 way_arrives source body reply grant a r = absurd a
 
 -- a grant that is on its way is counted for its kernel
-pub arrival_open : (v : View) → Flat v → FlatStreams v → (one : FileCall) → In one (things v) → (grant : FileGrant) → arrival one.reply ≡ Some grant → is_any v.opens ≡ true
-arrival_open v f s one m grant a = by_place (in_things v one m)
-  where
-    open_by : (stream : StreamNo) → 1 ≤ on_way stream (goes_to one) one → is_any v.opens ≡ true
-    open_by stream l =
-        let c = s.counts (goes_to one) (goes_client v f one m grant a) stream in
-        let t = total_in (on_way stream (goes_to one)) (things v) one m l in
-        let o : OpenAt stream (goes_to one) v.opens = open_there stream (goes_to one) v.opens (omega (arith, c, t)) in
-        some_any o.one v.opens o.there
+pub record OpenFor (v : View) (kernel : ℕ) (one : FileCall) : Type 0 where
+  pub stream : StreamNo
+  pub asked : asked_stream one.body ≡ Some stream
+  pub counts : 1 ≤ on_way stream kernel one
+  pub at : OpenAt stream kernel v.opens
 
-    by_place : Made as_call one v.carried ⊎ In one v.calls → is_any v.opens ≡ true
-    by_place (inl r) = open_by r.x.stream (subst (λ (x : FileCall). 1 ≤ on_way r.x.stream (goes_to x) x) (sym r.makes) (counted_one (r.x.to == r.x.to) (same_stream r.x.stream r.x.stream) (eq-eqb r.x.to r.x.to refl) (same_self r.x.stream)))
+pub arrival_there : (v : View) → Flat v → FlatStreams v → (one : FileCall) → In one (things v) → (kernel : ℕ) (grant : FileGrant) → Arrives kernel one grant → OpenFor v kernel one
+arrival_there v f s one m kernel grant a = subst (λ k. OpenFor v k one) a.0 (by_place (in_things v one m))
+  where
+    open_by : (stream : StreamNo) → asked_stream one.body ≡ Some stream → 1 ≤ on_way stream (goes_to one) one → OpenFor v (goes_to one) one
+    open_by stream q l =
+        let c = s.counts (goes_to one) (goes_client v f one m grant a.1) stream in
+        let t = total_in (on_way stream (goes_to one)) (things v) one m l in
+        record { stream = stream; asked = q; counts = l; at = open_there stream (goes_to one) v.opens (omega (arith, c, t)) }
+
+    by_place : Made as_call one v.carried ⊎ In one v.calls → OpenFor v (goes_to one) one
+    by_place (inl r) = open_by r.x.stream (ap (λ (x : FileCall). asked_stream x.body) r.makes) (subst (λ (x : FileCall). 1 ≤ on_way r.x.stream (goes_to x) x) (sym r.makes) (counted_one (r.x.to == r.x.to) (same_stream r.x.stream r.x.stream) (eq-eqb r.x.to r.x.to refl) (same_self r.x.stream)))
     by_place (inr n) =
         let h : Shaped (length v.clients) one = f.calls one n in
-        let r = reply_of_arrival one.reply grant a in
-        let w : OnWay one.from one.body r.0 = way_arrives one.from one.body r.0 grant (h.fits r.0 r.1) (sym (ap arrival r.1) ∙ a) in
-        open_by w.stream (subst (λ (x : Option FileBody). 1 ≤ on_way_of w.stream (goes_to one) one.from one.body x) (sym r.1) w.counts)
+        let r = reply_of_arrival one.reply grant a.1 in
+        let w : OnWay one.from one.body r.0 = way_arrives one.from one.body r.0 grant (h.fits r.0 r.1) (sym (ap arrival r.1) ∙ a.1) in
+        open_by w.stream w.asked (subst (λ (x : Option FileBody). 1 ≤ on_way_of w.stream (goes_to one) one.from one.body x) (sym r.1) w.counts)
+
+pub arrival_open : (v : View) → Flat v → FlatStreams v → (one : FileCall) → In one (things v) → (grant : FileGrant) → arrival one.reply ≡ Some grant → is_any v.opens ≡ true
+arrival_open v f s one m grant a = let o : OpenFor v (goes_to one) one = arrival_there v f s one m (goes_to one) grant (refl, a) in some_any o.at.one v.opens o.at.there
 
 -- a request is answered
 modes_answer : (v w : View) (one : FileCall) (reply : FileBody) → Flat v → FlatStamps v → FlatModes v → In one v.calls → one.reply ≡ None → is_callback one.body ≡ false → w.clients ≡ v.clients → w.stamps ≡ v.stamps → w.modes ≡ v.modes → w.given ≡ v.given → w.uncached ≡ v.uncached → w.carried ≡ v.carried → w.calls ≡ with_call (replied one reply) v.calls → arrival (Some reply) ≡ None →

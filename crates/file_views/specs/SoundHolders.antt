@@ -108,9 +108,10 @@ pub record HolderFacts (kernel own current seen version : ℕ) (now mode : Cache
   pub holder_state : holds ≡ true → Answered kernel calls ⊎ (((is_on mode ≡ true) ⊎ Stopped kernel calls) × (Ready kernel own seen version holds now calls ⊎ Coming kernel own seen version opened calls))
   -- a newer grant On of a holder goes to the holder
   pub holder_grants : EachNewer kernel own calls (λ one grant. grant.on ≡ true → grant.holder ≡ true → holds ≡ true)
-  -- who is being recalled may write, and was given On last, also once it answered
+  -- who is being recalled may write; it is the holder and was given On last, also once it answered
   pub recall_ready : Recalled kernel calls → Ready kernel own seen version holds now calls
   pub recall_on : (one : FileCall) → In one calls → one.to ≡ kernel → (stamp : ℕ) → one.body ≡ form.Callback stamp Recall → is_on mode ≡ true
+  pub recall_holds : (one : FileCall) → In one calls → one.to ≡ kernel → (stamp : ℕ) → one.body ≡ form.Callback stamp Recall → holds ≡ true
   -- who uses its cache, or will, and has a stream to write with may write
   pub writer_ready : Active kernel own now calls → EngagedToWrite kernel own streams opened calls → Ready kernel own seen version holds now calls
   -- who has a dirty block may write, and has answered no callback
