@@ -34,3 +34,6 @@ pub mod HolderTakeLaws
 pub mod HolderGiveLaws
 pub mod HolderChangeLaws
 pub mod HolderSettleLaws
+pub mod HolderCallLaws
+pub mod HolderServeLaws
+pub mod HolderDataLaws

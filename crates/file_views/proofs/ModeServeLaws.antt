@@ -39,7 +39,7 @@ use Rattle.file_views.proofs.ModeChangeLaws.{dues_answer, modes_same, modes_take
 use Rattle.file_views.proofs.ModeGrantLaws.{modes_settle, moding_call_back, same_current}
 
 -- what is on its way is open
-total_in : {X : Type 0} (f : X → ℕ) (xs : List X) (x : X) → In x xs → 1 ≤ f x → 1 ≤ total f xs
+pub total_in : {X : Type 0} (f : X → ℕ) (xs : List X) (x : X) → In x xs → 1 ≤ f x → 1 ≤ total f xs
 total_in f [] x m l = absurd m
 total_in f (y ∷ ys) x (inl e) l = let same : f x ≡ f y = ap f e in omega (arith, l, same)
 total_in f (y ∷ ys) x (inr m) l = let r = total_in f ys x m l in omega (arith, r)
@@ -120,7 +120,7 @@ modes_close v one stream grants f s p m n c g t kernel i =
     (modes_answer v (answer v one form.Done) one form.Done f s p m n c refl refl refl refl refl refl refl refl (λ grant e. absurd (cc (e))) kernel i)
 
 -- an open or a move is decided
-modes_told : (v : View) (b : Bool) → (v.uncached ≡ true → b ≡ true) → FlatModes v → FlatModes (told v b)
+pub modes_told : (v : View) (b : Bool) → (v.uncached ≡ true → b ≡ true) → FlatModes v → FlatModes (told v b)
 modes_told v b u p kernel i = modes_told_off kernel (own_stamp v kernel) (current_stamp v kernel) (client v kernel).mode (mode_given v kernel) (grant_given v kernel) v.uncached b (things v) (λ one m grant a l o. u) (p kernel i)
 
 modes_decided_by : (z : Setting) (v : View) (one : FileCall) (b : Bool) → uncached_after z v one ≡ b → (called : List ℕ) → called ≡ filter (is_called b v one) (kernels v) → Flat v → FlatStamps v → Ruled v → FlatModes v → In one v.calls → one.reply ≡ None → NoCall v → asks one.body ≡ true → FlatModes (deciding (told v b) one (kind_of_calls b) called)
@@ -164,7 +164,7 @@ pub record Stage (z : Setting) (waiting : List FileCall) (v : View) : Type 0 whe
 pub unreplied : (v : View) (one : FileCall) (rest : List FileCall) → waiting_calls v ≡ one ∷ rest → one.reply ≡ None
 unreplied v one rest w = no_reply one.reply (and_parts one.taken (is_none one.reply) (in_filter waits one v.calls (subst (In one) (sym w) (inl refl))).1).1
 
-stage_serve : (z : Setting) (v : View) (one : FileCall) (rest : List FileCall) → NoCall v → waiting_calls v ≡ one ∷ rest → Stage z (one ∷ rest) v → Stage z rest (serve z v one)
+pub stage_serve : (z : Setting) (v : View) (one : FileCall) (rest : List FileCall) → NoCall v → waiting_calls v ≡ one ∷ rest → Stage z (one ∷ rest) v → Stage z rest (serve z v one)
 stage_serve z v one rest none w t =
     let m : In one v.calls = first_waits v one rest w in
     let n : one.reply ≡ None = unreplied v one rest w in
