@@ -37,3 +37,4 @@ pub mod HolderSettleLaws
 pub mod HolderCallLaws
 pub mod HolderServeLaws
 pub mod HolderDataLaws
+pub mod HolderStepLaws

@@ -29,3 +29,4 @@ pub mod StreamLaw
 pub mod StampLaw
 pub mod DecisionLaw
 pub mod ModeLaw
+pub mod HolderLaw

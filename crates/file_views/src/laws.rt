@@ -1,4 +1,5 @@
 ghost use Rattle.file_views.specs.DecisionLaw.{DecisionsStay};
+ghost use Rattle.file_views.specs.HolderLaw.{HoldersStay};
 ghost use Rattle.file_views.specs.ModeLaw.{ModesStay};
 ghost use Rattle.file_views.specs.ShapeLaw.{ShapesStay};
 ghost use Rattle.file_views.specs.StampLaw.{StampsStay};
@@ -41,4 +42,13 @@ pub fn decisions_stay()
 /// uncached, to a client that doesn't use its cache and won't.
 pub fn modes_stay()
     ensures { ModesStay }
+{}
+
+/// A law: in a new file and after any steps and moves of clients, while there is a holder no other kernel has the file open, and each
+/// other client that uses its cache is at an older version; who has it open for writing and uses its cache, or will, is the holder;
+/// the holder may write, or will by the grant that made it the holder, or has answered its callback; who has a dirty block may
+/// write; newer grants follow each other by version, from at least the client's to the server's; and with equal stamps the modes
+/// agree.
+pub fn holders_stay()
+    ensures { HoldersStay }
 {}
