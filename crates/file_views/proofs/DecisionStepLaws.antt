@@ -170,7 +170,7 @@ pub steps_keep_decisions : (z : Setting) (v : View) (step : FileStep) → Shapes
 steps_keep_decisions z v step s d = choose_by (Decisions z) (possible z v step) (after z v step) v (λ e. decisions_of z (after z v step) (decisions_after z v step (and_parts (has_room v) (may_do z v step) e).1 (flat_of v s) (flat_decisions z v d))) (λ e. d)
 
 -- a client's moves
-no_mode_on : (modes : List CacheMode) (i : ℕ) → list_any is_on modes ≡ false → is_on (slice_index_or modes i cache.None) ≡ false
+pub no_mode_on : (modes : List CacheMode) (i : ℕ) → list_any is_on modes ≡ false → is_on (slice_index_or modes i cache.None) ≡ false
 no_mode_on [] i e = refl
 no_mode_on (mode ∷ modes) zero e = (neither (is_on mode) _ e).0
 no_mode_on (mode ∷ modes) (suc i) e = no_mode_on modes i (neither (is_on mode) _ e).1

@@ -1,36 +1,31 @@
 -- The sixth layer of soundness where callbacks go out and are answered.
-use Rattle.std.proofs.Common.{◌≡◌, ◌≢◌, ◌≤◌, ◌<◌, ◌⊎◌, ℕ, ◌+◌, ◌-◌, ◌==◌, Bool, true, false, cond, not, ◌&&◌, ◌||◌, is_some, List, [], ◌∷◌, ◌++◌, length, filter, Option, Some, None, refl, sym, ap, ◌∙◌, subst, inl, inr, arith, eqb-true, eq-eqb, length-set, get_or-set_same, get_or-set_other}
+use Rattle.std.proofs.Common.{◌≡◌, ◌≢◌, ◌≤◌, ◌<◌, ◌⊎◌, ℕ, ◌+◌, ◌-◌, ◌==◌, Bool, true, false, not, ◌||◌, List, [], ◌∷◌, ◌++◌, length, filter, Some, None, refl, sym, ap, ◌∙◌, subst, inl, inr, arith, eqb-true, eq-eqb, length-set, get_or-set_same, get_or-set_other}
 use Rattle.std.proofs.lemmas.Bool.{and_parts, and_from}
 use Rattle.std.proofs.lemmas.Bool.Decides.{eqb_tells}
-use Rattle.sprite_ids.specs.declared.BlockNo.{BlockNo}
-use Rattle.sprite_ids.specs.declared.StreamNo.{StreamNo}
 use Rattle.sprite_ids.specs.declared.CacheMode.TheVariants as cache
 use Rattle.sprite_ids.specs.declared.CallKind.{CallKind}
-use Rattle.sprite_ids.specs.declared.CallKind.TheVariants.{Recall, Stop}
+use Rattle.sprite_ids.specs.declared.CallKind.TheVariants.{Recall}
 use Rattle.file_views.specs.declared.grant.FileGrant.{FileGrant}
 use Rattle.file_views.specs.declared.body.FileBody.{FileBody}
 use Rattle.file_views.specs.declared.body.FileBody.TheVariants as form
 use Rattle.file_views.specs.declared.opens.Open.{Open}
-use Rattle.file_views.specs.declared.client.Client.{Client}
 use Rattle.file_views.specs.declared.call.FileCall.{FileCall}
 use Rattle.file_views.specs.declared.view.View.{View}
 use Rattle.file_views.specs.Setting.{Setting}
 use Rattle.file_views.specs.Streams.{total, same_stream, has_stream, is_open, open_count, add_open, take_off, writes, is_any}
 use Rattle.file_views.specs.Clients.{is_on}
-use Rattle.file_views.specs.Views.{server, kernels, client, current_stamp, mode_given, is_kernel, is_holder, is_callback, last_stamp, things, new_call, without_call}
-use Rattle.file_views.specs.Grants.{asks, truncates, receiver, opens_after, uncached_after, is_called, kind_of_calls, called_kernels, stamped, mode_called, call_out, call_back, settle, told, deciding, decide}
+use Rattle.file_views.specs.Views.{server, kernels, client, current_stamp, mode_given, is_holder, is_callback, last_stamp, things, new_call, without_call}
+use Rattle.file_views.specs.Grants.{asks, truncates, receiver, opens_after, uncached_after, is_called, kind_of_calls, called_kernels, stamped, mode_called, call_out, call_back, told, deciding, decide}
 use Rattle.file_views.specs.Settled.{arrival}
 use Rattle.file_views.specs.Here.{In, Unique, IsClient, Arrives, asked_stream, Stopped, Answered}
-use Rattle.file_views.specs.SoundShapes.{Ends, numbers}
+use Rattle.file_views.specs.SoundShapes.{numbers}
 use Rattle.file_views.specs.SoundStreams.{counted_at, on_way}
 use Rattle.file_views.specs.SoundHolders.{Ready, Coming, LocalHolders}
 use Rattle.file_views.proofs.MemberLaws.{in_left, in_last, last_in, in_filter, filter_in, without_in}
-use Rattle.file_views.proofs.EffectLaws.{Apart, by_kernel, places_apart, things_begin, call_in_things, same_thing}
+use Rattle.file_views.proofs.EffectLaws.{by_kernel, places_apart, things_begin, call_in_things, same_thing}
 use Rattle.file_views.proofs.CountLaws.{bool_cases, or_left, or_right, or_is, neither, same_self, has_some, total_without}
 use Rattle.file_views.proofs.OpenLaws.{OpenAt, open_there, Left, left_in, is_open_is, taken_count}
-use Rattle.file_views.proofs.ShapeLaws.{Flat}
 use Rattle.file_views.proofs.ShapeStepLaws.{flat_told, among_clients}
-use Rattle.file_views.proofs.StreamLaws.{FlatStreams}
 use Rattle.file_views.proofs.StreamChangeLaws.{streams_same}
 use Rattle.file_views.proofs.StreamServeLaws.{Both, way_by}
 use Rattle.file_views.proofs.StampLaws.{own_stamp, FlatStamps}
@@ -40,12 +35,12 @@ use Rattle.file_views.proofs.StampServeLaws.{unique_kept, unique_numbers, one_re
 use Rattle.file_views.proofs.DecisionLaws.{Ruled, makes_uncached}
 use Rattle.file_views.proofs.DecisionServeLaws.{some_any, left_stays}
 use Rattle.file_views.proofs.DecisionCallLaws.{ruled_told, told_is, client_kernel}
-use Rattle.file_views.proofs.ModeLaws.{FlatModes, under_of}
+use Rattle.file_views.proofs.ModeLaws.{FlatModes}
 use Rattle.file_views.proofs.ModeServeLaws.{total_in, OpenFor, arrival_there, modes_told}
 use Rattle.file_views.proofs.HolderLaws.{SameOpen, holders_opened, holders_ways, seat, FlatHolders}
-use Rattle.file_views.proofs.HolderTakeLaws.{CalledOut, holders_called}
+use Rattle.file_views.proofs.HolderTakeLaws.{holders_called}
 use Rattle.file_views.proofs.HolderChangeLaws.{arrivals_begin, ways_begin}
-use Rattle.file_views.proofs.HolderSettleLaws.{left_of, left_was, Adds, adds, shared_by, Grantable, holder_is, is_holder_by, not_holder, Alone, alone_by, Settles, holders_settle, holders_equal}
+use Rattle.file_views.proofs.HolderSettleLaws.{left_of, left_was, Adds, adds, shared_by, Grantable, is_holder_by, Alone, alone_by, holders_settle, holders_equal}
 
 -- a callback goes out to a kernel that has none
 pub holders_call_out : (v : View) (kind : CallKind) (kernel : ℕ) → FlatHolders v → IsClient (length v.clients) kernel → length v.stamps ≡ length v.clients → length v.modes ≡ length v.clients → own_stamp v kernel ≤ current_stamp v kernel → ((x : FileCall) → In x (things v) → x.to ≡ kernel → is_callback x.body ≡ true → ⊥) →

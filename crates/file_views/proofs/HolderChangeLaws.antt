@@ -1,34 +1,30 @@
 -- The sixth layer of soundness under the smallest changes of a view.
-use Rattle.std.proofs.Common.{◌≡◌, ◌≢◌, ◌≤◌, ◌<◌, ◌⊎◌, ℕ, ◌-◌, ◌==◌, nat_le, Bool, true, false, cond, ◌&&◌, is_some, List, [], ◌∷◌, ◌++◌, length, filter, map, Option, Some, None, refl, sym, ap, ◌∙◌, subst, inl, inr, arith, le_refl, leb-true, leb-false}
+use Rattle.std.proofs.Common.{◌≡◌, ◌≢◌, ◌≤◌, ◌<◌, ◌⊎◌, ℕ, ◌==◌, nat_le, Bool, true, false, cond, ◌&&◌, List, [], ◌∷◌, ◌++◌, length, Some, None, refl, sym, ap, ◌∙◌, subst, inl, inr, arith, le_refl, leb-true, leb-false}
 use Rattle.std.proofs.lemmas.Bool.Decides.{eqb_tells}
 use Rattle.sprite_ids.specs.declared.StreamNo.{StreamNo}
-use Rattle.sprite_ids.specs.declared.CallKind.{CallKind}
 use Rattle.file_views.specs.declared.grant.FileGrant.{FileGrant}
 use Rattle.file_views.specs.declared.body.FileBody.{FileBody}
-use Rattle.file_views.specs.declared.body.FileBody.TheVariants as form
-use Rattle.file_views.specs.declared.opens.Open.{Open}
-use Rattle.file_views.specs.declared.client.Held.{Held}
 use Rattle.file_views.specs.declared.client.Client.{Client}
 use Rattle.file_views.specs.declared.call.FileCall.{FileCall}
 use Rattle.file_views.specs.declared.call.Carry.{Carry}
 use Rattle.file_views.specs.declared.view.View.{View}
-use Rattle.file_views.specs.Streams.{has_stream, is_write_shared}
+use Rattle.file_views.specs.Streams.{has_stream}
 use Rattle.file_views.specs.Clients.{is_on, mode_of, granted, take_grant}
-use Rattle.file_views.specs.Views.{client, set_client, current_stamp, is_holder, is_callback, things, new_call, begin, replied, with_call, without_call}
+use Rattle.file_views.specs.Views.{client, set_client, current_stamp, is_holder, is_callback, things, replied, with_call, without_call}
 use Rattle.file_views.specs.Settled.{arrival}
-use Rattle.file_views.specs.Here.{In, IsClient, Arrives, asked_stream, Answered}
+use Rattle.file_views.specs.Here.{In, IsClient, Arrives, asked_stream}
 use Rattle.file_views.specs.SoundModes.{SameNewer}
-use Rattle.file_views.specs.SoundHolders.{ThatComes, LocalHolders}
+use Rattle.file_views.specs.SoundHolders.{LocalHolders}
 use Rattle.file_views.proofs.MemberLaws.{in_left, in_last, in_with, with_in, in_without, without_in}
-use Rattle.file_views.proofs.EffectLaws.{Apart, by_kernel, count_set, client_set, client_other, things_begin, same_thing}
+use Rattle.file_views.proofs.EffectLaws.{Apart, by_kernel, count_set, client_set, client_other, same_thing}
 use Rattle.file_views.proofs.ShapeLaws.{Flat}
 use Rattle.file_views.proofs.StreamLaws.{FlatStreams}
 use Rattle.file_views.proofs.StampLaws.{own_stamp, FlatStamps}
 use Rattle.file_views.proofs.StampChangeLaws.{Reads}
 use Rattle.file_views.proofs.ModeLaws.{FlatModes}
 use Rattle.file_views.proofs.ModeServeLaws.{OpenFor, arrival_there}
-use Rattle.file_views.proofs.HolderLaws.{Came, CallAt, Arrivals, Ways, holders_ways, DirtyIn, Milder, holders_milder, seat, FlatHolders}
-use Rattle.file_views.proofs.HolderTakeLaws.{Took, holders_took}
+use Rattle.file_views.proofs.HolderLaws.{Arrivals, Ways, holders_ways, DirtyIn, holders_milder, seat, FlatHolders}
+use Rattle.file_views.proofs.HolderTakeLaws.{holders_took}
 
 -- what each change of the calls brings
 pub ways_self : (kernel floor : ℕ) (holds : Bool) (xs : List FileCall) → Ways kernel floor holds xs xs

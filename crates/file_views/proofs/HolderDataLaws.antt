@@ -1,12 +1,11 @@
 -- The sixth layer of soundness where a client reads, writes and appends, and where it takes a callback.
-use Rattle.std.proofs.Common.{◌≡◌, ◌≢◌, ◌≤◌, ◌<◌, ◌⊎◌, ℕ, ◌+◌, ◌-◌, ◌==◌, nat_lt, Bool, true, false, cond, not, ◌&&◌, List, [], ◌∷◌, ◌++◌, length, map, filter, Option, Some, None, is_some, refl, sym, ap, ap₂, ◌∙◌, subst, inl, inr, arith, eqb-true, eq-eqb}
+use Rattle.std.proofs.Common.{◌≡◌, ◌≢◌, ◌≤◌, ◌<◌, ℕ, ◌+◌, ◌==◌, nat_lt, Bool, true, false, cond, List, [], ◌∷◌, ◌++◌, length, filter, Option, Some, None, is_some, refl, sym, ap, ap₂, ◌∙◌, subst, inl, inr, arith, eqb-true, eq-eqb}
 use Rattle.std.proofs.lemmas.Bool.Decides.{eqb_tells}
 use Rattle.sprite_ids.specs.declared.BlockNo.{BlockNo}
 use Rattle.sprite_ids.specs.declared.StreamNo.{StreamNo}
 use Rattle.sprite_ids.specs.declared.CacheMode.{CacheMode}
 use Rattle.sprite_ids.specs.declared.CallKind.{CallKind}
 use Rattle.sprite_ids.specs.declared.CallKind.TheVariants.{Recall, Stop}
-use Rattle.file_views.specs.declared.grant.FileGrant.{FileGrant}
 use Rattle.file_views.specs.declared.body.FileBody.{FileBody}
 use Rattle.file_views.specs.declared.body.FileBody.TheVariants as form
 use Rattle.file_views.specs.declared.opens.Open.{Open}
@@ -20,15 +19,15 @@ use Rattle.file_views.specs.Setting.{Setting}
 use Rattle.file_views.specs.Streams.{has_stream, writes}
 use Rattle.file_views.specs.Clients.{is_on, mode_after, cleaned, blocks_after, take_callback, missing, write_cached, done_cached}
 use Rattle.file_views.specs.Views.{server, client, set_client, current_stamp, mode_given, is_holder, is_callback, things, new_call, begin, replied, answer, with_call}
-use Rattle.file_views.specs.Grants.{receiver, truncates}
+use Rattle.file_views.specs.Grants.{receiver}
 use Rattle.file_views.specs.Data.{op_of, send_op, send_fetch, enter_cached, queue, wait_for, started, start_data, unqueue, or_zero, advance, look}
 use Rattle.file_views.specs.Possible.{works_on}
 use Rattle.file_views.specs.Settled.{arrival}
-use Rattle.file_views.specs.Here.{In, IsClient, Here, Arrives, Recalled, Answered}
+use Rattle.file_views.specs.Here.{In, IsClient, Answered}
 use Rattle.file_views.specs.SoundStreams.{is_writing}
 use Rattle.file_views.specs.SoundHolders.{Ready, LocalHolders}
 use Rattle.file_views.proofs.MemberLaws.{Made, in_last, in_filter, filter_in, in_with, with_new, in_map}
-use Rattle.file_views.proofs.EffectLaws.{Apart, by_kernel, count_set, client_set, client_other, things_begin, things_with, call_in_things, same_thing}
+use Rattle.file_views.proofs.EffectLaws.{by_kernel, count_set, client_set, client_other, things_begin, things_with, call_in_things}
 use Rattle.file_views.proofs.ClientLaws.{choose}
 use Rattle.file_views.proofs.CountLaws.{same_self, has_some}
 use Rattle.file_views.proofs.OpenLaws.{OpenAt, open_there}
@@ -41,7 +40,7 @@ use Rattle.file_views.proofs.DecisionLaws.{FlatDecisions}
 use Rattle.file_views.proofs.DecisionServeLaws.{first_waits}
 use Rattle.file_views.proofs.ModeServeLaws.{unreplied}
 use Rattle.file_views.proofs.HolderLaws.{Ways, SameOpen, holders_ways, holders_written, DirtyIn, seat, FlatHolders}
-use Rattle.file_views.proofs.HolderTakeLaws.{Flushed, holders_flushed}
+use Rattle.file_views.proofs.HolderTakeLaws.{holders_flushed}
 use Rattle.file_views.proofs.HolderChangeLaws.{ways_begin, ways_answer, holders_calls, holders_set, holders_mild}
 use Rattle.file_views.proofs.HolderSettleLaws.{left_of, adds, alone_by}
 use Rattle.file_views.proofs.HolderCallLaws.{stays_installed, left_shares}
@@ -180,17 +179,17 @@ no_answer z v t kernel i o w k = by_kind k.kind k.is_call
     by_kind Recall e = elim t.decided.queues [
       | inl a ↦ cc (a.0 k.call (only_call v k.call k.there (ap is_callback e)), ap is_callback e)
       | inr b ↦ (
-        let u : v.uncached ≡ false = (t.stamps.each k.call k.there).recalled k.stamp e in
-        let n = unreplied v b.1.first b.1.rest b.1.waiting in
-        let m = first_waits v b.1.first b.1.rest b.1.waiting in
-        let p = in_filter (λ (x : Open). x.kernel == kernel) w.one v.opens w.there in
-        let s : SameOpen w.one (filter (λ (x : Open). x.kernel == kernel) (left_of v.opens b.1.first.from b.1.first.body)) = stays_installed v b.1.first n (record { flat = t.flat; streams = t.streams }) m b.1.asks_it kernel i w.one p.0 (eqb-true w.one.kernel kernel p.1) w.has in
-        let q = in_filter (λ (x : Open). x.kernel == kernel) s.other (left_of v.opens b.1.first.from b.1.first.body) s.there in
-        left_shares v b.1.first (adds v b.1.first n (record { flat = t.flat; streams = t.streams }) m b.1.asks_it) (alone_by z v b.1.first u (b.1.told u)) s.other q.0 (ap writes (sym s.mode_is) ∙ w.writing)
-        (elim (eqb_tells kernel (receiver b.1.first)) [
-          | inl d ↦ inl (b.1.spared k.call (only_call v k.call k.there (ap is_callback e)) k.stamp e (k.to_kernel ∙ d.1))
-          | inr d ↦ inr (λ y. d.1 (sym (eqb-true s.other.kernel kernel q.1) ∙ y))
-        ]))
+          let u : v.uncached ≡ false = (t.stamps.each k.call k.there).recalled k.stamp e in
+          let n = unreplied v b.1.first b.1.rest b.1.waiting in
+          let m = first_waits v b.1.first b.1.rest b.1.waiting in
+          let p = in_filter (λ (x : Open). x.kernel == kernel) w.one v.opens w.there in
+          let s : SameOpen w.one (filter (λ (x : Open). x.kernel == kernel) (left_of v.opens b.1.first.from b.1.first.body)) = stays_installed v b.1.first n (record { flat = t.flat; streams = t.streams }) m b.1.asks_it kernel i w.one p.0 (eqb-true w.one.kernel kernel p.1) w.has in
+          let q = in_filter (λ (x : Open). x.kernel == kernel) s.other (left_of v.opens b.1.first.from b.1.first.body) s.there in
+          left_shares v b.1.first (adds v b.1.first n (record { flat = t.flat; streams = t.streams }) m b.1.asks_it) (alone_by z v b.1.first u (b.1.told u)) s.other q.0 (ap writes (sym s.mode_is) ∙ w.writing)
+          (elim (eqb_tells kernel (receiver b.1.first)) [
+            | inl d ↦ inl (b.1.spared k.call (only_call v k.call k.there (ap is_callback e)) k.stamp e (k.to_kernel ∙ d.1))
+            | inr d ↦ inr (λ y. d.1 (sym (eqb-true s.other.kernel kernel q.1) ∙ y))
+          ]))
     ]
 
 pub able_of : (z : Setting) (v : View) → Knowing z v → (kernel : ℕ) → IsClient (length v.clients) kernel → (waiting : List FileStep) → ((step : FileStep) → In step waiting → StepOpen kernel (client v kernel).streams v.opens step) → Able v kernel waiting

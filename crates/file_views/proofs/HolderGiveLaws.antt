@@ -1,5 +1,5 @@
 -- The sixth layer of soundness, said of one kernel's part of a view, where grants are given.
-use Rattle.std.proofs.Common.{◌≡◌, ◌≢◌, ◌≤◌, ◌<◌, ◌⊎◌, ℕ, ◌==◌, Bool, true, false, is_some, List, [], Option, Some, None, refl, sym, ap, ◌∙◌, subst, inl, inr, arith}
+use Rattle.std.proofs.Common.{◌≡◌, ◌≤◌, ◌<◌, ◌⊎◌, ℕ, Bool, true, false, List, Some, sym, ap, ◌∙◌, subst, inl, inr, arith}
 use Rattle.sprite_ids.specs.declared.StreamNo.{StreamNo}
 use Rattle.sprite_ids.specs.declared.CacheMode.{CacheMode}
 use Rattle.sprite_ids.specs.declared.CallKind.{CallKind}
@@ -10,10 +10,10 @@ use Rattle.file_views.specs.declared.opens.Open.{Open}
 use Rattle.file_views.specs.declared.call.FileCall.{FileCall}
 use Rattle.file_views.specs.Streams.{has_stream, writes}
 use Rattle.file_views.specs.Clients.{is_on, mode_of}
-use Rattle.file_views.specs.Here.{In, Here, Arrives, Newer, EachNewer, asked_stream, Stopped, Recalled, Answered}
-use Rattle.file_views.specs.SoundHolders.{OnComes, Active, StreamComes, ThatComes, EngagedToWrite, Keeps, Ready, OpenForReading, Coming, Chained, HolderFacts, LocalHolders}
+use Rattle.file_views.specs.Here.{In, Here, Arrives, EachNewer, asked_stream, Answered}
+use Rattle.file_views.specs.SoundHolders.{Active, EngagedToWrite, Keeps, Ready, Coming, LocalHolders}
 use Rattle.file_views.proofs.CountLaws.{bool_cases}
-use Rattle.file_views.proofs.HolderLaws.{DirtyIn, SameOpen}
+use Rattle.file_views.proofs.HolderLaws.{SameOpen}
 use Rattle.file_views.proofs.HolderTakeLaws.{order}
 
 -- a kernel whose cache isn't used and won't be, in a file without a holder

@@ -1,5 +1,5 @@
 -- The sixth layer of soundness, said of one kernel's part of a view, and under changes that give and take no grant.
-use Rattle.std.proofs.Common.{◌≡◌, ◌≢◌, ◌≤◌, ◌<◌, ◌⊎◌, ℕ, ◌-◌, ◌==◌, Bool, true, false, ◌||◌, is_some, List, length, filter, Option, Some, None, refl, sym, ap, ◌∙◌, subst, inl, inr, arith, eq-eqb}
+use Rattle.std.proofs.Common.{◌≡◌, ◌≢◌, ◌<◌, ◌⊎◌, ℕ, ◌==◌, Bool, true, false, is_some, List, length, Option, Some, refl, sym, ap, ◌∙◌, subst, inl, inr, eq-eqb}
 use Rattle.sprite_ids.specs.declared.StreamNo.{StreamNo}
 use Rattle.sprite_ids.specs.declared.CacheMode.{CacheMode}
 use Rattle.sprite_ids.specs.declared.CallKind.{CallKind}
@@ -14,8 +14,8 @@ use Rattle.file_views.specs.declared.view.View.{View}
 use Rattle.file_views.specs.Streams.{has_stream, writes, is_write_shared}
 use Rattle.file_views.specs.Clients.{is_on}
 use Rattle.file_views.specs.Views.{client, things}
-use Rattle.file_views.specs.Here.{In, IsClient, about, Here, at_kernel, Arrives, Newer, EachNewer, asked_stream, Stopped, Recalled, Answered}
-use Rattle.file_views.specs.SoundHolders.{OnComes, Active, StreamComes, ThatComes, EngagedToWrite, Keeps, Ready, OpenForReading, Coming, Chained, HolderFacts, LocalHolders, Holders}
+use Rattle.file_views.specs.Here.{In, IsClient, about, Here, at_kernel, Arrives, asked_stream, Stopped, Recalled, Answered}
+use Rattle.file_views.specs.SoundHolders.{Active, ThatComes, EngagedToWrite, Ready, Coming, Chained, HolderFacts, LocalHolders, Holders}
 use Rattle.file_views.proofs.MemberLaws.{in_filter, filter_in}
 use Rattle.file_views.proofs.CountLaws.{or_left, or_right}
 use Rattle.file_views.proofs.StampLaws.{about_goes}
@@ -203,7 +203,7 @@ holders_opened h opened f back on = record {
   holder_grants = f.holder_grants;
   recall_ready = f.recall_ready;
   recall_on = f.recall_on;
-      recall_holds = f.recall_holds;
+  recall_holds = f.recall_holds;
   writer_ready = λ a e. f.writer_ready a (engaged e);
   dirty_ready = f.dirty_ready;
   dirty_unanswered = f.dirty_unanswered;

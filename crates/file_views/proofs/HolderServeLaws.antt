@@ -1,11 +1,9 @@
 -- The sixth layer of soundness while the server takes up requests and answers to callbacks.
-use Rattle.std.proofs.Common.{◌≡◌, ◌≢◌, ◌≤◌, ◌<◌, ◌⊎◌, ℕ, ◌+◌, ◌-◌, ◌==◌, Bool, true, false, cond, not, ◌&&◌, List, [], ◌∷◌, ◌++◌, length, map, filter, Option, Some, None, is_some, is_none, refl, sym, ap, ap₂, ◌∙◌, subst, inl, inr, arith, eqb-true, eq-eqb, append_assoc, append-nil}
+use Rattle.std.proofs.Common.{◌≡◌, ◌≢◌, ◌≤◌, ◌<◌, ℕ, ◌==◌, Bool, true, false, cond, not, List, [], ◌∷◌, ◌++◌, length, map, filter, Option, Some, None, refl, sym, ap, ap₂, ◌∙◌, subst, inl, inr, arith, eqb-true, eq-eqb, append_assoc}
 use Rattle.std.specs.List.{list_any}
 use Rattle.std.proofs.lemmas.Bool.{and_parts, and_from, and_cases}
 use Rattle.std.proofs.lemmas.Bool.Decides.{eqb_tells}
-use Rattle.sprite_ids.specs.declared.BlockNo.{BlockNo}
 use Rattle.sprite_ids.specs.declared.StreamNo.{StreamNo}
-use Rattle.sprite_ids.specs.declared.CacheMode.{CacheMode}
 use Rattle.sprite_ids.specs.declared.CacheMode.TheVariants as cache
 use Rattle.sprite_ids.specs.declared.CallKind.{CallKind}
 use Rattle.sprite_ids.specs.declared.CallKind.TheVariants.{Recall, Stop}
@@ -17,29 +15,27 @@ use Rattle.file_views.specs.declared.call.FileCall.{FileCall}
 use Rattle.file_views.specs.declared.view.View.{View}
 use Rattle.file_views.specs.Setting.{Setting}
 use Rattle.file_views.specs.Contents.{put_block}
-use Rattle.file_views.specs.Streams.{take_off, is_spread, is_write_shared, is_any, writes, open_count}
+use Rattle.file_views.specs.Streams.{take_off, is_spread, is_write_shared, is_any, writes}
 use Rattle.file_views.specs.Clients.{is_on}
-use Rattle.file_views.specs.Views.{server, client, current_stamp, mode_given, is_kernel, is_holder, is_callback, as_call, things, with_call, without_call, replied, answer, remove_call, to_the_end, busy, waits, waiting_calls}
-use Rattle.file_views.specs.Grants.{asks, truncates, receiver, uncached_after, granting, grant_of, settle, current_grant}
-use Rattle.file_views.specs.Serving.{close, op_reply, bytes_after, block_of, refuse_old, serve_body, serve, serve_all, request_comes, store_blocks, holder_answered, resume, resumed}
+use Rattle.file_views.specs.Views.{server, client, current_stamp, mode_given, is_kernel, is_holder, is_callback, as_call, things, with_call, without_call, replied, answer, remove_call, to_the_end, busy, waiting_calls}
+use Rattle.file_views.specs.Grants.{asks, truncates, receiver, uncached_after, settle, current_grant}
+use Rattle.file_views.specs.Serving.{close, op_reply, bytes_after, block_of, serve_body, serve, serve_all, request_comes, holder_answered, resume, resumed}
 use Rattle.file_views.specs.Settled.{arrival}
-use Rattle.file_views.specs.Here.{In, IsClient, Here, Arrives, asked_stream, Stopped, Recalled, Answered}
-use Rattle.file_views.specs.SoundShapes.{Ends}
+use Rattle.file_views.specs.Here.{In, IsClient, Arrives, asked_stream}
 use Rattle.file_views.specs.SoundHolders.{Active, LocalHolders}
 use Rattle.file_views.proofs.MemberLaws.{in_left, in_last, last_in, in_filter, filter_in, in_without, without_in}
 use Rattle.file_views.proofs.EffectLaws.{Apart, by_kernel, things_with, things_without, call_in_things, same_thing}
 use Rattle.file_views.proofs.ClientLaws.{choose, choose_by}
 use Rattle.file_views.proofs.CountLaws.{bool_cases}
-use Rattle.file_views.proofs.OpenLaws.{OpenAt, Left, left_in}
+use Rattle.file_views.proofs.OpenLaws.{Left, left_in}
 use Rattle.file_views.proofs.ShapeLaws.{Flat}
 use Rattle.file_views.proofs.ShapeStepLaws.{flat_serve, flat_taken}
-use Rattle.file_views.proofs.StreamLaws.{FlatStreams}
 use Rattle.file_views.proofs.StreamChangeLaws.{streams_take}
-use Rattle.file_views.proofs.StreamServeLaws.{Both, both_settle, both_serve, streams_close}
+use Rattle.file_views.proofs.StreamServeLaws.{Both, both_settle, streams_close}
 use Rattle.file_views.proofs.StampLaws.{own_stamp, FlatStamps, only_call, reply_of_arrival}
-use Rattle.file_views.proofs.StampChangeLaws.{NoCall, no_call_thing, stamps_take}
+use Rattle.file_views.proofs.StampChangeLaws.{NoCall, stamps_take}
 use Rattle.file_views.proofs.StampServeLaws.{two_settle, idle, op_arrival}
-use Rattle.file_views.proofs.DecisionLaws.{CallIn, busy_call, Asking, Queues, Ruled, holds_server, ruled_holds}
+use Rattle.file_views.proofs.DecisionLaws.{CallIn, busy_call, Asking, Ruled, holds_server, ruled_holds}
 use Rattle.file_views.proofs.DecisionServeLaws.{Found, any_found, found_any, Served, first_waits, served_settle}
 use Rattle.file_views.proofs.DecisionCallLaws.{idle_waiting}
 use Rattle.file_views.proofs.ModeLaws.{FlatModes, under_of}
@@ -47,10 +43,10 @@ use Rattle.file_views.proofs.ModeGrantLaws.{modes_settle}
 use Rattle.file_views.proofs.ModeServeLaws.{OpenFor, arrival_there, Stage, stage_serve, unreplied}
 use Rattle.file_views.proofs.ModeChangeLaws.{modes_taken}
 use Rattle.file_views.proofs.ModeStepLaws.{brings_none}
-use Rattle.file_views.proofs.HolderLaws.{Ways, SameOpen, holders_ways, holders_opened, DirtyIn, seat, FlatHolders}
-use Rattle.file_views.proofs.HolderTakeLaws.{Unheld, holders_unheld}
+use Rattle.file_views.proofs.HolderLaws.{Ways, SameOpen, holders_ways, holders_opened, seat, FlatHolders}
+use Rattle.file_views.proofs.HolderTakeLaws.{holders_unheld}
 use Rattle.file_views.proofs.HolderChangeLaws.{ways_answer, ways_reads, ways_without, holders_calls}
-use Rattle.file_views.proofs.HolderSettleLaws.{left_of, left_was, Adds, adds, Grantable, holder_is, is_holder_by, not_holder, Alone, alone_by, Settles, holders_settle, holders_equal}
+use Rattle.file_views.proofs.HolderSettleLaws.{left_of, left_was, adds, Grantable, holder_is, is_holder_by, not_holder, alone_by, holders_settle}
 use Rattle.file_views.proofs.HolderCallLaws.{left_shares, Deciding, holders_decide}
 
 -- a request is answered without a grant of a stream

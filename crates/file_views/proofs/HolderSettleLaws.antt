@@ -1,5 +1,5 @@
 -- The sixth layer of soundness where an open or a move is granted.
-use Rattle.std.proofs.Common.{◌≡◌, ◌≢◌, ◌≤◌, ◌<◌, ◌⊎◌, ℕ, ◌+◌, ◌-◌, ◌==◌, Bool, true, false, cond, not, ◌&&◌, ◌||◌, is_some, List, [], ◌∷◌, ◌++◌, length, map, filter, Option, Some, None, refl, sym, ap, ◌∙◌, subst, inl, inr, arith, eqb-true, eq-eqb, ne_eqb, get_or-set_same, get_or-set_other, slice_index_or}
+use Rattle.std.proofs.Common.{◌≡◌, ◌≢◌, ◌≤◌, ◌<◌, ◌⊎◌, ℕ, ◌+◌, ◌-◌, ◌==◌, Bool, true, false, cond, not, ◌&&◌, ◌||◌, List, length, filter, Option, Some, None, refl, sym, ap, ◌∙◌, subst, inl, inr, arith, eqb-true, eq-eqb, ne_eqb, get_or-set_same, get_or-set_other, slice_index_or}
 use Rattle.std.specs.List.{list_any}
 use Rattle.std.proofs.lemmas.Bool.{and_parts, and_from, and_left, and_right}
 use Rattle.std.proofs.lemmas.Bool.Decides.{eqb_tells}
@@ -7,31 +7,28 @@ use Rattle.sprite_ids.specs.declared.StreamNo.{StreamNo}
 use Rattle.sprite_ids.specs.declared.Mode.{Mode}
 use Rattle.sprite_ids.specs.declared.CacheMode.{CacheMode}
 use Rattle.sprite_ids.specs.declared.CacheMode.TheVariants as cache
-use Rattle.sprite_ids.specs.declared.CallKind.{CallKind}
 use Rattle.file_views.specs.declared.grant.FileGrant.{FileGrant}
 use Rattle.file_views.specs.declared.body.FileBody.{FileBody}
 use Rattle.file_views.specs.declared.body.FileBody.TheVariants as form
 use Rattle.file_views.specs.declared.opens.Open.{Open}
-use Rattle.file_views.specs.declared.client.Client.{Client}
 use Rattle.file_views.specs.declared.call.FileCall.{FileCall}
 use Rattle.file_views.specs.declared.view.View.{View}
 use Rattle.file_views.specs.Setting.{Setting}
-use Rattle.file_views.specs.Streams.{same_stream, has_stream, is_open, open_count, add_open, writes, is_spread, is_write_shared, is_any, mode_of_stream}
+use Rattle.file_views.specs.Streams.{has_stream, is_open, open_count, add_open, writes, is_spread, is_write_shared, is_any, mode_of_stream}
 use Rattle.file_views.specs.Clients.{is_on, mode_of}
 use Rattle.file_views.specs.Views.{client, current_stamp, mode_given, is_kernel, is_holder, is_callback, last_stamp, things, replied, with_call}
 use Rattle.file_views.specs.Grants.{asks, truncates, receiver, receiver_of, asks_to_write, left_by, opens_after, shared_after, uncached_after, new_version, grant_of, granting, holder_after, settle}
 use Rattle.file_views.specs.Settled.{goes_to, arrival}
-use Rattle.file_views.specs.Here.{In, Unique, IsClient, Here, Arrives, asked_stream, Stopped, Answered}
+use Rattle.file_views.specs.Here.{In, IsClient, Here, Arrives, asked_stream}
 use Rattle.file_views.specs.SoundShapes.{Ends, Shaped}
-use Rattle.file_views.specs.SoundStreams.{NamedOnce, OpensShaped}
+use Rattle.file_views.specs.SoundStreams.{NamedOnce}
 use Rattle.file_views.specs.SoundModes.{GrantWith, CallbackWith}
-use Rattle.file_views.specs.SoundHolders.{OnComes, Active, HolderFacts, LocalHolders}
+use Rattle.file_views.specs.SoundHolders.{Active, LocalHolders}
 use Rattle.file_views.proofs.MemberLaws.{in_left, last_in, in_filter, filter_in, in_with, with_in, with_new}
 use Rattle.file_views.proofs.EffectLaws.{places_apart, things_with, call_in_things, same_thing}
 use Rattle.file_views.proofs.CountLaws.{neither, bool_cases, has_some, same_by, or_right}
 use Rattle.file_views.proofs.OpenLaws.{OpenAt, open_there, Left, in_added, is_open_is, mode_is}
 use Rattle.file_views.proofs.ShapeLaws.{Flat}
-use Rattle.file_views.proofs.StreamLaws.{FlatStreams}
 use Rattle.file_views.proofs.StreamServeLaws.{Both, both_settle}
 use Rattle.file_views.proofs.StampLaws.{own_stamp, FlatStamps}
 use Rattle.file_views.proofs.StampChangeLaws.{NoCall, no_call_thing}
@@ -41,8 +38,8 @@ use Rattle.file_views.proofs.DecisionLaws.{Ruled}
 use Rattle.file_views.proofs.DecisionServeLaws.{some_any, found_any, receiver_client, left_before, left_stays}
 use Rattle.file_views.proofs.ModeLaws.{FactsAt, FlatModes, Under, under_of}
 use Rattle.file_views.proofs.ModeServeLaws.{OpenFor, arrival_there}
-use Rattle.file_views.proofs.HolderLaws.{Came, CallAt, Arrivals, Ways, holders_ways, SameOpen, holders_opened, seat, FlatHolders}
-use Rattle.file_views.proofs.HolderGiveLaws.{Idle, holders_idle, Away, holders_away, Holding, Mine, Fresh, Plain, Given, holders_given}
+use Rattle.file_views.proofs.HolderLaws.{Ways, holders_ways, SameOpen, holders_opened, seat, FlatHolders}
+use Rattle.file_views.proofs.HolderGiveLaws.{holders_idle, holders_away, Holding, Mine, Fresh, Plain, holders_given}
 
 -- the opens that a move leaves; an open leaves all
 abbrev pub left_of : List Open → ℕ → FileBody → List Open

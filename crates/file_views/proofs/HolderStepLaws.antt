@@ -1,5 +1,5 @@
 -- The sixth layer of soundness under each step and each move of a client, and of a new file.
-use Rattle.std.proofs.Common.{◌≡◌, ◌≢◌, ◌≤◌, ◌<◌, ◌⊎◌, ℕ, ◌-◌, ◌==◌, nat_le, Bool, true, false, cond, not, ◌&&◌, ◌||◌, is_some, is_none, List, [], ◌∷◌, ◌++◌, length, map, filter, Option, Some, None, refl, sym, ap, ◌∙◌, subst, inl, inr, arith, eqb-true, leb-true, append-nil}
+use Rattle.std.proofs.Common.{◌≡◌, ◌≤◌, ◌<◌, ◌⊎◌, ℕ, ◌-◌, ◌==◌, nat_le, Bool, true, false, not, ◌&&◌, ◌||◌, is_some, List, [], ◌∷◌, ◌++◌, length, map, filter, Option, Some, None, refl, sym, ap, ◌∙◌, subst, inl, inr, arith, eqb-true, leb-true, append-nil}
 use Rattle.std.proofs.lemmas.Bool.{and_parts}
 use Rattle.std.proofs.lemmas.Bool.Decides.{eqb_tells}
 use Rattle.std.proofs.lemmas.List.{get_or-replicate}
@@ -24,9 +24,9 @@ use Rattle.file_views.specs.Setting.{Setting}
 use Rattle.file_views.specs.Contents.{zeros}
 use Rattle.file_views.specs.Streams.{same_stream, has_stream}
 use Rattle.file_views.specs.Clients.{new_client, is_on, held, same_number, take_grant, blocks_filled, fill, blocks_written_back, wrote_back, install, uninstall, without_block, with_block, cleaned}
-use Rattle.file_views.specs.Views.{server, new_view, client, set_client, current_stamp, is_holder, find_call, find_carried, remove_call, is_callback, as_call, things, busy, waiting_calls, without_call, without_carried, begin}
+use Rattle.file_views.specs.Views.{server, new_view, client, set_client, current_stamp, is_holder, find_call, find_carried, remove_call, is_callback, as_call, things, busy, waiting_calls, without_call, without_carried}
 use Rattle.file_views.specs.Grants.{asks}
-use Rattle.file_views.specs.Data.{step_of, queue, start_data, look}
+use Rattle.file_views.specs.Data.{step_of, start_data, look}
 use Rattle.file_views.specs.Serving.{store_blocks, holder_answered}
 use Rattle.file_views.specs.Steps.{grant_comes, request_at_client, opening_answered, move_answered, fetch_answered, write_back_answered, op_answered, flush_comes, reply_comes, carried_comes_with, call_comes, delivered, moving, writing_back_at, writing_back, after}
 use Rattle.file_views.specs.Possible.{has_room, is_client, is_free, is_due, may_do, possible, stepped}
@@ -38,33 +38,33 @@ use Rattle.file_views.specs.SoundStreams.{Streams}
 use Rattle.file_views.specs.SoundStamps.{Stamps}
 use Rattle.file_views.specs.SoundDecisions.{Decisions}
 use Rattle.file_views.specs.SoundModes.{Modes}
-use Rattle.file_views.specs.SoundHolders.{LocalHolders, Holders}
+use Rattle.file_views.specs.SoundHolders.{Holders}
 use Rattle.file_views.proofs.MemberLaws.{found, carried_found, map_in, in_left, in_right, in_join, in_last, last_in, in_filter, in_without, without_in}
-use Rattle.file_views.proofs.EffectLaws.{Apart, client_set, things_with, things_without, things_uncarried, call_in_things, same_thing}
+use Rattle.file_views.proofs.EffectLaws.{Apart, client_set, things_without, things_uncarried, call_in_things, same_thing}
 use Rattle.file_views.proofs.ClientLaws.{choose, choose_by, fine_fill}
-use Rattle.file_views.proofs.CountLaws.{same_is, bool_cases}
-use Rattle.file_views.proofs.ShapeLaws.{Flat, flat_client, flat_remove, in_middle, things_carried}
+use Rattle.file_views.proofs.CountLaws.{same_is}
+use Rattle.file_views.proofs.ShapeLaws.{Flat, flat_client, in_middle, things_carried}
 use Rattle.file_views.proofs.ShapeStepLaws.{client_is, still_client, free_client, flat_server, calls_apart, ends_no_callback}
 use Rattle.file_views.proofs.ShapeMoveLaws.{working_client, client_new, count_new}
-use Rattle.file_views.proofs.StreamLaws.{StepOpen, FlatStreams}
+use Rattle.file_views.proofs.StreamLaws.{StepOpen}
 use Rattle.file_views.proofs.StreamChangeLaws.{streams_client, streams_same}
 use Rattle.file_views.proofs.StreamServeLaws.{Both, quiet}
 use Rattle.file_views.proofs.StreamStepLaws.{take_streams, both_grant}
 use Rattle.file_views.proofs.StreamReplyLaws.{both_quiet, data_open}
-use Rattle.file_views.proofs.StampLaws.{own_stamp, FlatStamps}
+use Rattle.file_views.proofs.StampLaws.{own_stamp}
 use Rattle.file_views.proofs.StampChangeLaws.{NoCall, no_call_thing, stamps_client, stamps_same, stamps_remove}
 use Rattle.file_views.proofs.StampServeLaws.{Two, idle}
 use Rattle.file_views.proofs.StampStepLaws.{two_grant, two_removed, told_again}
 use Rattle.file_views.proofs.DecisionLaws.{Asking, same_first, Holds, holds_server, back_self, asking_more, waiting_without}
 use Rattle.file_views.proofs.DecisionServeLaws.{Found, any_found, found_any}
 use Rattle.file_views.proofs.DecisionStepLaws.{decisions_client, decisions_remove, answered_waits}
-use Rattle.file_views.proofs.ModeStepLaws.{Standing, standing_of, brings_none, unanswered, moding_of, modes_finished}
+use Rattle.file_views.proofs.ModeStepLaws.{Standing, standing_of, brings_none, unanswered, modes_finished}
 use Rattle.file_views.proofs.HolderLaws.{Ways, DirtyIn, seat, FlatHolders, flat_holders, holders_of}
 use Rattle.file_views.proofs.HolderGiveLaws.{holders_idle}
-use Rattle.file_views.proofs.HolderChangeLaws.{ways_self, ways_without, ways_reads, holders_calls, holders_mild, Takes, holders_takes}
+use Rattle.file_views.proofs.HolderChangeLaws.{ways_self, ways_without, ways_reads, holders_calls, holders_mild, holders_takes}
 use Rattle.file_views.proofs.HolderSettleLaws.{is_holder_by, not_holder}
-use Rattle.file_views.proofs.HolderServeLaws.{holders_request, Answering, answered_view, holders_flushed_by}
-use Rattle.file_views.proofs.HolderDataLaws.{Able, Knowing, able_of, holders_begin, holders_queue, holders_fetch, holders_start, holders_look, holders_called_back}
+use Rattle.file_views.proofs.HolderServeLaws.{holders_request, holders_flushed_by}
+use Rattle.file_views.proofs.HolderDataLaws.{Knowing, able_of, holders_begin, holders_queue, holders_fetch, holders_start, holders_look, holders_called_back}
 
 -- the first six layers
 pub record Whole (z : Setting) (v : View) : Type 0 where
@@ -258,11 +258,11 @@ holders_flush z v one stamp kind (Some (form.Flushed size blocks)) e s t m k i =
     elim t.standing.decided.queues [
       | inl a ↦ absurd (cc (a.0 one m, ap is_callback e))
       | inr b ↦ (
-        let next : Asking z w = asking_more z v w h [] (waiting ∙ sym (append-nil (waiting_calls v))) (λ x j c. back_self v.calls x (in_without one.number x v.calls j).0) b.1 in
-        holders_flushed_by z v one (store_blocks z v.bytes size blocks) stamp kind (record { flat = t.standing.flat; stamps = t.standing.stamps; modes = t.standing.modes; holders = t.holders; ruled = t.standing.decided.ruled; there = m; is_call = e; taken = k }) i b.1 both
-        (stamps_remove u one t.standing.flat.numbered.differ m (stamps_same v u refl refl refl refl refl refl t.standing.stamps))
-        next (same_first next.first b.1.first next.rest b.1.rest (sym next.waiting ∙ waiting ∙ b.1.waiting))
-        (modes_finished z v one t.standing m k (ap asks e)).modes)
+          let next : Asking z w = asking_more z v w h [] (waiting ∙ sym (append-nil (waiting_calls v))) (λ x j c. back_self v.calls x (in_without one.number x v.calls j).0) b.1 in
+          holders_flushed_by z v one (store_blocks z v.bytes size blocks) stamp kind (record { flat = t.standing.flat; stamps = t.standing.stamps; modes = t.standing.modes; holders = t.holders; ruled = t.standing.decided.ruled; there = m; is_call = e; taken = k }) i b.1 both
+          (stamps_remove u one t.standing.flat.numbered.differ m (stamps_same v u refl refl refl refl refl refl t.standing.stamps))
+          next (same_first next.first b.1.first next.rest b.1.rest (sym next.waiting ∙ waiting ∙ b.1.waiting))
+          (modes_finished z v one t.standing m k (ap asks e)).modes)
     ]
 holders_flush z v one stamp kind reply e s t m k i = t.holders
 

@@ -1,6 +1,5 @@
 -- The sixth layer of soundness, said of one kernel's part of a view, where grants and callbacks are taken.
-use Rattle.std.proofs.Common.{◌≡◌, ◌≢◌, ◌≤◌, ◌<◌, ◌⊎◌, ℕ, ◌==◌, nat_le, Bool, true, false, is_some, List, Option, Some, None, refl, sym, ap, ◌∙◌, subst, inl, inr, arith, leb-true, leb-false}
-use Rattle.std.proofs.lemmas.Bool.Decides.{eqb_tells}
+use Rattle.std.proofs.Common.{◌≡◌, ◌≤◌, ◌<◌, ◌⊎◌, ℕ, nat_le, Bool, true, false, List, refl, sym, ap, ◌∙◌, subst, inl, inr, arith, leb-true, leb-false}
 use Rattle.sprite_ids.specs.declared.StreamNo.{StreamNo}
 use Rattle.sprite_ids.specs.declared.CacheMode.{CacheMode}
 use Rattle.sprite_ids.specs.declared.CacheMode.TheVariants as cache
@@ -14,9 +13,9 @@ use Rattle.file_views.specs.declared.call.FileCall.{FileCall}
 use Rattle.file_views.specs.Streams.{has_stream, writes}
 use Rattle.file_views.specs.Clients.{is_on, mode_of, mode_after}
 use Rattle.file_views.specs.Grants.{mode_called}
-use Rattle.file_views.specs.Here.{In, Here, Arrives, Newer, EachNewer, asked_stream, Stopped, Recalled, Answered}
+use Rattle.file_views.specs.Here.{In, Here, Arrives, asked_stream, Stopped, Recalled, Answered}
 use Rattle.file_views.specs.SoundModes.{SameNewer, LocalModes}
-use Rattle.file_views.specs.SoundHolders.{OnComes, Active, StreamComes, ThatComes, EngagedToWrite, Keeps, Ready, OpenForReading, Coming, Chained, HolderFacts, LocalHolders}
+use Rattle.file_views.specs.SoundHolders.{Active, ThatComes, EngagedToWrite, Keeps, Ready, Coming, LocalHolders}
 use Rattle.file_views.proofs.CountLaws.{bool_cases}
 use Rattle.file_views.proofs.HolderLaws.{Came, CallAt, Arrivals, Ways, ready_back, active_back, that_back, engaged_back, recalled_back, answered_back, given_on, coming_on, chained_ways, DirtyIn, SameOpen}
 

@@ -38,3 +38,4 @@ pub mod HolderCallLaws
 pub mod HolderServeLaws
 pub mod HolderDataLaws
 pub mod HolderStepLaws
+pub mod LayerLaws

@@ -30,3 +30,4 @@ pub mod StampLaw
 pub mod DecisionLaw
 pub mod ModeLaw
 pub mod HolderLaw
+pub mod LayerLaw

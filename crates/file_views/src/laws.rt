@@ -1,5 +1,6 @@
 ghost use Rattle.file_views.specs.DecisionLaw.{DecisionsStay};
 ghost use Rattle.file_views.specs.HolderLaw.{HoldersStay};
+ghost use Rattle.file_views.specs.LayerLaw.{LayersStay};
 ghost use Rattle.file_views.specs.ModeLaw.{ModesStay};
 ghost use Rattle.file_views.specs.ShapeLaw.{ShapesStay};
 ghost use Rattle.file_views.specs.StampLaw.{StampsStay};
@@ -51,4 +52,11 @@ pub fn modes_stay()
 /// agree.
 pub fn holders_stay()
     ensures { HoldersStay }
+{}
+
+/// A law: after any list of steps and of moves of clients, from a new file with one to fifteen clients on, the first six layers of
+/// soundness hold together, and while callbacks are out what asked waits, first of all. (No step or move has a premise beyond its
+/// being possible.)
+pub fn layers_stay()
+    ensures { LayersStay }
 {}
