@@ -39,3 +39,4 @@ pub mod HolderServeLaws
 pub mod HolderDataLaws
 pub mod HolderStepLaws
 pub mod LayerLaws
+pub mod CoherentLaws

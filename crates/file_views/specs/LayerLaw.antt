@@ -7,7 +7,7 @@ use Rattle.file_views.specs.Setting.{Setting}
 use Rattle.file_views.specs.Views.{new_view}
 use Rattle.file_views.specs.Possible.{stepped}
 use Rattle.file_views.specs.Moves.{may_move, after_move}
-use Rattle.file_views.specs.Coherent.{asking_waits}
+use Rattle.file_views.specs.Coherent.{part_3, part_4, part_6, asking_waits}
 use Rattle.file_views.specs.SoundShapes.{Shapes}
 use Rattle.file_views.specs.SoundStreams.{Streams}
 use Rattle.file_views.specs.SoundStamps.{Stamps}
@@ -37,7 +37,12 @@ pub record Layers (z : Setting) (v : View) : Type 0 where
   pub modes : Modes v
   pub holders : Holders v
 
--- also that while callbacks are out what asked waits first of all
 pub record LayersStay : Type 0 where
   pub layers : (z : Setting) (count : ℕ) (bytes : List ℕ) (happenings : List Happening) → 1 ≤ count → count ≤ 15 → Layers z (all_happened z (new_view count bytes) happenings)
+
+-- what of coherence follows: the third, the fourth, the sixth and the seventh part
+pub record PartsStay : Type 0 where
+  pub alone : (z : Setting) (count : ℕ) (bytes : List ℕ) (happenings : List Happening) → 1 ≤ count → count ≤ 15 → part_3 z (all_happened z (new_view count bytes) happenings) ≡ true
+  pub stamps : (z : Setting) (count : ℕ) (bytes : List ℕ) (happenings : List Happening) → 1 ≤ count → count ≤ 15 → part_4 (all_happened z (new_view count bytes) happenings) ≡ true
+  pub nobody : (z : Setting) (count : ℕ) (bytes : List ℕ) (happenings : List Happening) → 1 ≤ count → count ≤ 15 → part_6 z (all_happened z (new_view count bytes) happenings) ≡ true
   pub waits : (z : Setting) (count : ℕ) (bytes : List ℕ) (happenings : List Happening) → 1 ≤ count → count ≤ 15 → asking_waits (all_happened z (new_view count bytes) happenings) ≡ true

@@ -1,6 +1,6 @@
 ghost use Rattle.file_views.specs.DecisionLaw.{DecisionsStay};
 ghost use Rattle.file_views.specs.HolderLaw.{HoldersStay};
-ghost use Rattle.file_views.specs.LayerLaw.{LayersStay};
+ghost use Rattle.file_views.specs.LayerLaw.{LayersStay, PartsStay};
 ghost use Rattle.file_views.specs.ModeLaw.{ModesStay};
 ghost use Rattle.file_views.specs.ShapeLaw.{ShapesStay};
 ghost use Rattle.file_views.specs.StampLaw.{StampsStay};
@@ -55,8 +55,15 @@ pub fn holders_stay()
 {}
 
 /// A law: after any list of steps and of moves of clients, from a new file with one to fifteen clients on, the first six layers of
-/// soundness hold together, and while callbacks are out what asked waits, first of all. (No step or move has a premise beyond its
-/// being possible.)
+/// soundness hold together. (No step and no move has a premise beyond its being possible.)
 pub fn layers_stay()
     ensures { LayersStay }
+{}
+
+/// A law: after any list of steps and of moves of clients, from a new file with one to fifteen clients on, four of the seven parts of
+/// coherence hold. While the holder has dirty blocks that count, no other client with a stream uses its cache. A client's stamp is
+/// at most its current one, and less only while that is on its way to it, and with equal stamps the modes agree. While the file is
+/// uncached and no callback is out, nobody is trusted with cached blocks. While callbacks are out, what asked waits, first of all.
+pub fn parts_stay()
+    ensures { PartsStay }
 {}
