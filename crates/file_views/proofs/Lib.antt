@@ -40,3 +40,4 @@ pub mod HolderDataLaws
 pub mod HolderStepLaws
 pub mod LayerLaws
 pub mod CoherentLaws
+pub mod AskingLaws
