@@ -41,3 +41,4 @@ pub mod HolderStepLaws
 pub mod LayerLaws
 pub mod CoherentLaws
 pub mod AskingLaws
+pub mod AskingStepLaws
