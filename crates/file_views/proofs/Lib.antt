@@ -42,3 +42,4 @@ pub mod LayerLaws
 pub mod CoherentLaws
 pub mod AskingLaws
 pub mod AskingStepLaws
+pub mod AskingDataLaws
