@@ -1,43 +1,35 @@
 -- Fetches and operations, the first part of the seventh layer of soundness: what clients do, and all steps.
-use Rattle.std.proofs.Common.{◌≡◌, ◌≢◌, ◌≤◌, ◌<◌, ◌⊎◌, ℕ, ◌+◌, ◌-◌, ◌*◌, ◌==◌, nat_le, nat_lt, Bool, true, false, cond, not, ◌&&◌, ◌||◌, is_some, is_none, List, [], ◌∷◌, ◌++◌, length, map, filter, Option, Some, None, refl, sym, ap, ◌∙◌, subst, inl, inr, arith, eqb-true, eq-eqb, leb-true, leb-false}
-use Rattle.std.specs.List.{list_any}
-use Rattle.std.proofs.lemmas.Bool.{and_parts, ltb-true}
+use Rattle.std.proofs.Common.{◌≡◌, ◌≤◌, ◌<◌, ℕ, ◌*◌, ◌==◌, nat_le, Bool, true, false, cond, not, ◌&&◌, is_some, is_none, List, [], ◌∷◌, ◌++◌, length, map, Option, Some, None, refl, sym, ap, ◌∙◌, subst, inl, inr, eqb-true, leb-false}
+use Rattle.std.proofs.lemmas.Bool.{and_parts}
 use Rattle.sprite_ids.specs.declared.BlockNo.{BlockNo}
 use Rattle.sprite_ids.specs.declared.StreamNo.{StreamNo}
 use Rattle.sprite_ids.specs.declared.CacheMode.{CacheMode}
 use Rattle.sprite_ids.specs.declared.CallKind.{CallKind}
 use Rattle.sprite_ids.specs.declared.CallKind.TheVariants.{Recall, Stop}
 use Rattle.file_views.specs.declared.grant.FileGrant.{FileGrant}
-use Rattle.file_views.specs.declared.body.Access.{Access}
-use Rattle.file_views.specs.declared.body.FileBody.{FileBody}
 use Rattle.file_views.specs.declared.body.FileBody.TheVariants as form
 use Rattle.file_views.specs.declared.client.Held.{Held}
 use Rattle.file_views.specs.declared.client.Client.{Client}
 use Rattle.file_views.specs.declared.call.FileCall.{FileCall}
-use Rattle.file_views.specs.declared.call.Carry.{Carry}
 use Rattle.file_views.specs.declared.step.FileStep.{FileStep}
 use Rattle.file_views.specs.declared.step.FileStep.TheVariants as act
 use Rattle.file_views.specs.declared.view.View.{View}
 use Rattle.file_views.specs.Setting.{Setting}
 use Rattle.file_views.specs.Streams.{is_any}
-use Rattle.file_views.specs.Clients.{is_on, mode_of, held, same_number, granted, take_grant, mode_after, blocks_after, take_callback, missing, blocks_filled, fill, blocks_written_back, wrote_back, install, uninstall, without_block, with_block, cleaned, done_cached}
-use Rattle.file_views.specs.Views.{server, client, set_client, find_call, find_carried, is_callback, as_call, things, new_call, begin, replied, answer, remove_call, without_call, without_carried}
-use Rattle.file_views.specs.Data.{op_of, step_of, send_op, send_fetch, enter_cached, queue, wait_for, started, start_data, unqueue, or_zero, advance, look}
-use Rattle.file_views.specs.Serving.{store_blocks, holder_answered, resumed}
-use Rattle.file_views.specs.Steps.{grant_comes, request_at_client, opening_answered, move_answered, fetch_answered, write_back_answered, op_answered, flush_comes, reply_comes, carried_comes_with, call_comes, delivered, moving, writing_back_at, writing_back, after}
+use Rattle.file_views.specs.Clients.{is_on, mode_of, held, same_number, granted, take_grant, mode_after, blocks_after, take_callback, missing, blocks_filled, fill, blocks_written_back, wrote_back, without_block, with_block, cleaned, done_cached}
+use Rattle.file_views.specs.Views.{server, client, things, new_call}
+use Rattle.file_views.specs.Data.{op_of, send_op, send_fetch, enter_cached, queue, wait_for, started, start_data, unqueue, or_zero, advance, look}
 use Rattle.file_views.specs.Moves.{is_fetch}
 use Rattle.file_views.specs.Here.{In, IsClient, request_stamp}
-use Rattle.file_views.specs.SoundShapes.{Ends, Answers}
 use Rattle.file_views.specs.SoundRequests.{Asking}
-use Rattle.file_views.proofs.MemberLaws.{Made, in_left, in_right, in_join, in_last, in_without, in_filter, in_map, held_found}
-use Rattle.file_views.proofs.EffectLaws.{by_kernel, client_set, things_begin, call_in_things}
+use Rattle.file_views.proofs.MemberLaws.{in_last, held_found}
+use Rattle.file_views.proofs.EffectLaws.{client_set, things_begin}
 use Rattle.file_views.proofs.ClientLaws.{choose, choose_by}
-use Rattle.file_views.proofs.ShapeLaws.{Flat}
 use Rattle.file_views.proofs.ShapeStepLaws.{still_client}
 use Rattle.file_views.proofs.StreamStepLaws.{done_waiting}
 use Rattle.file_views.proofs.StampLaws.{own_stamp, FlatStamps}
 use Rattle.file_views.proofs.DataLaws.{alike_done}
-use Rattle.file_views.proofs.AskingLaws.{Waits, asking_waits, asking_risen, Begins, held_with, none_fewer, none_cleaned, done_absent, missing_absent}
+use Rattle.file_views.proofs.AskingLaws.{asking_waits, asking_risen, held_with, none_fewer, done_absent, missing_absent}
 use Rattle.file_views.proofs.AskingStepLaws.{FlatAsking, asking_set, asking_begin}
 
 -- the kernel has no unfinished fetch
@@ -45,7 +37,7 @@ abbrev pub NoFetch : View → ℕ → Type 0
 NoFetch v kernel = (one : FileCall) → In one (things v) → one.from ≡ kernel → is_fetch one.body ≡ false
 
 -- a client without one
-asking_alone : (z : Setting) (kernel : ℕ) (c d : Client) (calls : List FileCall) → Asking z kernel c calls → ((one : FileCall) → In one calls → one.from ≡ kernel → is_fetch one.body ≡ false) → d.stamp ≡ c.stamp → d.mode ≡ c.mode → (is_on d.mode ≡ false → d.blocks ≡ []) → Asking z kernel d calls
+pub asking_alone : (z : Setting) (kernel : ℕ) (c d : Client) (calls : List FileCall) → Asking z kernel c calls → ((one : FileCall) → In one calls → one.from ≡ kernel → is_fetch one.body ≡ false) → d.stamp ≡ c.stamp → d.mode ≡ c.mode → (is_on d.mode ≡ false → d.blocks ≡ []) → Asking z kernel d calls
 asking_alone z kernel c d calls f n s e empty = record {
   off_empty = empty;
   one_fetch = f.one_fetch;

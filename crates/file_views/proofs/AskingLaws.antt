@@ -1,32 +1,23 @@
 -- Fetches and operations, the first part of the seventh layer of soundness, under the changes of a view.
-use Rattle.std.proofs.Common.{◌≡◌, ◌≢◌, ◌≤◌, ◌<◌, ◌⊎◌, ℕ, ◌+◌, ◌-◌, ◌*◌, ◌==◌, nat_le, nat_lt, Bool, true, false, cond, not, ◌&&◌, ◌||◌, is_some, is_none, List, [], ◌∷◌, ◌++◌, length, map, filter, Option, Some, None, refl, sym, ap, ◌∙◌, subst, inl, inr, arith, le_refl, eqb-true, eq-eqb, ne_eqb, leb-true, leb-false, lt-ltb}
+use Rattle.std.proofs.Common.{◌≡◌, ◌≢◌, ◌≤◌, ◌<◌, ◌⊎◌, ℕ, ◌+◌, ◌*◌, ◌==◌, nat_lt, Bool, true, false, cond, not, ◌&&◌, is_none, List, [], ◌∷◌, ◌++◌, length, map, filter, Option, Some, None, refl, sym, ap, ◌∙◌, subst, inl, inr, arith, eqb-true, ne_eqb, lt-ltb}
 use Rattle.std.proofs.lemmas.Bool.{and_parts, and_from, ltb-true}
-use Rattle.std.proofs.lemmas.Bool.Decides.{eqb_tells}
 use Rattle.sprite_ids.specs.declared.BlockNo.{BlockNo}
 use Rattle.sprite_ids.specs.declared.StreamNo.{StreamNo}
-use Rattle.sprite_ids.specs.declared.CallKind.{CallKind}
-use Rattle.sprite_ids.specs.declared.CallKind.TheVariants.{Recall, Stop}
-use Rattle.file_views.specs.declared.grant.FileGrant.{FileGrant}
 use Rattle.file_views.specs.declared.body.Access.{Access}
-use Rattle.file_views.specs.declared.body.FileBody.{FileBody}
 use Rattle.file_views.specs.declared.body.FileBody.TheVariants as form
 use Rattle.file_views.specs.declared.client.Held.{Held}
 use Rattle.file_views.specs.declared.client.Client.{Client}
 use Rattle.file_views.specs.declared.call.FileCall.{FileCall}
 use Rattle.file_views.specs.declared.step.FileStep.{FileStep}
 use Rattle.file_views.specs.declared.step.FileStep.TheVariants as act
-use Rattle.file_views.specs.declared.view.View.{View}
 use Rattle.file_views.specs.Setting.{Setting}
 use Rattle.file_views.specs.Contents.{blocks_between}
 use Rattle.file_views.specs.Streams.{is_any}
 use Rattle.file_views.specs.Clients.{is_on, held, without_block, with_block, cleaned, is_too_big, range_of, first_absent, missing, held_bytes, block_written, blocks_written, size_written, write_cached, done_cached}
-use Rattle.file_views.specs.Views.{client, things}
 use Rattle.file_views.specs.Moves.{is_fetch}
-use Rattle.file_views.specs.Here.{In, IsClient, about, at_kernel, request_stamp}
+use Rattle.file_views.specs.Here.{In, request_stamp}
 use Rattle.file_views.specs.SoundRequests.{Asking}
-use Rattle.file_views.proofs.MemberLaws.{in_last, in_filter, filter_in}
-use Rattle.file_views.proofs.ClientLaws.{choose, choose_by}
-use Rattle.file_views.proofs.CountLaws.{bool_cases, or_left}
+use Rattle.file_views.proofs.MemberLaws.{in_last}
 
 -- a call of the kernel that stood there with its number and its request
 pub record Stood (one : FileCall) (calls : List FileCall) : Type 0 where

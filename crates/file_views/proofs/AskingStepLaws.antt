@@ -1,45 +1,24 @@
 -- Fetches and operations, the first part of the seventh layer of soundness, under each step and each move of a client.
-use Rattle.std.proofs.Common.{◌≡◌, ◌≢◌, ◌≤◌, ◌<◌, ◌⊎◌, ℕ, ◌+◌, ◌-◌, ◌*◌, ◌==◌, nat_le, nat_lt, Bool, true, false, cond, not, ◌&&◌, ◌||◌, is_some, is_none, List, [], ◌∷◌, ◌++◌, length, map, filter, Option, Some, None, refl, sym, ap, ap₂, ◌∙◌, subst, inl, inr, arith, eqb-true, eq-eqb, leb-true, leb-false, slice_index_or}
-use Rattle.std.specs.List.{list_any}
-use Rattle.std.proofs.lemmas.Bool.{and_parts, ltb-true}
-use Rattle.std.proofs.lemmas.Bool.Decides.{eqb_tells}
-use Rattle.sprite_ids.specs.declared.BlockNo.{BlockNo}
-use Rattle.sprite_ids.specs.declared.StreamNo.{StreamNo}
-use Rattle.sprite_ids.specs.declared.CacheMode.{CacheMode}
+use Rattle.std.proofs.Common.{◌≡◌, ◌≤◌, ℕ, ◌+◌, ◌-◌, ◌==◌, true, List, [], ◌∷◌, ◌++◌, length, map, Option, None, refl, sym, ap, ◌∙◌, subst, inl, inr, arith, slice_index_or}
 use Rattle.sprite_ids.specs.declared.CallKind.{CallKind}
-use Rattle.sprite_ids.specs.declared.CallKind.TheVariants.{Recall, Stop}
-use Rattle.file_views.specs.declared.grant.FileGrant.{FileGrant}
-use Rattle.file_views.specs.declared.body.Access.{Access}
 use Rattle.file_views.specs.declared.body.FileBody.{FileBody}
 use Rattle.file_views.specs.declared.body.FileBody.TheVariants as form
-use Rattle.file_views.specs.declared.client.Held.{Held}
 use Rattle.file_views.specs.declared.client.Client.{Client}
 use Rattle.file_views.specs.declared.call.FileCall.{FileCall}
-use Rattle.file_views.specs.declared.call.Carry.{Carry}
-use Rattle.file_views.specs.declared.step.FileStep.{FileStep}
-use Rattle.file_views.specs.declared.step.FileStep.TheVariants as act
-use Rattle.file_views.specs.declared.moves.ClientMove.{ClientMove}
-use Rattle.file_views.specs.declared.moves.ClientMove.TheVariants as move
 use Rattle.file_views.specs.declared.view.View.{View}
 use Rattle.file_views.specs.Setting.{Setting}
-use Rattle.file_views.specs.Contents.{zeros}
-use Rattle.file_views.specs.Streams.{is_any}
-use Rattle.file_views.specs.Clients.{new_client, is_on, mode_of, held, same_number, granted, take_grant, mode_after, blocks_after, take_callback, missing, blocks_filled, fill, blocks_written_back, wrote_back, install, uninstall, without_block, with_block, cleaned, done_cached}
-use Rattle.file_views.specs.Views.{server, new_view, client, set_client, current_stamp, find_call, find_carried, is_callback, as_call, things, new_call, begin, replied, answer, remove_call, to_the_end, busy, waits, waiting_calls, with_call, without_call, without_carried, last_stamp}
+use Rattle.file_views.specs.Clients.{new_client}
+use Rattle.file_views.specs.Views.{server, client, set_client, current_stamp, as_call, things, new_call, begin, replied, answer, to_the_end, busy, waits, waiting_calls, with_call, without_call, last_stamp}
 use Rattle.file_views.specs.Grants.{asks, granting, grant_of, settle, stamped, call_out, call_back, told, deciding, decide, kind_of_calls, uncached_after, called_kernels}
-use Rattle.file_views.specs.Data.{op_of, step_of, send_op, send_fetch, enter_cached, queue, wait_for, started, start_data, unqueue, or_zero, advance, look}
-use Rattle.file_views.specs.Serving.{close, op_reply, block_of, refuse_old, serve_body, serve, serve_all, request_comes, store_blocks, holder_answered, resume, resumed}
-use Rattle.file_views.specs.Steps.{grant_comes, request_at_client, opening_answered, move_answered, fetch_answered, write_back_answered, op_answered, flush_comes, reply_comes, carried_comes_with, call_comes, delivered, moving, writing_back_at, writing_back, after}
-use Rattle.file_views.specs.Moves.{is_fetch}
-use Rattle.file_views.specs.Here.{In, Unique, IsClient, about, at_kernel, request_stamp}
-use Rattle.file_views.specs.SoundShapes.{Ends, Answers, numbers}
+use Rattle.file_views.specs.Serving.{close, op_reply, block_of, refuse_old, serve_body, serve, serve_all, request_comes, resume, resumed}
+use Rattle.file_views.specs.Here.{In, Unique, IsClient}
+use Rattle.file_views.specs.SoundShapes.{numbers}
 use Rattle.file_views.specs.SoundRequests.{Asking}
-use Rattle.file_views.proofs.MemberLaws.{Made, in_left, in_right, in_join, in_last, last_in, in_with, in_without, in_filter, with_in, in_map, held_found, unique_filter}
+use Rattle.file_views.proofs.MemberLaws.{in_left, in_join, in_last, last_in, in_with, in_without, in_filter, with_in, unique_filter}
 use Rattle.file_views.proofs.EffectLaws.{by_kernel, count_set, client_set, client_other, things_begin, call_in_things}
-use Rattle.file_views.proofs.ClientLaws.{choose, choose_by}
-use Rattle.file_views.proofs.ShapeStepLaws.{still_client, serve_keeps, number_of, apart_from}
-use Rattle.file_views.proofs.DataLaws.{alike_done}
-use Rattle.file_views.proofs.AskingLaws.{Stood, Stand, asking_calls, Waits, asking_waits, asking_risen, Begins, asking_begins, held_with, none_fewer, none_cleaned, done_absent, missing_absent}
+use Rattle.file_views.proofs.ClientLaws.{choose}
+use Rattle.file_views.proofs.ShapeStepLaws.{serve_keeps, number_of, apart_from}
+use Rattle.file_views.proofs.AskingLaws.{Stood, Stand, asking_calls, Begins, asking_begins}
 
 abbrev pub FlatAsking : Setting → View → Type 0
 FlatAsking z v = (kernel : ℕ) → IsClient (length v.clients) kernel → Asking z kernel (client v kernel) (things v)
@@ -49,7 +28,7 @@ pub record Quiet (v w : View) : Type 0 where
   pub clients : w.clients ≡ v.clients
   pub stand : (kernel : ℕ) → 1 ≤ kernel → kernel ≤ 15 → Stand kernel (things v) (things w)
 
-stood_self : (one : FileCall) (calls : List FileCall) → In one calls → Stood one calls
+pub stood_self : (one : FileCall) (calls : List FileCall) → In one calls → Stood one calls
 stood_self one calls m = record { other = one; there = m; number_is = refl; from_is = refl; body_is = refl }
 
 quiet_on : (v w x : View) → Quiet v w → Quiet w x → Quiet v x
@@ -62,7 +41,7 @@ quiet_less : (v w : View) → w.clients ≡ v.clients → ((one : FileCall) → 
 quiet_less v w c less = record { clients = c; stand = λ kernel l h one m e. stood_self one (things v) (less one m) }
 
 -- a call is answered
-quiet_with : (v w : View) (one : FileCall) (reply : FileBody) → In one v.calls → w.clients ≡ v.clients → w.calls ≡ with_call (replied one reply) v.calls → w.carried ≡ v.carried → Quiet v w
+pub quiet_with : (v w : View) (one : FileCall) (reply : FileBody) → In one v.calls → w.clients ≡ v.clients → w.calls ≡ with_call (replied one reply) v.calls → w.carried ≡ v.carried → Quiet v w
 quiet_with v w one reply m c e k = record {
   clients = c;
   stand = λ kernel l h x n q. elim (in_join x (map as_call w.carried) w.calls n) [

@@ -43,3 +43,4 @@ pub mod CoherentLaws
 pub mod AskingLaws
 pub mod AskingStepLaws
 pub mod AskingDataLaws
+pub mod AskingMoveLaws

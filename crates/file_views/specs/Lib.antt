@@ -31,3 +31,4 @@ pub mod DecisionLaw
 pub mod ModeLaw
 pub mod HolderLaw
 pub mod LayerLaw
+pub mod AskingLaw

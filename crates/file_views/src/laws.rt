@@ -1,3 +1,4 @@
+ghost use Rattle.file_views.specs.AskingLaw.{AskingStay};
 ghost use Rattle.file_views.specs.DecisionLaw.{DecisionsStay};
 ghost use Rattle.file_views.specs.HolderLaw.{HoldersStay};
 ghost use Rattle.file_views.specs.LayerLaw.{LayersStay, PartsStay};
@@ -66,4 +67,11 @@ pub fn layers_stay()
 /// uncached and no callback is out, nobody is trusted with cached blocks. While callbacks are out, what asked waits, first of all.
 pub fn parts_stay()
     ensures { PartsStay }
+{}
+
+/// A law: in a new file and after any steps and moves of clients, a client that doesn't use its cache has no block; it has one unfinished
+/// fetch at most, and then something waits; a fetch with its own stamp is of an absent block before its end, while it uses its cache;
+/// and with an unfinished operation of its own stamp it doesn't use it. (This is the first part of the seventh layer.)
+pub fn asking_stays()
+    ensures { AskingStay }
 {}
