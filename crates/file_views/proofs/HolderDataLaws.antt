@@ -148,23 +148,16 @@ pub record Knowing (z : Setting) (v : View) : Type 0 where
   pub decided : FlatDecisions z v
   pub holders : FlatHolders v
 
+open_at : (z : Setting) (v : View) → Knowing z v → (kernel : ℕ) → IsClient (length v.clients) kernel → (stream : StreamNo) → has_stream stream (client v kernel).streams ≡ true → ((o : Open) → In o v.opens → o.kernel ≡ kernel → stream ≡ o.stream → writes o.mode ≡ true) → WriterAt (seat v kernel).opened (client v kernel).streams
+open_at z v t kernel i stream h f =
+    let c = t.streams.counts kernel i stream in
+    let n = has_some stream (client v kernel).streams h in
+    let o : OpenAt stream kernel v.opens = open_there stream kernel v.opens (omega (arith, c, n)) in
+    record { one = o.one; there = filter_in (λ (y : Open). y.kernel == kernel) o.one v.opens o.there (eq-eqb o.one.kernel kernel o.kernel_is); writing = f o.one o.there o.kernel_is o.stream_is; has = subst (λ y. has_stream y (client v kernel).streams ≡ true) o.stream_is h }
+
 writer_at : (z : Setting) (v : View) → Knowing z v → (kernel : ℕ) → IsClient (length v.clients) kernel → (step : FileStep) → is_writing step ≡ true → StepOpen kernel (client v kernel).streams v.opens step → WriterAt (seat v kernel).opened (client v kernel).streams
-writer_at z v t kernel i (act.Writing pid number place stream from bytes) w s = open_at stream (s.installed stream (same_self stream)) (λ o m k q. s.writing refl o m k (ap (λ x. works_on x (act.Writing pid number place stream from bytes)) (sym q) ∙ same_self stream))
-  where
-    open_at : (stream : StreamNo) → has_stream stream (client v kernel).streams ≡ true → ((o : Open) → In o v.opens → o.kernel ≡ kernel → stream ≡ o.stream → writes o.mode ≡ true) → WriterAt (seat v kernel).opened (client v kernel).streams
-    open_at x h f =
-        let c = t.streams.counts kernel i x in
-        let n = has_some x (client v kernel).streams h in
-        let o : OpenAt x kernel v.opens = open_there x kernel v.opens (omega (arith, c, n)) in
-        record { one = o.one; there = filter_in (λ (y : Open). y.kernel == kernel) o.one v.opens o.there (eq-eqb o.one.kernel kernel o.kernel_is); writing = f o.one o.there o.kernel_is o.stream_is; has = subst (λ y. has_stream y (client v kernel).streams ≡ true) o.stream_is h }
-writer_at z v t kernel i (act.Append pid number place stream bytes) w s = open_at stream (s.installed stream (same_self stream)) (λ o m k q. s.writing refl o m k (ap (λ x. works_on x (act.Append pid number place stream bytes)) (sym q) ∙ same_self stream))
-  where
-    open_at : (stream : StreamNo) → has_stream stream (client v kernel).streams ≡ true → ((o : Open) → In o v.opens → o.kernel ≡ kernel → stream ≡ o.stream → writes o.mode ≡ true) → WriterAt (seat v kernel).opened (client v kernel).streams
-    open_at x h f =
-        let c = t.streams.counts kernel i x in
-        let n = has_some x (client v kernel).streams h in
-        let o : OpenAt x kernel v.opens = open_there x kernel v.opens (omega (arith, c, n)) in
-        record { one = o.one; there = filter_in (λ (y : Open). y.kernel == kernel) o.one v.opens o.there (eq-eqb o.one.kernel kernel o.kernel_is); writing = f o.one o.there o.kernel_is o.stream_is; has = subst (λ y. has_stream y (client v kernel).streams ≡ true) o.stream_is h }
+writer_at z v t kernel i (act.Writing pid number place stream from bytes) w s = open_at z v t kernel i stream (s.installed stream (same_self stream)) (λ o m k q. s.writing refl o m k (ap (λ x. works_on x (act.Writing pid number place stream from bytes)) (sym q) ∙ same_self stream))
+writer_at z v t kernel i (act.Append pid number place stream bytes) w s = open_at z v t kernel i stream (s.installed stream (same_self stream)) (λ o m k q. s.writing refl o m k (ap (λ x. works_on x (act.Append pid number place stream bytes)) (sym q) ∙ same_self stream))
 writer_at z v t kernel i step w s = absurd (cc (w))
 
 -- who answered a callback and uses its cache has no stream to write with
