@@ -32,6 +32,7 @@ use Rattle.file_views.proofs.DecisionLaws.{CallIn, busy_call}
 use Rattle.file_views.proofs.DecisionStepLaws.{no_mode_on, steps_keep_decisions, moves_keep_decisions, new_has_decisions}
 use Rattle.file_views.proofs.ModeStepLaws.{steps_keep_modes, moves_keep_modes, new_has_modes}
 use Rattle.file_views.proofs.HolderLaws.{flat_holders}
+use Rattle.file_views.proofs.AskingMoveLaws.{steps_keep_asking, moves_keep_asking, new_has_asking}
 use Rattle.file_views.proofs.HolderStepLaws.{steps_keep_holders, moves_keep_holders, new_has_holders}
 
 -- no callback is out where no kernel was given On and the file isn't uncached
@@ -68,6 +69,7 @@ layers_moved z v other e n l = record {
   decisions = moves_keep_decisions z v other e l.decisions;
   modes = moves_keep_modes z v other e l.shapes l.stamps l.modes;
   holders = moves_keep_holders z v other e l.shapes l.streams l.stamps l.decisions l.modes l.holders;
+  asking = moves_keep_asking z v other e l.shapes l.asking;
 }
 
 layers_move : (z : Setting) (v : View) (other : ClientMove) → may_move z v other ≡ true → Layers z v → Layers z (after_move z v other)
@@ -88,6 +90,7 @@ layers_happened z v (Step step) l = record {
   decisions = steps_keep_decisions z v step l.shapes l.decisions;
   modes = steps_keep_modes z v step l.shapes l.streams l.stamps l.decisions l.modes;
   holders = steps_keep_holders z v step l.shapes l.streams l.stamps l.decisions l.modes l.holders;
+  asking = steps_keep_asking z v step l.shapes l.stamps l.asking;
 }
 layers_happened z v (Move other) l = choose_by (Layers z) (may_move z v other) (after_move z v other) v (λ e. layers_move z v other e l) (λ e. l)
 
@@ -103,6 +106,7 @@ layers_stay z count bytes happenings low high = layers_all z happenings (new_vie
   decisions = new_has_decisions z count bytes;
   modes = new_has_modes count bytes;
   holders = new_has_holders count bytes;
+  asking = new_has_asking z count bytes;
 })
 
 -- while callbacks are out what asked waits

@@ -1,4 +1,4 @@
--- The first six layers of soundness hold after any steps and moves of clients, from a new file on.
+-- The first six layers of soundness, and of the seventh what is on fetches and operations, hold after any steps and moves of clients, from a new file on.
 use Rattle.std.specs.Prelude.{◌≡◌, ◌≤◌, ℕ, true, if◌then◌else◌, List, [], ◌∷◌}
 use Rattle.file_views.specs.declared.step.FileStep.{FileStep}
 use Rattle.file_views.specs.declared.moves.ClientMove.{ClientMove}
@@ -14,6 +14,7 @@ use Rattle.file_views.specs.SoundStamps.{Stamps}
 use Rattle.file_views.specs.SoundDecisions.{Decisions}
 use Rattle.file_views.specs.SoundModes.{Modes}
 use Rattle.file_views.specs.SoundHolders.{Holders}
+use Rattle.file_views.specs.AskingLaw.{EachAsks}
 
 -- what happens to a file: a step, or a move of a client
 pub data Happening : Type 0 where
@@ -36,6 +37,7 @@ pub record Layers (z : Setting) (v : View) : Type 0 where
   pub decisions : Decisions z v
   pub modes : Modes v
   pub holders : Holders v
+  pub asking : EachAsks z v
 
 pub record LayersStay : Type 0 where
   pub layers : (z : Setting) (count : ℕ) (bytes : List ℕ) (happenings : List Happening) → 1 ≤ count → count ≤ 15 → Layers z (all_happened z (new_view count bytes) happenings)

@@ -56,7 +56,8 @@ pub fn holders_stay()
 {}
 
 /// A law: after any list of steps and of moves of clients, from a new file with one to fifteen clients on, the first six layers of
-/// soundness hold together. (No step and no move has a premise beyond its being possible.)
+/// soundness and the seventh's facts on fetches and operations hold together. (No step and no move has a premise beyond its being
+/// possible.)
 pub fn layers_stay()
     ensures { LayersStay }
 {}
