@@ -29,13 +29,13 @@ pub record Carries (P : View → Type 0) : Type 0 where
   pub client : (v : View) (kernel : ℕ) (c : Client) → P v → IsClient (length v.clients) kernel → Alike (client v kernel) c → P (set_client v kernel c)
   pub begins : (v : View) (kernel : ℕ) (body : FileBody) (dirty : Option ℕ) → P v → IsClient (length v.clients) kernel → is_callback body ≡ false → P (begin v kernel server body dirty)
 
-op_no_call : (stamp : ℕ) (step : FileStep) → is_callback (op_of stamp step) ≡ false
+pub op_no_call : (stamp : ℕ) (step : FileStep) → is_callback (op_of stamp step) ≡ false
 op_no_call stamp (act.Reading pid number kernel stream from many) = refl
 op_no_call stamp (act.Writing pid number kernel stream from bytes) = refl
 op_no_call stamp (act.Append pid number kernel stream bytes) = refl
 op_no_call stamp step = refl
 
-alike_done : (z : Setting) (c : Client) (step : FileStep) → Alike c (done_cached z c step)
+pub alike_done : (z : Setting) (c : Client) (step : FileStep) → Alike c (done_cached z c step)
 alike_done z c (act.Writing pid number kernel stream from bytes) = record { stamp = refl; mode = refl; version = refl; streams = refl }
 alike_done z c (act.Append pid number kernel stream bytes) = choose (Alike c) (nat_lt z.most (c.size + length bytes)) c (write_cached z c c.size bytes) (alike_self c) (record { stamp = refl; mode = refl; version = refl; streams = refl })
 alike_done z c step = alike_self c

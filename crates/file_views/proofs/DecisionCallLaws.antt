@@ -104,7 +104,7 @@ pub client_kernel : (v : View) (kernel : ℕ) → IsClient (length v.clients) ke
 client_kernel v kernel i = numbers_in 1 (length v.clients) kernel i.0 (let h = i.1 in omega (arith, h))
 
 -- it is known whether the file is uncached, and nobody is called back
-told_is : (z : Setting) (v : View) (one : FileCall) (b : Bool) → uncached_after z v one ≡ b → b ≡ false → uncached_after z (told v b) one ≡ false
+pub told_is : (z : Setting) (v : View) (one : FileCall) (b : Bool) → uncached_after z v one ≡ b → b ≡ false → uncached_after z (told v b) one ≡ false
 told_is z v one b e u = ap (λ c. makes_uncached z c v.shared v.opens one) u ∙ (neither v.uncached (makes_uncached z false v.shared v.opens one) (e ∙ u)).1
 
 pub ruled_told : (z : Setting) (v : View) (one : FileCall) (b : Bool) → uncached_after z v one ≡ b → [] ≡ filter (is_called b v one) (kernels v) → Ruled v → Ruled (told v b)

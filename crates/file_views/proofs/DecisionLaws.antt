@@ -101,7 +101,7 @@ quiet_call calls n c = cc (n c.call c.there, c.is_call)
 pub busy_quiet : (v : View) → NoCall v → busy v ≡ true → ⊥
 busy_quiet v n e = quiet_call v.calls n (busy_call v.calls e)
 
-same_first : (first one : FileCall) (rest others : List FileCall) → first ∷ rest ≡ one ∷ others → first ≡ one
+pub same_first : (first one : FileCall) (rest others : List FileCall) → first ∷ rest ≡ one ∷ others → first ≡ one
 same_first first one rest others e = cc (e)
 
 pub decisions_of : (z : Setting) (v : View) → FlatDecisions z v → Decisions z v

@@ -131,7 +131,7 @@ taken_stays : (opens : List Open) (stream : StreamNo) (kernel grants : ℕ) (x :
 taken_stays [] stream kernel grants x k m = absurd m
 taken_stays (o ∷ opens) stream kernel grants x k m = taken_first x o opens stream kernel grants (is_open stream kernel o) (nat_le o.count grants) refl k (taken_stays opens stream kernel grants x k) m
 
-left_stays : (opens : List Open) (stream : StreamNo) (source grants : ℕ) (kept : Bool) (x : Open) → is_open stream source x ≡ false → In x opens → In x (left_by opens stream source kept grants)
+pub left_stays : (opens : List Open) (stream : StreamNo) (source grants : ℕ) (kept : Bool) (x : Open) → is_open stream source x ≡ false → In x opens → In x (left_by opens stream source kept grants)
 left_stays opens stream source grants true x k m = m
 left_stays opens stream source grants false x k m = taken_stays opens stream source grants x k m
 
@@ -167,7 +167,7 @@ settled_stays v source (form.Move stream place kept grants) a r s e = elim (bool
 settled_stays v source body a r s e = absurd (cc (a))
 
 -- an open of another kernel than the receiver stood there before
-left_before : (opens : List Open) (stream : StreamNo) (source grants : ℕ) (kept : Bool) (x : Open) → In x (left_by opens stream source kept grants) → Left x opens
+pub left_before : (opens : List Open) (stream : StreamNo) (source grants : ℕ) (kept : Bool) (x : Open) → In x (left_by opens stream source kept grants) → Left x opens
 left_before opens stream source grants true x m = record { before = x; there = m; stream_is = refl; kernel_is = refl; mode_is = refl; counts = λ l. l }
 left_before opens stream source grants false x m = left_in opens stream source grants x m
 

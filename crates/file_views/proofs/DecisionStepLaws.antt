@@ -43,7 +43,7 @@ use Rattle.file_views.proofs.DecisionLaws.{FlatDecisions, flat_decisions, decisi
 use Rattle.file_views.proofs.DecisionCallLaws.{decisions_request, decisions_resumed}
 
 -- what a client does, and what it begins
-decisions_client : (z : Setting) (v : View) (kernel : ℕ) (c : Client) → FlatDecisions z v → FlatDecisions z (set_client v kernel c)
+pub decisions_client : (z : Setting) (v : View) (kernel : ℕ) (c : Client) → FlatDecisions z v → FlatDecisions z (set_client v kernel c)
 decisions_client z v kernel c d = decisions_stay_by z v (set_client v kernel c) (stays_client v kernel c) d
 
 decisions_begin : (z : Setting) (v : View) (kernel : ℕ) (body : FileBody) (dirty : Option ℕ) → is_callback body ≡ false → FlatDecisions z v → FlatDecisions z (begin v kernel server body dirty)
@@ -61,7 +61,7 @@ answered_waits one h = by_reply one.taken one.reply h
     by_reply false (Some reply) e = refl
     by_reply taken None e = absurd (cc (e))
 
-decisions_remove : (z : Setting) (v : View) (one : FileCall) → Flat v → In one v.calls → is_some one.reply ≡ true → is_callback one.body ≡ false → FlatDecisions z v → FlatDecisions z (remove_call v one.number)
+pub decisions_remove : (z : Setting) (v : View) (one : FileCall) → Flat v → In one v.calls → is_some one.reply ≡ true → is_callback one.body ≡ false → FlatDecisions z v → FlatDecisions z (remove_call v one.number)
 decisions_remove z v one f m s n d = decisions_stay_by z v (remove_call v one.number) (stays_remove v one (calls_apart v f.numbered.differ) m (answered_waits one s) n) d
 
 decisions_carried : (z : Setting) (v : View) (carried : List Carry) → FlatDecisions z v → FlatDecisions z (record v { carried = carried })
@@ -170,7 +170,7 @@ pub steps_keep_decisions : (z : Setting) (v : View) (step : FileStep) → Shapes
 steps_keep_decisions z v step s d = choose_by (Decisions z) (possible z v step) (after z v step) v (λ e. decisions_of z (after z v step) (decisions_after z v step (and_parts (has_room v) (may_do z v step) e).1 (flat_of v s) (flat_decisions z v d))) (λ e. d)
 
 -- a client's moves
-no_mode_on : (modes : List CacheMode) (i : ℕ) → list_any is_on modes ≡ false → is_on (slice_index_or modes i cache.None) ≡ false
+pub no_mode_on : (modes : List CacheMode) (i : ℕ) → list_any is_on modes ≡ false → is_on (slice_index_or modes i cache.None) ≡ false
 no_mode_on [] i e = refl
 no_mode_on (mode ∷ modes) zero e = (neither (is_on mode) _ e).0
 no_mode_on (mode ∷ modes) (suc i) e = no_mode_on modes i (neither (is_on mode) _ e).1

@@ -14,7 +14,7 @@ use Rattle.file_views.specs.Views.{server, kernels, client, mode_given, grant_gi
 use Rattle.file_views.specs.Grants.{asks, uncached_after, is_called, kind_of_calls, called_kernels, settle, told, deciding, decide, current_grant}
 use Rattle.file_views.specs.Serving.{close, op_reply, bytes_after, block_of, refuse_old, serve_body, serve, serve_all, request_comes, resume, resumed}
 use Rattle.file_views.specs.Settled.{goes_of, goes_to, arrival}
-use Rattle.file_views.specs.Here.{In, IsClient}
+use Rattle.file_views.specs.Here.{In, IsClient, Arrives, asked_stream}
 use Rattle.file_views.specs.SoundShapes.{Answers, Shaped}
 use Rattle.file_views.specs.SoundModes.{SameNewer}
 use Rattle.file_views.specs.SoundStreams.{counted_at, on_way_of, on_way}
@@ -39,7 +39,7 @@ use Rattle.file_views.proofs.ModeChangeLaws.{dues_answer, modes_same, modes_take
 use Rattle.file_views.proofs.ModeGrantLaws.{modes_settle, moding_call_back, same_current}
 
 -- what is on its way is open
-total_in : {X : Type 0} (f : X → ℕ) (xs : List X) (x : X) → In x xs → 1 ≤ f x → 1 ≤ total f xs
+pub total_in : {X : Type 0} (f : X → ℕ) (xs : List X) (x : X) → In x xs → 1 ≤ f x → 1 ≤ total f xs
 total_in f [] x m l = absurd m
 total_in f (y ∷ ys) x (inl e) l = let same : f x ≡ f y = ap f e in omega (arith, l, same)
 total_in f (y ∷ ys) x (inr m) l = let r = total_in f ys x m l in omega (arith, r)
@@ -52,10 +52,11 @@ counted_one false b p q = absurd (cc (p))
 record OnWay (source : ℕ) (body reply : FileBody) : Type 0 where
   stream : StreamNo
   counts : 1 ≤ on_way_of stream (goes_of source body) source body (Some reply)
+  asked : asked_stream body ≡ Some stream
 
 way_arrives : (source : ℕ) (body reply : FileBody) (grant : FileGrant) → Answers body reply → arrival (Some reply) ≡ Some grant → OnWay source body reply
-way_arrives source (form.Opening pid number stream mode truncate) reply grant a r = record { stream = stream; counts = counted_one (source == source) (same_stream stream stream) (eq-eqb source source refl) (same_self stream) }
-way_arrives source (form.Move stream place kept grants) reply grant a r = record { stream = stream; counts = counted_one (place == place) (same_stream stream stream) (eq-eqb place place refl) (same_self stream) }
+way_arrives source (form.Opening pid number stream mode truncate) reply grant a r = record { stream = stream; counts = counted_one (source == source) (same_stream stream stream) (eq-eqb source source refl) (same_self stream); asked = refl }
+way_arrives source (form.Move stream place kept grants) reply grant a r = record { stream = stream; counts = counted_one (place == place) (same_stream stream stream) (eq-eqb place place refl) (same_self stream); asked = refl }
 way_arrives source (form.Close stream grants) form.Done grant a r = absurd (cc (r))
 way_arrives source (form.Close stream grants) reply grant a r = absurd a
 way_arrives source (form.Op pid number stamp stream way) (form.Value first second piece) grant a r = absurd (cc (r))
@@ -73,23 +74,31 @@ way_arrives source (form.Callback stamp kind) reply grant a r = absurd a
 way_arrives source body reply grant a r = absurd a
 
 -- a grant that is on its way is counted for its kernel
-pub arrival_open : (v : View) → Flat v → FlatStreams v → (one : FileCall) → In one (things v) → (grant : FileGrant) → arrival one.reply ≡ Some grant → is_any v.opens ≡ true
-arrival_open v f s one m grant a = by_place (in_things v one m)
-  where
-    open_by : (stream : StreamNo) → 1 ≤ on_way stream (goes_to one) one → is_any v.opens ≡ true
-    open_by stream l =
-        let c = s.counts (goes_to one) (goes_client v f one m grant a) stream in
-        let t = total_in (on_way stream (goes_to one)) (things v) one m l in
-        let o : OpenAt stream (goes_to one) v.opens = open_there stream (goes_to one) v.opens (omega (arith, c, t)) in
-        some_any o.one v.opens o.there
+pub record OpenFor (v : View) (kernel : ℕ) (one : FileCall) : Type 0 where
+  pub stream : StreamNo
+  pub asked : asked_stream one.body ≡ Some stream
+  pub counts : 1 ≤ on_way stream kernel one
+  pub at : OpenAt stream kernel v.opens
 
-    by_place : Made as_call one v.carried ⊎ In one v.calls → is_any v.opens ≡ true
-    by_place (inl r) = open_by r.x.stream (subst (λ (x : FileCall). 1 ≤ on_way r.x.stream (goes_to x) x) (sym r.makes) (counted_one (r.x.to == r.x.to) (same_stream r.x.stream r.x.stream) (eq-eqb r.x.to r.x.to refl) (same_self r.x.stream)))
+pub arrival_there : (v : View) → Flat v → FlatStreams v → (one : FileCall) → In one (things v) → (kernel : ℕ) (grant : FileGrant) → Arrives kernel one grant → OpenFor v kernel one
+arrival_there v f s one m kernel grant a = subst (λ k. OpenFor v k one) a.0 (by_place (in_things v one m))
+  where
+    open_by : (stream : StreamNo) → asked_stream one.body ≡ Some stream → 1 ≤ on_way stream (goes_to one) one → OpenFor v (goes_to one) one
+    open_by stream q l =
+        let c = s.counts (goes_to one) (goes_client v f one m grant a.1) stream in
+        let t = total_in (on_way stream (goes_to one)) (things v) one m l in
+        record { stream = stream; asked = q; counts = l; at = open_there stream (goes_to one) v.opens (omega (arith, c, t)) }
+
+    by_place : Made as_call one v.carried ⊎ In one v.calls → OpenFor v (goes_to one) one
+    by_place (inl r) = open_by r.x.stream (ap (λ (x : FileCall). asked_stream x.body) r.makes) (subst (λ (x : FileCall). 1 ≤ on_way r.x.stream (goes_to x) x) (sym r.makes) (counted_one (r.x.to == r.x.to) (same_stream r.x.stream r.x.stream) (eq-eqb r.x.to r.x.to refl) (same_self r.x.stream)))
     by_place (inr n) =
         let h : Shaped (length v.clients) one = f.calls one n in
-        let r = reply_of_arrival one.reply grant a in
-        let w : OnWay one.from one.body r.0 = way_arrives one.from one.body r.0 grant (h.fits r.0 r.1) (sym (ap arrival r.1) ∙ a) in
-        open_by w.stream (subst (λ (x : Option FileBody). 1 ≤ on_way_of w.stream (goes_to one) one.from one.body x) (sym r.1) w.counts)
+        let r = reply_of_arrival one.reply grant a.1 in
+        let w : OnWay one.from one.body r.0 = way_arrives one.from one.body r.0 grant (h.fits r.0 r.1) (sym (ap arrival r.1) ∙ a.1) in
+        open_by w.stream w.asked (subst (λ (x : Option FileBody). 1 ≤ on_way_of w.stream (goes_to one) one.from one.body x) (sym r.1) w.counts)
+
+pub arrival_open : (v : View) → Flat v → FlatStreams v → (one : FileCall) → In one (things v) → (grant : FileGrant) → arrival one.reply ≡ Some grant → is_any v.opens ≡ true
+arrival_open v f s one m grant a = let o : OpenFor v (goes_to one) one = arrival_there v f s one m (goes_to one) grant (refl, a) in some_any o.at.one v.opens o.at.there
 
 -- a request is answered
 modes_answer : (v w : View) (one : FileCall) (reply : FileBody) → Flat v → FlatStamps v → FlatModes v → In one v.calls → one.reply ≡ None → is_callback one.body ≡ false → w.clients ≡ v.clients → w.stamps ≡ v.stamps → w.modes ≡ v.modes → w.given ≡ v.given → w.uncached ≡ v.uncached → w.carried ≡ v.carried → w.calls ≡ with_call (replied one reply) v.calls → arrival (Some reply) ≡ None →
@@ -111,7 +120,7 @@ modes_close v one stream grants f s p m n c g t kernel i =
     (modes_answer v (answer v one form.Done) one form.Done f s p m n c refl refl refl refl refl refl refl refl (λ grant e. absurd (cc (e))) kernel i)
 
 -- an open or a move is decided
-modes_told : (v : View) (b : Bool) → (v.uncached ≡ true → b ≡ true) → FlatModes v → FlatModes (told v b)
+pub modes_told : (v : View) (b : Bool) → (v.uncached ≡ true → b ≡ true) → FlatModes v → FlatModes (told v b)
 modes_told v b u p kernel i = modes_told_off kernel (own_stamp v kernel) (current_stamp v kernel) (client v kernel).mode (mode_given v kernel) (grant_given v kernel) v.uncached b (things v) (λ one m grant a l o. u) (p kernel i)
 
 modes_decided_by : (z : Setting) (v : View) (one : FileCall) (b : Bool) → uncached_after z v one ≡ b → (called : List ℕ) → called ≡ filter (is_called b v one) (kernels v) → Flat v → FlatStamps v → Ruled v → FlatModes v → In one v.calls → one.reply ≡ None → NoCall v → asks one.body ≡ true → FlatModes (deciding (told v b) one (kind_of_calls b) called)
@@ -155,7 +164,7 @@ pub record Stage (z : Setting) (waiting : List FileCall) (v : View) : Type 0 whe
 pub unreplied : (v : View) (one : FileCall) (rest : List FileCall) → waiting_calls v ≡ one ∷ rest → one.reply ≡ None
 unreplied v one rest w = no_reply one.reply (and_parts one.taken (is_none one.reply) (in_filter waits one v.calls (subst (In one) (sym w) (inl refl))).1).1
 
-stage_serve : (z : Setting) (v : View) (one : FileCall) (rest : List FileCall) → NoCall v → waiting_calls v ≡ one ∷ rest → Stage z (one ∷ rest) v → Stage z rest (serve z v one)
+pub stage_serve : (z : Setting) (v : View) (one : FileCall) (rest : List FileCall) → NoCall v → waiting_calls v ≡ one ∷ rest → Stage z (one ∷ rest) v → Stage z rest (serve z v one)
 stage_serve z v one rest none w t =
     let m : In one v.calls = first_waits v one rest w in
     let n : one.reply ≡ None = unreplied v one rest w in

@@ -65,7 +65,7 @@ pub record Standing (z : Setting) (v : View) : Type 0 where
   pub decided : FlatDecisions z v
   pub modes : FlatModes v
 
-moding_of : (z : Setting) (v : View) → Standing z v → Moding v
+pub moding_of : (z : Setting) (v : View) → Standing z v → Moding v
 moding_of z v t = record { under = under_of v t.stamps; modes = t.modes }
 
 -- a grant comes with a stream
@@ -118,7 +118,7 @@ modes_arrives_carried z v carry grant c t m a p q = modes_taking v (set_client (
     same_stamp other b = let e : other ≡ grant = cc (a, b) in ap (λ (x : FileGrant). x.stamp) e
 
 -- an Again comes
-modes_again : (z : Setting) (v : View) (one : FileCall) (grant : FileGrant) → Standing z v → In one v.calls → one.taken ≡ true → IsClient (length v.clients) one.from → one.reply ≡ Some (form.Again grant) → Moding (grant_comes (remove_call v one.number) one.from grant)
+pub modes_again : (z : Setting) (v : View) (one : FileCall) (grant : FileGrant) → Standing z v → In one v.calls → one.taken ≡ true → IsClient (length v.clients) one.from → one.reply ≡ Some (form.Again grant) → Moding (grant_comes (remove_call v one.number) one.from grant)
 modes_again z v one grant t m k i r = record {
   under = under_of (grant_comes (remove_call v one.number) one.from grant) (two_grant (remove_call v one.number) one.from grant (two_removed v one two m) i (told_again v one grant two m r)).stamps;
   modes = modes_taking v (grant_comes (remove_call v one.number) one.from grant) one one.from grant (record {
@@ -143,7 +143,7 @@ modes_again z v one grant t m k i r = record {
     two = record { flat = t.flat; stamps = t.stamps }
 
 -- a reply to no open and no move brings no grant of a stream
-brings_none : (body reply : FileBody) → Answers body reply → asks body ≡ false → arrival (Some reply) ≡ None
+pub brings_none : (body reply : FileBody) → Answers body reply → asks body ≡ false → arrival (Some reply) ≡ None
 brings_none (form.Opening pid number stream mode truncate) reply a n = absurd (cc (n))
 brings_none (form.Move stream place kept grants) reply a n = absurd (cc (n))
 brings_none (form.Close stream grants) form.Done a n = refl
@@ -163,7 +163,7 @@ brings_none (form.Callback stamp kind) reply a n = absurd a
 brings_none body reply a n = absurd a
 
 -- replies come
-modes_finished : (z : Setting) (v : View) (one : FileCall) → Standing z v → In one v.calls → one.taken ≡ true → asks one.body ≡ false → Moding (remove_call v one.number)
+pub modes_finished : (z : Setting) (v : View) (one : FileCall) → Standing z v → In one v.calls → one.taken ≡ true → asks one.body ≡ false → Moding (remove_call v one.number)
 modes_finished z v one t m k n = moding_remove v one t.flat.numbered.differ m k (by_reply one.reply refl) (moding_of z v t)
   where
     by_reply : (reply : Option FileBody) → one.reply ≡ reply → arrival reply ≡ None
@@ -228,7 +228,7 @@ modes_at_client z v one (form.Callback stamp kind) e k n t m = modes_called v on
 modes_at_client z v one body e k n t m = t.modes
 
 -- a request or a reply comes
-unanswered : (v : View) (one : FileCall) → Flat v → In one v.calls → one.taken ≡ false → one.reply ≡ None
+pub unanswered : (v : View) (one : FileCall) → Flat v → In one v.calls → one.taken ≡ false → one.reply ≡ None
 unanswered v one f m k = by_reply one.reply refl
   where
     by_reply : (reply : Option FileBody) → one.reply ≡ reply → reply ≡ None

@@ -195,7 +195,7 @@ same_holder : (holder : Option ℕ) (x y : ℕ) → is_kernel x holder ≡ true 
 same_holder (Some holder) x y a b = sym (eqb-true holder x a) ∙ eqb-true holder y b
 same_holder None x y a b = absurd (cc (a))
 
-unique_kept : (p : ℕ → Bool) (xs : List ℕ) → Unique xs → Unique (filter p xs)
+pub unique_kept : (p : ℕ → Bool) (xs : List ℕ) → Unique xs → Unique (filter p xs)
 unique_kept p [] u = tt
 unique_kept p (x ∷ xs) u = first (p x) (unique_kept p xs u.1)
   where
@@ -203,7 +203,7 @@ unique_kept p (x ∷ xs) u = first (p x) (unique_kept p xs u.1)
     first true h = (λ m. u.0 (in_filter p x xs m).0, h)
     first false h = h
 
-unique_numbers : (first count : ℕ) → Unique (numbers_from first count)
+pub unique_numbers : (first count : ℕ) → Unique (numbers_from first count)
 unique_numbers first zero = tt
 unique_numbers first (suc count) = (λ m. let r = (in_numbers (first + 1) count first m).0 in omega (arith, r), unique_numbers (first + 1) count)
 
@@ -215,7 +215,7 @@ stop_told : (b : Bool) → kind_of_calls b ≡ Stop → b ≡ true
 stop_told true e = refl
 stop_told false e = absurd (cc (e))
 
-one_recalled : (v : View) (one : FileCall) (b : Bool) (x y : ℕ) → b ≡ false → is_called b v one x ≡ true → is_called b v one y ≡ true → x ≡ y
+pub one_recalled : (v : View) (one : FileCall) (b : Bool) (x y : ℕ) → b ≡ false → is_called b v one x ≡ true → is_called b v one y ≡ true → x ≡ y
 one_recalled v one true x y e p q = absurd (cc (e))
 one_recalled v one false x y e p q = same_holder v.holder x y (and_parts (is_holder v x) _ p).0 (and_parts (is_holder v y) _ q).0
 

@@ -73,7 +73,7 @@ done_streams z c (act.Writing pid number kernel stream from bytes) = refl
 done_streams z c (act.Append pid number kernel stream bytes) = choose (λ (x : Client). x.streams ≡ c.streams) (nat_lt z.most (c.size + length bytes)) c (write_cached z c c.size bytes) refl refl
 done_streams z c step = refl
 
-done_waiting : (z : Setting) (c : Client) (step : FileStep) → (done_cached z c step).waiting ≡ c.waiting
+pub done_waiting : (z : Setting) (c : Client) (step : FileStep) → (done_cached z c step).waiting ≡ c.waiting
 done_waiting z c (act.Writing pid number kernel stream from bytes) = refl
 done_waiting z c (act.Append pid number kernel stream bytes) = choose (λ (x : Client). x.waiting ≡ c.waiting) (nat_lt z.most (c.size + length bytes)) c (write_cached z c c.size bytes) refl refl
 done_waiting z c step = refl

@@ -29,3 +29,6 @@ pub mod StreamLaw
 pub mod StampLaw
 pub mod DecisionLaw
 pub mod ModeLaw
+pub mod HolderLaw
+pub mod LayerLaw
+pub mod AskingLaw

@@ -70,7 +70,7 @@ abbrev pub OpenForReading : List Open → FileCall → Type 0
 OpenForReading opened one = (other : Open) → In other opened → asked_stream one.body ≡ Some other.stream → writes other.mode ≡ false
 
 -- the grant that made the kernel the holder is on its way: of the newer grants On those up to one aren't the holder's, that one alone
--- gives the server's version and alone may be of a stream open for writing, and those behind it keep everything
+-- gives the server's version and alone is of a stream open for writing, and those behind it keep everything
 pub record Coming (kernel own seen version : ℕ) (opened : List Open) (calls : List FileCall) : Type 0 where
   pub call : FileCall
   pub grant : FileGrant
@@ -84,6 +84,7 @@ pub record Coming (kernel own seen version : ℕ) (opened : List Open) (calls : 
   pub writer : Open
   pub has_open : In writer opened
   pub writing : writes writer.mode ≡ true
+  pub asked : asked_stream call.body ≡ Some writer.stream
 
 -- newer grants On follow each other by version, from at least the client's own to the server's
 pub record Chained (kernel own seen version : ℕ) (calls : List FileCall) : Type 0 where
@@ -107,9 +108,10 @@ pub record HolderFacts (kernel own current seen version : ℕ) (now mode : Cache
   pub holder_state : holds ≡ true → Answered kernel calls ⊎ (((is_on mode ≡ true) ⊎ Stopped kernel calls) × (Ready kernel own seen version holds now calls ⊎ Coming kernel own seen version opened calls))
   -- a newer grant On of a holder goes to the holder
   pub holder_grants : EachNewer kernel own calls (λ one grant. grant.on ≡ true → grant.holder ≡ true → holds ≡ true)
-  -- who is being recalled may write, and was given On last, also once it answered
+  -- who is being recalled may write; it is the holder and was given On last, also once it answered
   pub recall_ready : Recalled kernel calls → Ready kernel own seen version holds now calls
   pub recall_on : (one : FileCall) → In one calls → one.to ≡ kernel → (stamp : ℕ) → one.body ≡ form.Callback stamp Recall → is_on mode ≡ true
+  pub recall_holds : (one : FileCall) → In one calls → one.to ≡ kernel → (stamp : ℕ) → one.body ≡ form.Callback stamp Recall → holds ≡ true
   -- who uses its cache, or will, and has a stream to write with may write
   pub writer_ready : Active kernel own now calls → EngagedToWrite kernel own streams opened calls → Ready kernel own seen version holds now calls
   -- who has a dirty block may write, and has answered no callback

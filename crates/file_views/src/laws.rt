@@ -1,4 +1,7 @@
+ghost use Rattle.file_views.specs.AskingLaw.{AskingStay};
 ghost use Rattle.file_views.specs.DecisionLaw.{DecisionsStay};
+ghost use Rattle.file_views.specs.HolderLaw.{HoldersStay};
+ghost use Rattle.file_views.specs.LayerLaw.{LayersStay, PartsStay};
 ghost use Rattle.file_views.specs.ModeLaw.{ModesStay};
 ghost use Rattle.file_views.specs.ShapeLaw.{ShapesStay};
 ghost use Rattle.file_views.specs.StampLaw.{StampsStay};
@@ -41,4 +44,35 @@ pub fn decisions_stay()
 /// uncached, to a client that doesn't use its cache and won't.
 pub fn modes_stay()
     ensures { ModesStay }
+{}
+
+/// A law: in a new file and after any steps and moves of clients, while there is a holder no other kernel has the file open, and each
+/// other client that uses its cache is at an older version; who has it open for writing and uses its cache, or will, is the holder;
+/// the holder may write, or will by the grant that made it the holder, or has answered its callback; who has a dirty block may
+/// write; newer grants follow each other by version, from at least the client's to the server's; and with equal stamps the modes
+/// agree.
+pub fn holders_stay()
+    ensures { HoldersStay }
+{}
+
+/// A law: after any list of steps and of moves of clients, from a new file with one to fifteen clients on, the first six layers of
+/// soundness and the seventh's facts on fetches and operations hold together. (No step and no move has a premise beyond its being
+/// possible.)
+pub fn layers_stay()
+    ensures { LayersStay }
+{}
+
+/// A law: after any list of steps and of moves of clients, from a new file with one to fifteen clients on, four of the seven parts of
+/// coherence hold. While the holder has dirty blocks that count, no other client with a stream uses its cache. A client's stamp is
+/// at most its current one, and less only while that is on its way to it, and with equal stamps the modes agree. While the file is
+/// uncached and no callback is out, nobody is trusted with cached blocks. While callbacks are out, what asked waits, first of all.
+pub fn parts_stay()
+    ensures { PartsStay }
+{}
+
+/// A law: in a new file and after any steps and moves of clients, a client that doesn't use its cache has no block; it has one unfinished
+/// fetch at most, and then something waits; a fetch with its own stamp is of an absent block before its end, while it uses its cache;
+/// and with an unfinished operation of its own stamp it doesn't use it. (This is the first part of the seventh layer.)
+pub fn asking_stays()
+    ensures { AskingStay }
 {}

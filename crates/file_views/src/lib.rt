@@ -18,7 +18,10 @@ pub use body::{Access, FileBody};
 pub use call::{Carry, FileCall};
 pub use client::{Client, Held};
 pub use grant::FileGrant;
-pub use laws::{decisions_stay, modes_stay, shapes_stay, stamps_stay, streams_stay};
+pub use laws::{
+    asking_stays, decisions_stay, holders_stay, layers_stay, modes_stay, parts_stay, shapes_stay,
+    stamps_stay, streams_stay,
+};
 pub use moves::ClientMove;
 pub use opens::Open;
 pub use step::FileStep;

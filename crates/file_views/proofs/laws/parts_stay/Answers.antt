@@ -1,0 +1,13 @@
+use Rattle.file_views.specs.Views.{new_view}
+use Rattle.file_views.specs.LayerLaw.{all_happened}
+use Rattle.file_views.proofs.LayerLaws.{layers_stay, waits_stay}
+use Rattle.file_views.proofs.CoherentLaws.{part_3_by, part_4_by, part_6_by}
+use Rattle.file_views.proofs.laws.parts_stay.Goals as goal
+
+pub returns : goal.returns
+returns c = record {
+  alone = λ z count bytes happenings low high. part_3_by z (all_happened z (new_view count bytes) happenings) (layers_stay z count bytes happenings low high);
+  stamps = λ z count bytes happenings low high. part_4_by z (all_happened z (new_view count bytes) happenings) (layers_stay z count bytes happenings low high);
+  nobody = λ z count bytes happenings low high. part_6_by z (all_happened z (new_view count bytes) happenings) (layers_stay z count bytes happenings low high);
+  waits = waits_stay;
+}

@@ -1,0 +1,50 @@
+-- The first six layers of soundness, and of the seventh what is on fetches and operations, hold after any steps and moves of clients, from a new file on.
+use Rattle.std.specs.Prelude.{◌≡◌, ◌≤◌, ℕ, true, if◌then◌else◌, List, [], ◌∷◌}
+use Rattle.file_views.specs.declared.step.FileStep.{FileStep}
+use Rattle.file_views.specs.declared.moves.ClientMove.{ClientMove}
+use Rattle.file_views.specs.declared.view.View.{View}
+use Rattle.file_views.specs.Setting.{Setting}
+use Rattle.file_views.specs.Views.{new_view}
+use Rattle.file_views.specs.Possible.{stepped}
+use Rattle.file_views.specs.Moves.{may_move, after_move}
+use Rattle.file_views.specs.Coherent.{part_3, part_4, part_6, asking_waits}
+use Rattle.file_views.specs.SoundShapes.{Shapes}
+use Rattle.file_views.specs.SoundStreams.{Streams}
+use Rattle.file_views.specs.SoundStamps.{Stamps}
+use Rattle.file_views.specs.SoundDecisions.{Decisions}
+use Rattle.file_views.specs.SoundModes.{Modes}
+use Rattle.file_views.specs.SoundHolders.{Holders}
+use Rattle.file_views.specs.AskingLaw.{EachAsks}
+
+-- what happens to a file: a step, or a move of a client
+pub data Happening : Type 0 where
+  Step : FileStep → Happening
+  Move : ClientMove → Happening
+
+-- the view after it; what isn't possible changes nothing
+abbrev pub happened : Setting → View → Happening → View
+happened z v (Step step) = stepped z v step
+happened z v (Move other) = if may_move z v other then after_move z v other else v
+
+abbrev pub all_happened : Setting → View → List Happening → View
+all_happened z v [] = v
+all_happened z v (one ∷ rest) = all_happened z (happened z v one) rest
+
+pub record Layers (z : Setting) (v : View) : Type 0 where
+  pub shapes : Shapes v
+  pub streams : Streams v
+  pub stamps : Stamps v
+  pub decisions : Decisions z v
+  pub modes : Modes v
+  pub holders : Holders v
+  pub asking : EachAsks z v
+
+pub record LayersStay : Type 0 where
+  pub layers : (z : Setting) (count : ℕ) (bytes : List ℕ) (happenings : List Happening) → 1 ≤ count → count ≤ 15 → Layers z (all_happened z (new_view count bytes) happenings)
+
+-- what of coherence follows: the third, the fourth, the sixth and the seventh part
+pub record PartsStay : Type 0 where
+  pub alone : (z : Setting) (count : ℕ) (bytes : List ℕ) (happenings : List Happening) → 1 ≤ count → count ≤ 15 → part_3 z (all_happened z (new_view count bytes) happenings) ≡ true
+  pub stamps : (z : Setting) (count : ℕ) (bytes : List ℕ) (happenings : List Happening) → 1 ≤ count → count ≤ 15 → part_4 (all_happened z (new_view count bytes) happenings) ≡ true
+  pub nobody : (z : Setting) (count : ℕ) (bytes : List ℕ) (happenings : List Happening) → 1 ≤ count → count ≤ 15 → part_6 z (all_happened z (new_view count bytes) happenings) ≡ true
+  pub waits : (z : Setting) (count : ℕ) (bytes : List ℕ) (happenings : List Happening) → 1 ≤ count → count ≤ 15 → asking_waits (all_happened z (new_view count bytes) happenings) ≡ true
