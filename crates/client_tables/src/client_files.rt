@@ -33,8 +33,8 @@ pub struct ClientFiles {
     pub next_stream: u32,
     /// What waits for something, at most one a process, in the order in which it began to wait for that.
     pub pending: Queue<Pid, Pending>,
-    /// The remote calls that have no answer yet, but for write-backs that go for no process: each with the process whose
-    /// operation waits for it.
+    /// The remote calls for whose answer an operation waits, each with the operation's process. A write-back is here only
+    /// where it is a `sync`'s own.
     pub txs: Queue<TxNo, Pid>,
     /// The write-backs that have no answer yet, each under its remote call.
     pub write_backs: Queue<TxNo, WriteBackOut>,

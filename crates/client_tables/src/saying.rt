@@ -60,8 +60,8 @@ impl ClientFiles {
         self.reply(about.pid, reply)
     }
 
-    /// Begins a remote call that waits for no process's sake alone, and gives its number. The one error is want of memory,
-    /// which is also the answer where no number is left.
+    /// Begins a remote call, and gives its number. The one error is want of memory, which is also the answer where no number
+    /// is left.
     pub fn send(
         &mut self,
         alloc: Global,

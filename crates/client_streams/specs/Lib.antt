@@ -1,0 +1,4 @@
+-- The definitions that the contracts cite.
+pub mod Descriptors
+pub mod Closing
+pub mod Moving
