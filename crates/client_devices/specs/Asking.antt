@@ -1,7 +1,6 @@
 -- Asks of pseudo-devices, from the call to its reply.
-use Rattle.std.specs.Prelude.{ℕ, ◌==◌, Bool, true, false, not, if◌then◌else◌, ◌&&◌, List, [], ◌∷◌, ◌++◌, Option, Some, None}
+use Rattle.std.specs.Prelude.{ℕ, ◌==◌, Bool, true, false, not, if◌then◌else◌, ◌&&◌, [], ◌∷◌, ◌++◌, Option, Some, None}
 use Rattle.sprite_ids.specs.declared.DeviceId.{DeviceId}
-use Rattle.sprite_ids.specs.declared.Errno.{Errno}
 use Rattle.sprite_ids.specs.declared.Errno.TheVariants as errnos
 use Rattle.sprite_ids.specs.declared.Mode.{Mode}
 use Rattle.sprite_ids.specs.declared.Mode.TheVariants as modes

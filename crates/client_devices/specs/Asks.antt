@@ -1,5 +1,5 @@
 -- Operations on pseudo-devices, as calls, as asks and as requests.
-use Rattle.std.specs.Prelude.{ℕ, ◌==◌, nat_le, nat_lt, Bool, ◌||◌, if◌then◌else◌, List, [], ◌++◌, drop, length, Option, Some, None}
+use Rattle.std.specs.Prelude.{ℕ, nat_le, nat_lt, ◌||◌, if◌then◌else◌, List, [], ◌++◌, drop, length, Option, Some, None}
 use Rattle.byteorder.specs.Endian.{little_bytes, little_number}
 use Rattle.sprite_ids.specs.declared.AskKind.{AskKind}
 use Rattle.sprite_ids.specs.declared.AskKind.TheVariants as kinds

@@ -1,5 +1,5 @@
 -- Masters that wait for asks.
-use Rattle.std.specs.Prelude.{ℕ, zero, suc, List, length, Option, Some, None}
+use Rattle.std.specs.Prelude.{ℕ, zero, suc, length, Option, Some, None}
 use Rattle.sprite_ids.specs.declared.Errno.TheVariants as errnos
 use Rattle.sprite_ids.specs.Lists.{less}
 use Rattle.kernel_steps.specs.Rows.{first_under, is_row}

@@ -1,11 +1,11 @@
 -- Children.
-use Rattle.std.specs.Prelude.{ℕ, Bool, true, false, not, if◌then◌else◌, List, [], ◌∷◌, ◌++◌, Option, Some, None, option_map}
+use Rattle.std.specs.Prelude.{ℕ, false, not, if◌then◌else◌, List, Option, Some, None, option_map}
 use Rattle.std.specs.BTreeMap.{insert_entry}
 use Rattle.std.specs.List.{list_any}
 use Rattle.std.specs.Ordering.{nat_cmp}
 use Rattle.sprite_ids.specs.declared.TxNo.{TxNo}
 use Rattle.sprite_ids.specs.Lists.{without}
-use Rattle.kernel_steps.specs.Rows.{first_under, has_value, is_under}
+use Rattle.kernel_steps.specs.Rows.{has_value, is_under}
 use Rattle.process_machine.specs.Machine.{Machine}
 use Rattle.stream_table.specs.Streams.{forked}
 use Rattle.unix_calls.specs.declared.ProgramLine.{ProgramLine}

@@ -1,5 +1,5 @@
 -- The calls that are done at the home of their process, and `kill`, which is done at the home of its argument.
-use Rattle.std.specs.Prelude.{ℕ, ◌+◌, ◌%◌, ◌==◌, nat_lt, Bool, true, false, not, if◌then◌else◌, List, [], Option, Some, None, length}
+use Rattle.std.specs.Prelude.{ℕ, ◌+◌, ◌%◌, ◌==◌, nat_lt, Bool, not, if◌then◌else◌, List, Option, Some, None, length}
 use Rattle.sprite_ids.specs.declared.Ending.{Ending}
 use Rattle.sprite_ids.specs.declared.Ending.TheVariants.{Exit, Bad}
 use Rattle.sprite_ids.specs.declared.Errno.TheVariants as errnos

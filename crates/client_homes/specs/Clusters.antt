@@ -1,5 +1,5 @@
 -- The kernels and programs of the cluster.
-use Rattle.std.specs.Prelude.{ℕ, ◌-◌, ◌==◌, Bool, true, false, if◌then◌else◌, List, [], Option, Some, None, length, slice_get}
+use Rattle.std.specs.Prelude.{ℕ, ◌-◌, ◌==◌, Bool, false, if◌then◌else◌, List, [], Option, Some, None, length, slice_get}
 use Rattle.process_machine.specs.declared.Reply.{Reply}
 use Rattle.process_machine.specs.Machine.{Machine}
 use Rattle.process_machine.specs.Replies.{given}

@@ -1,5 +1,5 @@
 -- Calls that are done at a home: of processes that are here, and of processes elsewhere, which ask.
-use Rattle.std.specs.Prelude.{ℕ, ◌==◌, Bool, true, false, not, if◌then◌else◌, List, [], ◌∷◌, ◌++◌, Option, Some, None, option_map}
+use Rattle.std.specs.Prelude.{ℕ, ◌==◌, Bool, true, false, not, if◌then◌else◌, [], ◌∷◌, ◌++◌, Option, Some, None, option_map}
 use Rattle.sprite_ids.specs.Pid.{home_of}
 use Rattle.sprite_ids.specs.declared.TxNo.{TxNo}
 use Rattle.sprite_ids.specs.declared.Ending.TheVariants.{Killed}
@@ -16,7 +16,6 @@ use Rattle.packet_bodies.specs.declared.ReplyBody.{ReplyBody}
 use Rattle.packet_bodies.specs.declared.Request.TheVariants as requests
 use Rattle.client_homes.specs.declared.process.Proc.{Proc}
 use Rattle.client_homes.specs.declared.process.ProcState.TheVariants as states
-use Rattle.client_homes.specs.declared.client.Parked.{Parked}
 use Rattle.client_homes.specs.declared.client.Unfinished.TheVariants as unfinished
 use Rattle.client_homes.specs.declared.client.ClientProcs.{ClientProcs}
 use Rattle.client_homes.specs.Says.{answers, enters_death, next_tx, sends, value}

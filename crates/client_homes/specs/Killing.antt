@@ -1,6 +1,5 @@
 -- How far the kills of processes that are elsewhere have come.
-use Rattle.std.specs.Prelude.{ℕ, Bool, true, false, ◌&&◌, ◌==◌, if◌then◌else◌, List, [], ◌∷◌, ◌++◌, Option, Some, None}
-use Rattle.std.specs.List.{list_any}
+use Rattle.std.specs.Prelude.{ℕ, Bool, true, false, if◌then◌else◌, [], ◌∷◌, ◌++◌, Option, Some, None}
 use Rattle.sprite_ids.specs.Lists.{less}
 use Rattle.kernel_steps.specs.Rows.{is_under, first_under}
 use Rattle.client_homes.specs.declared.client.KillState.{KillState}

@@ -1,5 +1,5 @@
 -- Pages that are away.
-use Rattle.std.specs.Prelude.{ℕ, zero, suc, ◌+◌, Bool, not, if◌then◌else◌, List, Option, Some, None, is_some, length}
+use Rattle.std.specs.Prelude.{ℕ, zero, suc, not, if◌then◌else◌, List, Option, Some, None, is_some, length}
 use Rattle.process_machine.specs.Memory.{page_of}
 use Rattle.packet_bodies.specs.declared.Request.TheVariants.{PageIn}
 use Rattle.client_homes.specs.declared.process.Proc.{Proc}

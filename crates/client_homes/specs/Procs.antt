@@ -1,7 +1,7 @@
 -- The processes that are here.
-use Rattle.std.specs.Prelude.{ℕ, Bool, true, ◌==◌, List, Option, Some, None, option_map}
-use Rattle.std.specs.BTreeMap.{insert_entry, is_at}
-use Rattle.std.specs.Map.{lookup, remove_entry, set_value}
+use Rattle.std.specs.Prelude.{ℕ, Bool, true, ◌==◌, Option, Some, None, option_map}
+use Rattle.std.specs.BTreeMap.{is_at}
+use Rattle.std.specs.Map.{lookup, set_value}
 use Rattle.std.specs.Ordering.{nat_cmp}
 use Rattle.sprite_ids.specs.declared.TxNo.{TxNo}
 use Rattle.process_machine.specs.declared.Reply.{Reply}

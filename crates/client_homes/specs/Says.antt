@@ -1,5 +1,5 @@
 -- What a step of the kernel says.
-use Rattle.std.specs.Prelude.{ℕ, List, [], Option, Some, None}
+use Rattle.std.specs.Prelude.{ℕ, [], Option, None}
 use Rattle.sprite_ids.specs.declared.TxNo.{TxNo}
 use Rattle.sprite_ids.specs.declared.Tries.TheVariants.{Always}
 use Rattle.process_machine.specs.declared.Call.{Call}

@@ -1,5 +1,5 @@
 -- Ends of processes at their home, and the `wait`s that are told of them.
-use Rattle.std.specs.Prelude.{ℕ, List, [], ◌∷◌, ◌++◌, Option, Some, None}
+use Rattle.std.specs.Prelude.{ℕ, [], ◌∷◌, ◌++◌, Option, Some, None}
 use Rattle.sprite_ids.specs.declared.TxNo.{TxNo}
 use Rattle.sprite_ids.specs.declared.Ending.{Ending}
 use Rattle.sprite_ids.specs.Lists.{less}

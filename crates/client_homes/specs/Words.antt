@@ -1,6 +1,5 @@
 -- Calls and replies as processes have them and as packets carry them.
-use Rattle.std.specs.Prelude.{ℕ, ◌/◌, ◌%◌, ◌==◌, nat_le, nat_lt, Bool, true, false, ◌&&◌, if◌then◌else◌, List, Option, Some, None}
-use Rattle.sprite_ids.specs.declared.Errno.{Errno}
+use Rattle.std.specs.Prelude.{ℕ, ◌/◌, ◌%◌, ◌==◌, nat_le, Bool, true, false, ◌&&◌, if◌then◌else◌, Option, Some, None}
 use Rattle.sprite_ids.specs.declared.Errno.TheVariants as errnos
 use Rattle.process_machine.specs.declared.Call.{Call}
 use Rattle.process_machine.specs.declared.Call.TheVariants as calls
