@@ -7,7 +7,7 @@ use crate::verdict::Verdict;
 use sprite_ids::NoMemory;
 use std::alloc::Global;
 use unix_calls::{Description, Entry};
-use unix_run::boot;
+use unix_world::boot;
 
 /// What a history comes to, whose processes may do at most `most` instructions in all (this project).
 ///

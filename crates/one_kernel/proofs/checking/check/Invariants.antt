@@ -1,6 +1,6 @@
 use Rattle.std.proofs.Common.{◌≡◌, ◌≤◌, drop}
-use Rattle.unix_run.specs.Among.{Ascending}
-use Rattle.unix_run.specs.Worlds.{unix_of}
+use Rattle.unix_world.specs.Among.{Ascending}
+use Rattle.unix_world.specs.Worlds.{unix_of}
 use Rattle.one_kernel.specs.Verdicts.{verdict_from, verdict_of}
 use Rattle.one_kernel.proofs.checking.check.Given as goal
 

@@ -1,0 +1,6 @@
+pub mod BootLaws
+pub mod ChangeLaws
+pub mod ContentLaws
+pub mod PlaceLaws
+pub mod ProcessLaws
+pub mod TreeLaws
