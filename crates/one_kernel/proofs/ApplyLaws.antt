@@ -1,6 +1,6 @@
 -- What becomes of an entry.
-use Rattle.std.proofs.Common.{◌≡◌, ◌≤◌, ◌<◌, ◌+◌, ℕ, zero, suc, Bool, true, false, cond, not, List, [], ◌∷◌, Option, Some, None, Result, Ok, Err, IfOk, is_some, refl, sym, ap, ap₂, subst, ◌∙◌, arith, slice_get, slice_set}
-use Rattle.std.specs.Prelude.{◌==◌, ◌&&◌}
+use Rattle.std.proofs.Common.{◌≡◌, ◌≤◌, ◌+◌, ℕ, zero, suc, Bool, true, false, cond, List, [], ◌∷◌, Option, Some, None, is_some, refl, sym, ap, subst, ◌∙◌, arith, slice_get, slice_set}
+use Rattle.std.specs.Prelude.{◌==◌}
 use Rattle.std.specs.Option.{option_map}
 use Rattle.std.proofs.lemmas.Bool.{true≢false}
 use Rattle.sprite_ids.proofs.ListLaws.{some_is, get_within}
@@ -14,16 +14,15 @@ use Rattle.process_machine.specs.declared.instruction.SyscallName.TheVariants as
 use Rattle.process_machine.specs.Arguments.{arguments}
 use Rattle.process_machine.specs.Parts.{parts_of, refusal}
 use Rattle.process_machine.specs.declared.call.Call.{Call}
-use Rattle.process_machine.specs.declared.call.Call.TheVariants.{BadStep}
 use Rattle.process_machine.specs.declared.program.Program.{Program}
 use Rattle.process_machine.specs.Machine.{Machine}
 use Rattle.process_machine.specs.Calls.{call_at, call_in, named_call, unless_refused}
-use Rattle.process_machine.specs.Steps.{AtBadStep, AtCall, step_of}
-use Rattle.process_machine.specs.Runs.{at_next_call, call_of_next, call_there}
+use Rattle.process_machine.specs.Steps.{step_of}
+use Rattle.process_machine.specs.Runs.{at_next_call, call_there}
 use Rattle.unix_calls.specs.declared.description.Description.{Description}
 use Rattle.unix_calls.specs.declared.entry.Entry.{Entry}
 use Rattle.unix_calls.specs.declared.state.Process.{Process}
-use Rattle.unix_calls.specs.State.{Unix, lives, no_descriptors, process_at, put_process, with_process}
+use Rattle.unix_calls.specs.State.{Unix, lives, no_descriptors, process_at, with_process}
 use Rattle.unix_calls.specs.Answers.{program_at}
 use Rattle.unix_calls.specs.After.{after, after_death, after_living, after_of, at_image, at_program, counted, is_death, next_is}
 use Rattle.unix_world.specs.declared.World.{World}

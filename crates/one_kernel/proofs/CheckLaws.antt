@@ -1,11 +1,10 @@
 -- What a check of one entry more comes to.
-use Rattle.std.proofs.Common.{◌≡◌, ◌≤◌, ◌<◌, ◌+◌, ◌-◌, ℕ, suc, Bool, true, false, cond, List, ◌∷◌, Option, Some, None, length, drop, refl, sym, ap, subst, ◌∙◌, arith, nat_lt}
+use Rattle.std.proofs.Common.{◌≡◌, ◌≤◌, ◌<◌, ◌+◌, ℕ, Bool, cond, List, ◌∷◌, Option, Some, None, refl, ap, ◌∙◌, nat_lt}
 use Rattle.std.proofs.lemmas.Bool.{le-ltb, lt-ltb}
 use Rattle.unix_calls.specs.declared.description.Description.{Description}
 use Rattle.unix_calls.specs.declared.entry.Entry.{Entry}
 use Rattle.unix_calls.specs.State.{Unix}
 use Rattle.unix_calls.specs.After.{after}
-use Rattle.one_kernel.specs.declared.verdict.Verdict.{Verdict}
 use Rattle.one_kernel.specs.declared.verdict.Verdict.TheVariants as verdict
 use Rattle.one_kernel.specs.Verdicts.{verdict_from, verdict_on, way_of}
 

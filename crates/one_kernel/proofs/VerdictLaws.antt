@@ -1,11 +1,10 @@
 -- What a verdict tells of the history.
-use Rattle.std.proofs.Common.{◌≡◌, ◌≤◌, ◌+◌, ◌-◌, ℕ, zero, suc, Bool, true, false, cond, List, [], ◌∷◌, take, Option, Some, None, is_some, refl, sym, ap, subst, ◌∙◌, arith, nat_lt}
+use Rattle.std.proofs.Common.{◌≡◌, ◌+◌, ◌-◌, ℕ, suc, Bool, true, false, cond, List, [], ◌∷◌, take, Option, Some, None, is_some, refl, sym, ap, subst, ◌∙◌, arith, nat_lt}
 use Rattle.unix_calls.specs.declared.description.Description.{Description}
 use Rattle.unix_calls.specs.declared.entry.Entry.{Entry}
 use Rattle.unix_calls.specs.State.{Unix}
 use Rattle.unix_calls.specs.Boot.{boot_of}
 use Rattle.unix_calls.specs.After.{after, legal, state_from}
-use Rattle.unix_calls.proofs.HistoryLaws.{none_goes_on}
 use Rattle.one_kernel.specs.declared.verdict.Verdict.{Verdict}
 use Rattle.one_kernel.specs.declared.verdict.Verdict.TheVariants as verdict
 use Rattle.one_kernel.specs.Verdicts.{verdict_from, verdict_of, verdict_on, way_of}

@@ -1,11 +1,11 @@
 -- Runs tell how long the way to the next call is.
-use Rattle.std.proofs.Common.{◌≡◌, ◌≤◌, ◌<◌, ◌+◌, ℕ, zero, suc, Bool, true, false, cond, Option, Some, None, refl, sym, ap, subst, ◌∙◌, arith, nat_lt}
+use Rattle.std.proofs.Common.{◌≡◌, ◌≤◌, ◌<◌, ℕ, zero, suc, Bool, true, false, cond, Some, None, refl, sym, ap, subst, ◌∙◌, arith, nat_lt}
 use Rattle.std.proofs.lemmas.Bool.{ltb-true, ltb-false}
 use Rattle.sprite_ids.proofs.ListLaws.{some_is}
 use Rattle.process_machine.specs.declared.program.Program.{Program}
 use Rattle.process_machine.specs.Machine.{Machine}
-use Rattle.process_machine.specs.Steps.{Step, AtCall, AtBadStep, AtPage, step_of}
-use Rattle.process_machine.specs.Runs.{ahead, at_next_call, call_bound, call_within, go_on}
+use Rattle.process_machine.specs.Steps.{AtCall, AtBadStep, AtPage, step_of}
+use Rattle.process_machine.specs.Runs.{ahead, call_bound, call_within, go_on}
 use Rattle.process_machine.proofs.MachineLaws.{ahead_first, at_bad_step, at_call, next_found, Stands}
 use Rattle.one_kernel.specs.declared.reach.Reach.{Reach}
 use Rattle.one_kernel.specs.declared.reach.Reach.TheVariants as reach

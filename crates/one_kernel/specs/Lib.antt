@@ -2,3 +2,4 @@ pub mod Ways
 pub mod Verdicts
 pub mod Laws
 pub mod Applied
+pub mod Replays

@@ -2,12 +2,11 @@ ghost use Rattle.std.specs.Prelude.{◌≡◌, ◌≤◌, IfOk};
 ghost use Rattle.unix_calls.specs.Lawful.{Lawful};
 ghost use Rattle.one_kernel.specs.Verdicts.{verdict_of};
 
-use crate::apply::{Applied, apply};
+use crate::replaying::{Replayed, replay};
 use crate::verdict::Verdict;
 use sprite_ids::NoMemory;
 use std::alloc::Global;
 use unix_calls::{Description, Entry};
-use unix_world::boot;
 
 /// What a history comes to, whose processes may do at most `most` instructions in all (this project).
 ///
@@ -24,16 +23,9 @@ pub fn check(
     requires bound { most ≤ 40000000000 }
     ensures { IfOk result (λ verdict. verdict ≡ verdict_of c.now most entries.now) }
 {
-    let (mut world, mut processes) = boot(alloc, c)?;
-    let mut cost: u64 = 0;
-    let mut place: u32 = 1;
-    for entry in entries {
-        match apply(alloc, c, &mut world, &mut processes, most - cost, entry)? {
-            Applied::Made(way) => cost += way,
-            Applied::NotMade => return Ok(Verdict::NotLegal(place)),
-            Applied::Far => return Ok(Verdict::Steps(place)),
-        }
-        place = place.checked_add(1).ok_or(NoMemory)?;
+    match replay(alloc, c, entries, most)? {
+        Replayed::Legal(..) => Ok(Verdict::Legal),
+        Replayed::NotLegal(place) => Ok(Verdict::NotLegal(place)),
+        Replayed::Steps(place) => Ok(Verdict::Steps(place)),
     }
-    Ok(Verdict::Legal)
 }

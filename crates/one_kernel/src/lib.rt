@@ -6,8 +6,10 @@ mod apply;
 mod checking;
 mod laws;
 mod reach;
+mod replaying;
 mod verdict;
 
 pub use checking::check;
 pub use laws::{legal_is_legal, not_legal_is_first, steps_are_behind_legal};
+pub use replaying::{Replayed, replay};
 pub use verdict::Verdict;

@@ -12,6 +12,7 @@ use Rattle.unix_calls.specs.declared.description.Description.{Description}
 use Rattle.cluster_file.specs.declared.Refusal.{Refusal}
 use Rattle.cluster_file.specs.Clusters.{Describes, Refuses}
 use Rattle.sprite_top.specs.Refused.{refusal_line}
+use Rattle.sprite_top.specs.Judged.{TextCauses}
 use Rattle.call_journal.specs.Journal.{journal_of}
 use Rattle.unix_calls.specs.After.{legal}
 use Rattle.call_journal.specs.Once.{Once}
@@ -27,13 +28,19 @@ use Rattle.unix_calls.specs.Output.{output_of}
 abbrev pub spelled : List (String Global) → List (List ℕ)
 spelled words = map string_bytes words
 
--- the one command that is built so far
+-- the two commands that are built so far
 abbrev pub run_words : List (List ℕ)
 run_words = codes "run" ∷ []
 
+abbrev pub check_words : List (List ℕ)
+check_words = codes "check" ∷ []
+
+abbrev pub IsCommand : List (List ℕ) → Type 0
+IsCommand words = (words ≡ run_words) ⊎ (words ≡ check_words)
+
 -- the lines that are written where nothing was run
 abbrev pub usage_line : List ℕ
-usage_line = codes "usage: sprite run | run --seed N | run --stats | history | load N\n"
+usage_line = codes "usage: sprite run | run --seed N | run --stats | history | load N | check\n"
 
 abbrev pub later_line : List ℕ
 later_line = codes "refused: 13\n"
@@ -81,6 +88,15 @@ pub record IsEnded (end : Finish) (words : List (List ℕ)) (left left_after : O
   pub short : length came ≤ 1048576
   pub run_of : IsFileRun came end closed due
 
+-- the words are `check`, the source was read to its end, and what came is a text that comes to something of that status
+pub record IsChecked (state : Status) (words : List (List ℕ)) (left left_after : Option (List ℕ)) (closed : Option Closed) (due : List ℕ) : Type 0 where
+  pub words_are : words ≡ check_words
+  pub came : List ℕ
+  pub read : Consumes left left_after came
+  pub at_end : IsAtEnd left_after
+  pub short : length came ≤ 67108864
+  pub text : TextCauses state came closed due
+
 -- the bytes have a refusal, and its line is due
 pub record IsRefusal (bytes due : List ℕ) : Type 0 where
   pub refusal : Refusal
@@ -100,23 +116,36 @@ AreRefused left_after came due =
     (IsAtEnd left_after × (length came ≤ 1048576) × (IsRefusal came due ⊎ IsLater came due)) ⊎ ((1048576 < length came) × (due ≡ too_long_line))
 
 -- the words are `run`, and what was read is refused
-pub record IsRefused (words : List (List ℕ)) (left left_after : Option (List ℕ)) (closed : Option Closed) (due : List ℕ) : Type 0 where
+pub record IsRunRefused (words : List (List ℕ)) (left left_after : Option (List ℕ)) (closed : Option Closed) (due : List ℕ) : Type 0 where
   pub words_are : words ≡ run_words
   pub came : List ℕ
   pub read : Consumes left left_after came
   pub cause : AreRefused left_after came due
   pub no_run : closed ≡ None
 
--- the words are not `run`, and nothing was read
+-- the words are `check`, and more came than may be checked
+pub record IsTextTooLong (words : List (List ℕ)) (left left_after : Option (List ℕ)) (closed : Option Closed) (due : List ℕ) : Type 0 where
+  pub words_are : words ≡ check_words
+  pub came : List ℕ
+  pub read : Consumes left left_after came
+  pub long : 67108864 < length came
+  pub line : IsLine closed due too_long_line
+
+-- what was read is refused: as a cluster file, as a text that is to be checked, or since it is too long
+abbrev pub IsRefused : List (List ℕ) → Option (List ℕ) → Option (List ℕ) → Option Closed → List ℕ → Type 0
+IsRefused words left left_after closed due =
+    IsRunRefused words left left_after closed due ⊎ (IsChecked status.Refused words left left_after closed due ⊎ IsTextTooLong words left left_after closed due)
+
+-- the words are no command, and nothing was read
 pub record IsUsage (words : List (List ℕ)) (left left_after : Option (List ℕ)) (faults faults_after : ℕ) (closed : Option Closed) (due : List ℕ) : Type 0 where
-  pub words_are_not : words ≡ run_words → ⊥
+  pub no_command : IsCommand words → ⊥
   pub nothing_read : left_after ≡ left
   pub no_fault : faults_after ≡ faults
   pub line : IsLine closed due usage_line
 
--- the words are `run`, and the source's count of faults rose
+-- the words are a command, and the source's count of faults rose
 pub record IsReadFault (words : List (List ℕ)) (faults faults_after : ℕ) (closed : Option Closed) (due : List ℕ) : Type 0 where
-  pub words_are : words ≡ run_words
+  pub words_are : IsCommand words
   pub rose : Rose faults faults_after
   pub line : IsLine closed due fault_line
 
@@ -124,6 +153,9 @@ pub record IsReadFault (words : List (List ℕ)) (faults faults_after : ℕ) (cl
 abbrev pub Causes : Status → List (List ℕ) → Option (List ℕ) → Option (List ℕ) → ℕ → ℕ → Option Closed → List ℕ → Type 0
 Causes status.Ended words left left_after faults faults_after closed due = IsEnded finish.AllEnded words left left_after closed due
 Causes status.Budget words left left_after faults faults_after closed due = IsEnded finish.Budget words left left_after closed due
+Causes status.Legal words left left_after faults faults_after closed due = IsChecked status.Legal words left left_after closed due
+Causes status.NotLegal words left left_after faults faults_after closed due = IsChecked status.NotLegal words left left_after closed due
+Causes status.TooLong words left left_after faults faults_after closed due = IsChecked status.TooLong words left left_after closed due
 Causes status.Refused words left left_after faults faults_after closed due = IsRefused words left left_after closed due
 Causes status.Usage words left left_after faults faults_after closed due = IsUsage words left left_after faults faults_after closed due
 Causes status.ReadFault words left left_after faults faults_after closed due = IsReadFault words faults faults_after closed due
@@ -168,9 +200,12 @@ status_of _ = status.Ended
 -- the exit status of the program
 abbrev pub status_number : Status → ℕ
 status_number status.Ended = 0
+status_number status.Legal = 0
 status_number status.Refused = 1
 status_number status.Usage = 2
 status_number status.ReadFault = 3
 status_number status.Budget = 4
 status_number status.NoMemory = 6
 status_number status.WriteFault = 7
+status_number status.NotLegal = 8
+status_number status.TooLong = 9

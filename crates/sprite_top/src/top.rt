@@ -1,11 +1,15 @@
-ghost use Rattle.std.specs.Prelude.{◌≡◌, ◌↔◌, None, IsTrue, IfOk};
+ghost use Rattle.std.specs.Prelude.{◌≡◌, ◌↔◌, ◌∷◌, [], None, IsTrue, IfOk};
 ghost use Rattle.sprite_ids.specs.declared.running.Finish.TheVariants.{AllEnded, Budget as Spent};
 ghost use Rattle.unix_calls.specs.Lawful.{Lawful};
-ghost use Rattle.sprite_top.specs.Top.{spelled, run_words, IsEnded, IsRefused, IsUsage, IsReadFault, Causes, FileCauses, ClusterCauses, Wrote, Broke, status_of, status_number};
+ghost use Rattle.sprite_top.specs.Judged.{TextCauses, judgement_status, verdict_status};
+ghost use Rattle.sprite_top.specs.Top.{spelled, run_words, check_words, IsEnded, IsChecked, IsRefused, IsUsage, IsReadFault, Causes, FileCauses, ClusterCauses, Wrote, Broke, status_of, status_number};
 
+use crate::judged::judgement_line;
 use crate::report::{output, refusal_line};
 use call_journal::Closed;
 use cluster_file::{FileEnd, read_description};
+use history_check::{Judgement, judge};
+use one_kernel::Verdict;
 use sprite_bytes::{ReadEnd, Sink, Source, read_all, write_all};
 use sprite_cluster::{is_run_today, run};
 use sprite_ids::{Bytes, Finish, NoMemory};
@@ -15,13 +19,17 @@ use unix_calls::Description;
 /// How many bytes a cluster file may have.
 const FILE_BYTES: usize = 1_048_576;
 
+/// How many bytes a cluster file, a line `=====` and a history may have.
+const TEXT_BYTES: usize = 67_108_864;
+
 /// What is written where the words are no command.
-const USAGE_LINE: &[u8] = b"usage: sprite run | run --seed N | run --stats | history | load N\n";
+const USAGE_LINE: &[u8] =
+    b"usage: sprite run | run --seed N | run --stats | history | load N | check\n";
 
 /// What is written for a cluster that isn't run so far.
 const REFUSED_LINE: &[u8] = b"refused: 13\n";
 
-/// What is written for more bytes than a cluster file may have.
+/// What is written for more bytes than the command may read.
 const TOO_LONG_LINE: &[u8] = b"refused: 1\n";
 
 /// What is written where the source failed.
@@ -30,9 +38,11 @@ const FAULT_LINE: &[u8] = b"read fault\n";
 /// How a call of the program ended. The numbers are the program's exit statuses (this project).
 #[derive(Clone, Copy, Debug, PartialEq, Eq)]
 pub enum Status {
-    /// 0: every process has ended, and the output was written.
+    /// 0: a cluster was run, every process has ended, and the output was written.
     Ended,
-    /// 1: the bytes read are no cluster file, or they describe a cluster that isn't run so far.
+    /// 0: a history was checked, and one Unix kernel gives it.
+    Legal,
+    /// 1: the bytes read are not of the command's form, or they describe a cluster that isn't run so far.
     Refused,
     /// 2: the words are no command.
     Usage,
@@ -44,6 +54,10 @@ pub enum Status {
     NoMemory,
     /// 7: the sink failed; a prefix of what was due was written.
     WriteFault,
+    /// 8: a history was checked, and one Unix kernel doesn't give it.
+    NotLegal,
+    /// 9: a history was checked, and its processes do too many instructions to find out.
+    TooLong,
 }
 
 /// What the top call gives back.
@@ -62,10 +76,11 @@ pub struct Answer {
     pub closed: Option<Closed>,
 }
 
-/// Runs the command that the words spell on the cluster file that the source holds, and writes to the sink.
+/// Does the command that the words spell with what the source holds, and writes to the sink.
 ///
-/// The words are those behind the program's name; so far `run` alone is a command. All that is due is made before its
-/// first byte is written. Want of memory may come at any point before, and then nothing is written. Where a source or a
+/// The words are those behind the program's name. So far there are two commands: `run` runs the cluster of a cluster file, and
+/// `check` judges a history, which stands behind a cluster file and a line `=====`, against the one-kernel Unix, without
+/// running a cluster. All that is due is made before its first byte is written. Want of memory may come at any point before, and then nothing is written. Where a source or a
 /// sink tells nothing of its bytes, the clauses say that some bytes were read or written so.
 pub fn sprite<S: Source, K: Sink>(
     alloc: Global,
@@ -75,6 +90,9 @@ pub fn sprite<S: Source, K: Sink>(
 ) -> Ended
     ensures ended { result.status ≡ Status.Ended → Wrote (K.held sink.old) (K.held sink.new) (IsEnded AllEnded (spelled words.now) (S.left source.old) (S.left source.new) result.closed) }
     ensures budget { result.status ≡ Status.Budget → Wrote (K.held sink.old) (K.held sink.new) (IsEnded Spent (spelled words.now) (S.left source.old) (S.left source.new) result.closed) }
+    ensures legal { result.status ≡ Status.Legal → Wrote (K.held sink.old) (K.held sink.new) (IsChecked Status.Legal (spelled words.now) (S.left source.old) (S.left source.new) result.closed) }
+    ensures not_legal { result.status ≡ Status.NotLegal → Wrote (K.held sink.old) (K.held sink.new) (IsChecked Status.NotLegal (spelled words.now) (S.left source.old) (S.left source.new) result.closed) }
+    ensures too_long { result.status ≡ Status.TooLong → Wrote (K.held sink.old) (K.held sink.new) (IsChecked Status.TooLong (spelled words.now) (S.left source.old) (S.left source.new) result.closed) }
     ensures refused { result.status ≡ Status.Refused → Wrote (K.held sink.old) (K.held sink.new) (IsRefused (spelled words.now) (S.left source.old) (S.left source.new) result.closed) }
     ensures usage { result.status ≡ Status.Usage → Wrote (K.held sink.old) (K.held sink.new) (IsUsage (spelled words.now) (S.left source.old) (S.left source.new) (S.faults source.old) (S.faults source.new) result.closed) }
     ensures read_fault { result.status ≡ Status.ReadFault → Wrote (K.held sink.old) (K.held sink.new) (IsReadFault (spelled words.now) (S.faults source.old) (S.faults source.new) result.closed) }
@@ -103,9 +121,29 @@ pub fn sprite<S: Source, K: Sink>(
 fn answer_to<S: Source>(alloc: Global, words: &[String], source: &mut S) -> Result<Answer, NoMemory>
     ensures { IfOk result (λ a. Causes a.status (spelled words.now) (S.left source.old) (S.left source.new) (S.faults source.old) (S.faults source.new) a.closed a.due) }
 {
-    if !is_run(words) {
-        return refuse(alloc, Status::Usage, USAGE_LINE);
+    if is_command(words, "run") {
+        return answer_run(alloc, source);
     }
+    if is_command(words, "check") {
+        return answer_check(alloc, source);
+    }
+    refuse(alloc, Status::Usage, USAGE_LINE)
+}
+
+/// Whether the words are that one alone.
+fn is_command(words: &[String], name: &str) -> bool
+    ensures { IsTrue result ↔ (spelled words.now ≡ name.now ∷ []) }
+{
+    match words {
+        [word] => word.as_str() == name,
+        _ => false,
+    }
+}
+
+/// What is due for the word `run` and this source. The one error is want of memory.
+fn answer_run<S: Source>(alloc: Global, source: &mut S) -> Result<Answer, NoMemory>
+    ensures { IfOk result (λ a. Causes a.status run_words (S.left source.old) (S.left source.new) (S.faults source.old) (S.faults source.new) a.closed a.due) }
+{
     match read_all(alloc, source, FILE_BYTES) {
         Ok(bytes) => answer_file(alloc, bytes.as_slice()),
         Err(ReadEnd::TooLong) => refuse(alloc, Status::Refused, TOO_LONG_LINE),
@@ -114,13 +152,47 @@ fn answer_to<S: Source>(alloc: Global, words: &[String], source: &mut S) -> Resu
     }
 }
 
-/// Whether the words are `run` alone.
-fn is_run(words: &[String]) -> bool
-    ensures { IsTrue result ↔ (spelled words.now ≡ run_words) }
+/// What is due for the word `check` and this source. The one error is want of memory.
+fn answer_check<S: Source>(alloc: Global, source: &mut S) -> Result<Answer, NoMemory>
+    ensures { IfOk result (λ a. Causes a.status check_words (S.left source.old) (S.left source.new) (S.faults source.old) (S.faults source.new) a.closed a.due) }
 {
-    match words {
-        [word] => word.as_str() == "run",
-        _ => false,
+    match read_all(alloc, source, TEXT_BYTES) {
+        Ok(bytes) => answer_text(alloc, bytes.as_slice()),
+        Err(ReadEnd::TooLong) => refuse(alloc, Status::Refused, TOO_LONG_LINE),
+        Err(ReadEnd::Fault { .. }) => refuse(alloc, Status::ReadFault, FAULT_LINE),
+        Err(ReadEnd::NoMemory) => Err(NoMemory),
+    }
+}
+
+/// What is due for a whole text that is to be checked. The one error is want of memory.
+fn answer_text(alloc: Global, text: &[u8]) -> Result<Answer, NoMemory>
+    ensures { IfOk result (λ a. TextCauses a.status text.now a.closed a.due) }
+{
+    let judgement = judge(alloc, text)?;
+    let line = judgement_line(alloc, &judgement)?;
+    refuse(alloc, judgement_status(&judgement), line.as_slice())
+}
+
+/// The status of a text that comes to that.
+fn judgement_status(judgement: &Judgement) -> Status
+    ensures { result ≡ judgement_status judgement.now }
+{
+    match judgement {
+        Judgement::NoHistory => Status::Refused,
+        Judgement::Refused(_) => Status::Refused,
+        Judgement::BadLine(_) => Status::Refused,
+        Judgement::Judged(verdict) => verdict_status(*verdict),
+    }
+}
+
+/// The status of a history that comes to that.
+fn verdict_status(verdict: Verdict) -> Status
+    ensures { result ≡ verdict_status verdict }
+{
+    match verdict {
+        Verdict::Legal => Status::Legal,
+        Verdict::NotLegal(_) => Status::NotLegal,
+        Verdict::Steps(_) => Status::TooLong,
     }
 }
 
@@ -181,18 +253,21 @@ fn status_of(finish: Finish) -> Status
 }
 
 impl Status {
-    /// The exit status of the program, 0 to 7.
+    /// The exit status of the program, 0 to 9.
     pub fn number(self) -> u8
         ensures { result ≡ status_number self }
     {
         match self {
             Status::Ended => 0,
+            Status::Legal => 0,
             Status::Refused => 1,
             Status::Usage => 2,
             Status::ReadFault => 3,
             Status::Budget => 4,
             Status::NoMemory => 6,
             Status::WriteFault => 7,
+            Status::NotLegal => 8,
+            Status::TooLong => 9,
         }
     }
 }

@@ -1,4 +1,4 @@
-use Rattle.std.proofs.Common.{rules, ℕ, Some, sym, ap, subst, ◌∙◌}
+use Rattle.std.proofs.Common.{rules, sym, ap, subst}
 use Rattle.process_machine.specs.declared.call.Call.TheVariants.{BadStep}
 use Rattle.process_machine.specs.Calls.{call_at}
 use Rattle.process_machine.specs.Runs.{call_there}

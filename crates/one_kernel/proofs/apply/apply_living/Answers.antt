@@ -1,4 +1,4 @@
-use Rattle.std.proofs.Common.{ℕ, Some, None, Option, refl, sym, ap, subst, ◌∙◌, arith}
+use Rattle.std.proofs.Common.{Option, refl, sym, subst, arith}
 use Rattle.process_machine.specs.declared.call.Call.{Call}
 use Rattle.unix_calls.specs.After.{after_living}
 use Rattle.unix_world.specs.Worlds.{unix_of}

@@ -1,5 +1,4 @@
 use Rattle.std.proofs.Common.{sym, subst}
-use Rattle.process_machine.specs.declared.call.Call.{Call}
 use Rattle.unix_run.specs.Among.{IsBounded}
 use Rattle.one_kernel.proofs.ApplyLaws.{bounded_at}
 use Rattle.one_kernel.proofs.apply.enter_called.Goals as goal

@@ -1,4 +1,4 @@
-use Rattle.std.proofs.Common.{ℕ, ◌≡◌, ◌≤◌, ◌+◌, Some, sym, subst, ◌∙◌, arith}
+use Rattle.std.proofs.Common.{ℕ, ◌≡◌, ◌≤◌, ◌+◌, Some, sym, subst, arith}
 use Rattle.process_machine.specs.Runs.{ahead, EndsBy}
 use Rattle.process_machine.proofs.MachineLaws.{ahead_sum}
 use Rattle.one_kernel.specs.declared.reach.Reach.{Reach}

@@ -1,0 +1,45 @@
+ghost use Rattle.std.specs.Prelude.{codes, ◌≡◌, ◌++◌, IfOk};
+ghost use Rattle.std.specs.Fmt.{decimal};
+ghost use Rattle.sprite_top.specs.Judged.{judgement_line, numbered_line, verdict_line};
+
+use crate::report::refusal_line;
+use history_check::Judgement;
+use one_kernel::Verdict;
+use sprite_ids::NoMemory;
+use std::alloc::Global;
+
+/// The line about a text that is to hold a cluster file and a history.
+pub(crate) fn judgement_line(alloc: Global, judgement: &Judgement) -> Result<Vec<u8>, NoMemory>
+    ensures { IfOk result (λ line. line.items ≡ judgement_line judgement.now) }
+{
+    match judgement {
+        Judgement::NoHistory => Ok(Vec::from_slice(alloc, b"refused: 14\n")?),
+        Judgement::Refused(refusal) => refusal_line(alloc, refusal),
+        Judgement::BadLine(number) => numbered_line(alloc, b"refused: 15 line ", *number as u64),
+        Judgement::Judged(verdict) => verdict_line(alloc, *verdict),
+    }
+}
+
+// The line about a history.
+fn verdict_line(alloc: Global, verdict: Verdict) -> Result<Vec<u8>, NoMemory>
+    ensures { IfOk result (λ line. line.items ≡ verdict_line verdict) }
+{
+    match verdict {
+        Verdict::Legal => Ok(Vec::from_slice(alloc, b"legal\n")?),
+        Verdict::NotLegal(number) => {
+            numbered_line(alloc, b"not legal at line ", u64::from(number))
+        }
+        Verdict::Steps(number) => numbered_line(alloc, b"steps at line ", u64::from(number)),
+    }
+}
+
+// A line that ends with a number.
+fn numbered_line(alloc: Global, words: &[u8], number: u64) -> Result<Vec<u8>, NoMemory>
+    ensures { IfOk result (λ line. line.items ≡ numbered_line words.now number) }
+{
+    let mut line = Vec::from_slice(alloc, words)?;
+    let digits = format!(in alloc; "{number}")?;
+    line.extend_from_slice(digits.as_bytes())?;
+    line.push(b'\n')?;
+    Ok(line)
+}
