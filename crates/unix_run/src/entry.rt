@@ -8,11 +8,11 @@ ghost use Rattle.unix_run.specs.Among.{IsBounded, IsCaller};
 ghost use Rattle.unix_run.specs.Entering.{MakesAmong, asks_free, is_answer, stands};
 
 use crate::answers::reply_to;
+use crate::came::Came;
 use crate::entering::{ask, end_ask};
 use crate::faults::may_fail;
 use crate::outcomes::outcome;
 use crate::same::same_reply;
-use crate::came::Came;
 use process_machine::{Call, Reply};
 use sprite_ids::{Items, NoMemory};
 use std::alloc::Global;

@@ -14,7 +14,9 @@ use sprite_ids::{Errno, NoMemory};
 use sprite_paths::{Path, PathEnd};
 use std::alloc::Global;
 use unix_calls::{Description, Named, Node, Process};
-use unix_world::{World, above, add_name, count_below, is_full, listing, node_at, remove_name, walk};
+use unix_world::{
+    World, above, add_name, count_below, is_full, listing, node_at, remove_name, walk,
+};
 
 /// The path of a text, from the process's cwd; none where the text is no path.
 pub(crate) fn path_of(alloc: Global, p: &Process, text: &[u8]) -> Result<Option<Path>, NoMemory>

@@ -7,9 +7,9 @@ ghost use Rattle.unix_run.specs.Contents.{cut_files};
 ghost use Rattle.unix_run.specs.Coming.{Comes};
 
 use crate::answers::{give_value, refuse};
+use crate::came::Came;
 use crate::names::{new_refusal, path_of};
 use crate::streams::writes;
-use crate::came::Came;
 use sprite_ids::{Bytes, Errno, Items, Mode, NoMemory};
 use sprite_paths::Path;
 use std::alloc::Global;

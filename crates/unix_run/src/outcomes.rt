@@ -7,13 +7,13 @@ ghost use Rattle.unix_run.specs.Outcomes.{Alone, ByName, OnStream};
 ghost use Rattle.unix_run.specs.Coming.{Comes};
 
 use crate::answers::refuse;
+use crate::came::Came;
 use crate::devices::{ioctl, pd_get, pd_put};
 use crate::family::{fork, getppid, kill, wait};
 use crate::names::{chdir, list, mkdir, rename, rmdir, stat, unlink};
 use crate::opening::{open_file, pd_make};
 use crate::running::{end, exec, getpid, host, migrate, print, rexec, tick};
 use crate::streams::{close, dup, read, seek, size, sync, write};
-use crate::came::Came;
 use process_machine::Call;
 use sprite_ids::{Ending, Items, NoMemory};
 use std::alloc::Global;

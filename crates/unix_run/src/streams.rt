@@ -108,9 +108,7 @@ fn read_file(
     requires { p.old.calls < 4294967295 }
     ensures { IfOk result (λ came. Comes c.now (λ u q. read_file c.now u q stream.now many name) world.old p.old came world.new p.new) }
 {
-    let bytes = world
-        .files
-        .read(alloc, name, stream.offset, many)?;
+    let bytes = world.files.read(alloc, name, stream.offset, many)?;
     let first = bytes.len() as u64;
     let offset = stream.offset.checked_add(first).ok_or(NoMemory)?;
     world.streams.put_offset(stream, offset);

@@ -126,6 +126,7 @@ push_ordered R (x ∷ z ∷ zs) y trans h last =
     let rest = push_ordered R (z ∷ zs) y trans h.1 (λ n w got within end. last (suc n) w got (omega (arith, within)) (omega (arith, end))) in
     let behind = trans x z y h.0.0 (last_above R z zs y rest.0) in
     (each_push (R x) (z ∷ zs) y h.0 behind, rest)
+
 -- another item in the place of one that stands as it does
 each_as : {X : Type 0} (R : X → X → Type 0) (z old new : X) (xs : List X) (i : ℕ) → ((y : X) → R y old → R y new) → slice_get xs i ≡ Some old → AllByRecursion (R z) xs → AllByRecursion (R z) (slice_set xs i new)
 each_as R z old new [] i like got h = tt

@@ -60,11 +60,7 @@ fn births(ps: &[Process], home: Kernel) -> usize
 }
 
 /// Puts the process in its place, by ascending number; it replaces one that has its number. The one error is want of memory.
-pub fn put(
-    alloc: Global,
-    processes: &mut Items<Process>,
-    process: Process,
-) -> Result<(), NoMemory>
+pub fn put(alloc: Global, processes: &mut Items<Process>, process: Process) -> Result<(), NoMemory>
     ensures { OnOk result (processes.new ≡ put_process process processes.old) }
 {
     let at = place_for(processes.as_slice(), process.pid);

@@ -108,11 +108,7 @@ pub fn is_full(nodes: &[Named], directory: &[Bytes]) -> bool
 }
 
 /// The names in a directory, each with byte 10 behind it.
-pub fn listing(
-    alloc: Global,
-    nodes: &[Named],
-    directory: &[Bytes],
-) -> Result<Bytes, NoMemory>
+pub fn listing(alloc: Global, nodes: &[Named], directory: &[Bytes]) -> Result<Bytes, NoMemory>
     ensures { IfOk result (λ text. text ≡ flat_map (λ name. name ++ 10 ∷ []) (names_in nodes.now directory.now)) }
 {
     let mut text = Bytes::new(alloc);
