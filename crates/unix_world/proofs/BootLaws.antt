@@ -18,7 +18,7 @@ use Rattle.unix_calls.specs.Domains.{roots_of}
 use Rattle.unix_calls.specs.Lawful.{Lawful, holds}
 use Rattle.unix_calls.specs.State.{next_pid, put_process}
 use Rattle.unix_calls.proofs.LawfulLaws.{lawful_begins_within}
-use Rattle.unix_calls.proofs.ProcessLaws.{Ascending, Compared, Same, Less, More, compared, put_same, put_less, put_more}
+use Rattle.unix_calls.proofs.ProcessLaws.{Compared, Same, Less, More, compared, put_same, put_less, put_more}
 
 -- ---- names
 

@@ -1,4 +1,4 @@
-ghost use Rattle.std.specs.Prelude.{◌≡◌, ◌<◌, IfSome, length, slice_get};
+ghost use Rattle.std.specs.Prelude.{◌≡◌, ◌==◌, ◌<◌, IfSome, length, slice_get};
 ghost use Rattle.std.specs.List.{list_any};
 ghost use Rattle.unix_calls.specs.declared.state.Device.{Device};
 ghost use Rattle.unix_calls.specs.State.{free_descriptor, free_from, holds_master_of, is_master_of, joined_option, leads_to_master};
@@ -6,7 +6,7 @@ ghost use Rattle.unix_world.specs.Worlds.{stream_of_fd};
 
 use crate::streams::Streams;
 use crate::world::World;
-use unix_calls::{Object, Process, Stream};
+use unix_calls::{Device, Object, Process, Stream};
 
 /// The stream that a descriptor of the process leads to.
 pub fn stream_of(world: &World, p: &Process, fd: u64) -> Option<Stream>
@@ -52,12 +52,55 @@ fn first_free(descriptors: &[Option<u32>]) -> Option<usize>
     None
 }
 
-/// Whether the process holds the master stream of some device.
+/// Whether the process holds the master stream of some device. No device is looked at where it holds no master stream.
 pub fn holds_a_master(world: &World, p: &Process) -> bool
     ensures { result ≡ list_any (λ (d : Device). holds_master_of world.now.streams d.place p.now) world.now.devices }
 {
-    for device in world.devices.as_slice() {
-        if holds_master_of(&world.streams, device.place, p) {
+    any_is_master(world, p.descriptors.as_slice())
+}
+
+// Whether one of the descriptors leads to the master stream of some device.
+fn any_is_master(world: &World, descriptors: &[Option<u32>]) -> bool
+    ensures { result ≡ list_any (λ (d : Device). list_any (leads_to_master world.now.streams d.place) descriptors.now) world.now.devices }
+{
+    for place in descriptors {
+        if is_master(world, *place) {
+            return true;
+        }
+    }
+    false
+}
+
+// Whether a descriptor does.
+fn is_master(world: &World, descriptor: Option<u32>) -> bool
+    ensures { result ≡ list_any (λ (d : Device). leads_to_master world.now.streams d.place descriptor) world.now.devices }
+{
+    let Some(place) = descriptor else {
+        return false;
+    };
+    match world.streams.at_place(place) {
+        Some(stream) => has_master(world.devices.as_slice(), stream.object),
+        None => false,
+    }
+}
+
+// Whether a stream is the master's of one of the devices.
+fn has_master(devices: &[Device], object: Object) -> bool
+    ensures { result ≡ list_any (λ (d : Device). is_master_of d.place object) devices.now }
+{
+    match object {
+        Object::OfMaster(place) => has_place(devices, place),
+        Object::OfFile(_) => false,
+        Object::OfDevice(_) => false,
+    }
+}
+
+// Whether one of the devices was made by the entry at that place.
+fn has_place(devices: &[Device], place: u32) -> bool
+    ensures { result ≡ list_any (λ (d : Device). place == d.place) devices.now }
+{
+    for device in devices {
+        if place == device.place {
             return true;
         }
     }

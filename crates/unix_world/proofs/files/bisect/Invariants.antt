@@ -1,4 +1,4 @@
-use Rattle.std.proofs.Common.{◌≡◌, ◌≤◌, ◌-◌, length}
+use Rattle.std.proofs.Common.{◌≤◌, ◌-◌, length}
 use Rattle.unix_calls.specs.declared.state.File.{File}
 use Rattle.unix_calls.specs.State.{same_file}
 use Rattle.unix_world.specs.Places.{Outside}

@@ -1,6 +1,6 @@
-use Rattle.std.proofs.Common.{Bool, true, length, sym, subst, ◌∙◌, arith}
+use Rattle.std.proofs.Common.{true, length, sym, ◌∙◌, arith}
 use Rattle.std.proofs.lemmas.Bool.{eqb-false, eqb-true}
-use Rattle.unix_world.specs.Places.{IsLast, IsOlder}
+use Rattle.unix_world.specs.Places.{IsOlder}
 use Rattle.unix_world.proofs.PlaceLaws.{stream_last, last_of_none, older_trans, push_ordered_if}
 use Rattle.unix_world.proofs.streams.ascend_with.Goals as goal
 

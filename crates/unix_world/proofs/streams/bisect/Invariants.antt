@@ -1,4 +1,4 @@
-use Rattle.std.proofs.Common.{◌≡◌, ◌≤◌, ◌-◌, length}
+use Rattle.std.proofs.Common.{◌≤◌, ◌-◌, length}
 use Rattle.std.specs.Prelude.{◌==◌}
 use Rattle.unix_calls.specs.declared.state.Stream.{Stream}
 use Rattle.unix_world.specs.Places.{Outside}
