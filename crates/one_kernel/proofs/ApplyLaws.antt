@@ -25,11 +25,12 @@ use Rattle.unix_calls.specs.declared.state.Process.{Process}
 use Rattle.unix_calls.specs.State.{Unix, lives, no_descriptors, process_at, with_process}
 use Rattle.unix_calls.specs.Answers.{program_at}
 use Rattle.unix_calls.specs.After.{after, after_death, after_living, after_of, at_image, at_program, counted, is_death, next_is}
-use Rattle.unix_run.specs.declared.World.{World}
-use Rattle.unix_run.specs.Among.{Ascending, IsBounded}
+use Rattle.unix_world.specs.declared.World.{World}
+use Rattle.unix_world.specs.Among.{Ascending}
+use Rattle.unix_run.specs.Among.{IsBounded}
 use Rattle.unix_run.specs.Entering.{Dies, made_state}
-use Rattle.unix_run.specs.Worlds.{unix_of}
-use Rattle.unix_run.proofs.ProcessLaws.{set_ascends, set_put}
+use Rattle.unix_world.specs.Worlds.{unix_of}
+use Rattle.unix_world.proofs.ProcessLaws.{set_ascends, set_put}
 use Rattle.one_kernel.specs.declared.apply.Applied.{Applied}
 use Rattle.one_kernel.specs.declared.apply.Applied.TheVariants as applied
 use Rattle.one_kernel.specs.Applied.{Applies, CallApplies, DiesAmong, applied_by, called, counted_world, enters}

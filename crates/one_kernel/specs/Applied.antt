@@ -11,10 +11,10 @@ use Rattle.unix_calls.specs.State.{Unix}
 use Rattle.unix_calls.specs.Answers.{program_at}
 use Rattle.unix_calls.specs.Same.{same_call}
 use Rattle.unix_calls.specs.After.{after_death, after_living, after_part, at_program, is_death}
-use Rattle.unix_run.specs.declared.World.{World}
-use Rattle.unix_run.specs.Among.{Ascending}
+use Rattle.unix_world.specs.declared.World.{World}
+use Rattle.unix_world.specs.Among.{Ascending}
 use Rattle.unix_run.specs.Entering.{made_state}
-use Rattle.unix_run.specs.Worlds.{unix_of}
+use Rattle.unix_world.specs.Worlds.{unix_of}
 use Rattle.one_kernel.specs.declared.apply.Applied.{Applied}
 use Rattle.one_kernel.specs.declared.apply.Applied.TheVariants as applied
 use Rattle.one_kernel.specs.Verdicts.{way_at, way_by}

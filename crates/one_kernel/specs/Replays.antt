@@ -3,8 +3,8 @@ use Rattle.std.specs.Prelude.{◌≡◌, ℕ, List, Some}
 use Rattle.unix_calls.specs.declared.description.Description.{Description}
 use Rattle.unix_calls.specs.declared.entry.Entry.{Entry}
 use Rattle.unix_calls.specs.After.{state_of}
-use Rattle.unix_run.specs.Among.{Ascending}
-use Rattle.unix_run.specs.Worlds.{unix_of}
+use Rattle.unix_world.specs.Among.{Ascending}
+use Rattle.unix_world.specs.Worlds.{unix_of}
 use Rattle.one_kernel.specs.declared.verdict.Verdict.TheVariants as verdict
 use Rattle.one_kernel.specs.declared.replaying.Replayed.{Replayed}
 use Rattle.one_kernel.specs.declared.replaying.Replayed.TheVariants as replay

@@ -1,9 +1,10 @@
 ghost use Rattle.std.specs.Prelude.{◌≡◌, ◌≤◌, ◌<◌, IfOk, OnOk, length};
 ghost use Rattle.unix_calls.specs.Lawful.{Lawful};
 ghost use Rattle.unix_calls.specs.After.{after, after_part};
-ghost use Rattle.unix_run.specs.Among.{Ascending, IsBounded, IsCaller};
+ghost use Rattle.unix_world.specs.Among.{Ascending};
+ghost use Rattle.unix_run.specs.Among.{IsBounded, IsCaller};
 ghost use Rattle.unix_run.specs.Entering.{MakesAmong};
-ghost use Rattle.unix_run.specs.Worlds.{unix_of};
+ghost use Rattle.unix_world.specs.Worlds.{unix_of};
 ghost use Rattle.one_kernel.specs.Verdicts.{way_of};
 ghost use Rattle.one_kernel.specs.Applied.{Applies, CallApplies, DiesAmong, LivingApplies, MakesCalled, StandsAtCall, applied_by, counted_world, enters};
 
@@ -12,7 +13,8 @@ use process_machine::{Call, Program, Reply, call_of};
 use sprite_ids::{Items, NoMemory};
 use std::alloc::Global;
 use unix_calls::{Description, Entry, Part, Process};
-use unix_run::{World, die, enter_ask, enter_done, enter_whole, find, program_at, same_call};
+use unix_run::{die, enter_ask, enter_done, enter_whole, same_call};
+use unix_world::{World, find, program_at};
 
 /// What became of one entry.
 #[derive(Clone, Copy, Debug, PartialEq, Eq)]

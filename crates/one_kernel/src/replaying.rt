@@ -6,7 +6,7 @@ use crate::apply::{Applied, apply};
 use sprite_ids::{Items, NoMemory};
 use std::alloc::Global;
 use unix_calls::{Description, Entry, Process};
-use unix_run::{World, boot};
+use unix_world::{World, boot};
 
 /// What a history comes to, and the state that it leads to (this project).
 #[derive(Drop)]

@@ -6,12 +6,14 @@ use Rattle.unix_calls.specs.declared.description.Description.{Description}
 use Rattle.unix_calls.specs.declared.state.Process.{Process}
 use Rattle.unix_calls.specs.State.{Unix, with_process}
 use Rattle.unix_calls.specs.Answers.{Outcome, Answered, replied, replies}
-use Rattle.unix_run.specs.declared.world.World.{World}
-use Rattle.unix_run.specs.declared.world.Came.{Came}
-use Rattle.unix_run.specs.declared.world.Came.TheVariants as came
-use Rattle.unix_run.specs.Among.{Ascending, ComesAmong, KeepsAmong}
-use Rattle.unix_run.specs.Worlds.{Comes, Keeps, told, unix_of}
-use Rattle.unix_run.proofs.ProcessLaws.{set_put, set_ascends}
+use Rattle.unix_world.specs.declared.World.{World}
+use Rattle.unix_run.specs.declared.came.Came.{Came}
+use Rattle.unix_run.specs.declared.came.Came.TheVariants as came
+use Rattle.unix_world.specs.Among.{Ascending}
+use Rattle.unix_run.specs.Among.{ComesAmong, KeepsAmong}
+use Rattle.unix_world.specs.Worlds.{unix_of}
+use Rattle.unix_run.specs.Coming.{Comes, Keeps, told}
+use Rattle.unix_world.proofs.ProcessLaws.{set_put, set_ascends}
 
 -- a fact of what a call gave leads to another
 pub if_ok : {A E : Type 0} {P Q : A → Type 0} (r : Result A E) → ((x : A) → P x → Q x) → IfOk r P → IfOk r Q

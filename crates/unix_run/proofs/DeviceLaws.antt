@@ -21,12 +21,13 @@ use Rattle.unix_calls.specs.State.{Unix, device_at, stream_of, with_device, with
 use Rattle.unix_calls.specs.Answers.{Outcome, Answered, Waits, refuses, replies}
 use Rattle.unix_calls.specs.DeviceCalls.{answer_of, asked_bytes, at_master, device_of, get_from, kind_of, put_to, puts, taken, takes_first, with_device_of}
 use Rattle.unix_calls.specs.StreamCalls.{with_found}
-use Rattle.unix_run.specs.declared.world.World.{World}
-use Rattle.unix_run.specs.declared.world.Came.{Came}
-use Rattle.unix_run.specs.declared.world.Came.TheVariants as came
+use Rattle.unix_world.specs.declared.World.{World}
+use Rattle.unix_run.specs.declared.came.Came.{Came}
+use Rattle.unix_run.specs.declared.came.Came.TheVariants as came
 use Rattle.unix_run.specs.Devices.{get_at, put_at}
-use Rattle.unix_run.specs.Worlds.{Comes, unix_of}
-use Rattle.unix_run.proofs.ChangeLaws.{changed_at}
+use Rattle.unix_world.specs.Worlds.{unix_of}
+use Rattle.unix_run.specs.Coming.{Comes}
+use Rattle.unix_world.proofs.ChangeLaws.{changed_at}
 
 -- an answered call
 pub comes_answered : (c : Description) (call : Unix → Process → Outcome) (w : World) (p : Process) (reply : Reply) (is : Came) (after : World) (q : Process) → is ≡ came.Answered reply → ((ps : List Process) → call (unix_of c w ps) p ≡ Answered reply (with_process q (unix_of c after ps))) → q.pid ≡ p.pid → after.entries ≡ w.entries → Comes c call w p is after q

@@ -19,13 +19,15 @@ use Rattle.unix_calls.specs.Same.{same_reply}
 use Rattle.unix_calls.specs.After.{after_ask, after_done, after_whole, answer_due, done_at, done_with, failed, may_fail, outcome, state_in, with_reply}
 use Rattle.unix_calls.proofs.AfterLaws.{refusal_changes_nothing}
 use Rattle.unix_calls.proofs.SameLaws.{reply_is}
-use Rattle.unix_run.specs.declared.world.World.{World}
-use Rattle.unix_run.specs.declared.world.Came.{Came}
-use Rattle.unix_run.specs.declared.world.Came.TheVariants as came
-use Rattle.unix_run.specs.Among.{Ascending, ComesAmong, KeepsAmong}
+use Rattle.unix_world.specs.declared.World.{World}
+use Rattle.unix_run.specs.declared.came.Came.{Came}
+use Rattle.unix_run.specs.declared.came.Came.TheVariants as came
+use Rattle.unix_world.specs.Among.{Ascending}
+use Rattle.unix_run.specs.Among.{ComesAmong, KeepsAmong}
 use Rattle.unix_run.specs.Entering.{Makes, MakesAmong, asks_at, asks_free, done_in, due_from, ends_ask, is_answer, made_state, stands}
-use Rattle.unix_run.specs.Worlds.{told, unix_of}
-use Rattle.unix_run.proofs.ProcessLaws.{set_ascends, set_put}
+use Rattle.unix_world.specs.Worlds.{unix_of}
+use Rattle.unix_run.specs.Coming.{told}
+use Rattle.unix_world.proofs.ProcessLaws.{set_ascends, set_put}
 
 -- a step in the process's place
 pub makes_among : (c : Description) (step : Unix → Process → Option Unix) (w : World) (ps : List Process) (at : ℕ) (p : Process) (is : Bool) (after : World) (q : Process) → Ascending ps → slice_get ps at ≡ Some p → Makes c step w p is after q → MakesAmong c step w ps at is after (slice_set ps at q)

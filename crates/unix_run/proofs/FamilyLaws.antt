@@ -16,15 +16,16 @@ use Rattle.unix_calls.specs.State.{Unix, births, next_pid, process_at, put_proce
 use Rattle.unix_calls.specs.Answers.{Answered, Waits, is_done, nothing, refuses, replied, replies, value}
 use Rattle.unix_calls.specs.ProcessCalls.{child_of, ended_ones, fork, forked, is_unwaited, kill, kill_of, status_of, unwaited, wait, waits_for, with_kill}
 use Rattle.unix_calls.proofs.ProcessLaws.{put_again}
-use Rattle.unix_run.specs.declared.world.World.{World}
-use Rattle.unix_run.specs.declared.world.Came.{Came}
-use Rattle.unix_run.specs.declared.world.Came.TheVariants as came
-use Rattle.unix_run.specs.Among.{Ascending, ComesAmong}
+use Rattle.unix_world.specs.declared.World.{World}
+use Rattle.unix_run.specs.declared.came.Came.{Came}
+use Rattle.unix_run.specs.declared.came.Came.TheVariants as came
+use Rattle.unix_world.specs.Among.{Ascending}
+use Rattle.unix_run.specs.Among.{ComesAmong}
 use Rattle.unix_run.specs.Family.{is_ended_child}
-use Rattle.unix_run.specs.Worlds.{unix_of}
-use Rattle.unix_run.proofs.ProcessLaws.{put_ascends, put_swap, set_ascends, set_put, stands_once}
+use Rattle.unix_world.specs.Worlds.{unix_of}
+use Rattle.unix_world.proofs.ProcessLaws.{put_ascends, put_swap, set_ascends, set_put, stands_once}
 use Rattle.unix_run.proofs.AmongLaws.{answered_among, comes_among}
-use Rattle.unix_run.proofs.ChangeLaws.{found_at}
+use Rattle.unix_world.proofs.ChangeLaws.{found_at}
 
 -- ---- kill
 

@@ -1,12 +1,7 @@
 pub mod AmongLaws
-pub mod BootLaws
-pub mod ChangeLaws
-pub mod ContentLaws
 pub mod DeviceLaws
 pub mod EnteringLaws
 pub mod OpeningLaws
-pub mod TreeLaws
 pub mod EntryLaws
-pub mod ProcessLaws
 pub mod FamilyLaws
 pub mod OutcomeLaws

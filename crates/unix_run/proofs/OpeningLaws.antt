@@ -15,11 +15,12 @@ use Rattle.unix_calls.specs.State.{Unix}
 use Rattle.unix_calls.specs.Answers.{Outcome, unless_refused}
 use Rattle.unix_calls.specs.NameCalls.{new_refusal, refusal_if}
 use Rattle.unix_calls.specs.Opening.{creates_file, cut, make_at, opened, with_new_device, with_new_file}
-use Rattle.unix_run.specs.declared.world.World.{World}
-use Rattle.unix_run.specs.declared.world.Came.{Came}
-use Rattle.unix_run.specs.declared.world.Came.TheVariants as came
+use Rattle.unix_world.specs.declared.World.{World}
+use Rattle.unix_run.specs.declared.came.Came.{Came}
+use Rattle.unix_run.specs.declared.came.Came.TheVariants as came
 use Rattle.unix_run.specs.Contents.{cut_files}
-use Rattle.unix_run.specs.Worlds.{Comes, Keeps, unix_of}
+use Rattle.unix_world.specs.Worlds.{unix_of}
+use Rattle.unix_run.specs.Coming.{Comes, Keeps}
 
 -- what a call comes to whose first step leads to another state, where another call is answered
 pub comes_from : (c : Description) (call inner : Unix → Process → Outcome) (w between : World) (p : Process) (reply : Reply) (is : Came) (after : World) (q : Process) → ((ps : List Process) → call (unix_of c w ps) p ≡ inner (unix_of c between ps) p) → between.entries ≡ w.entries → is ≡ came.Answered reply → Comes c inner between p is after q → Comes c call w p is after q

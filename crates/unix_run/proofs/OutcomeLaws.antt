@@ -6,11 +6,12 @@ use Rattle.unix_calls.specs.declared.description.Description.{Description}
 use Rattle.unix_calls.specs.declared.state.Process.{Process}
 use Rattle.unix_calls.specs.After.{outcome}
 use Rattle.unix_calls.specs.NameCalls.{at_path, list, rename}
-use Rattle.unix_run.specs.declared.world.World.{World}
-use Rattle.unix_run.specs.declared.world.Came.{Came}
-use Rattle.unix_run.specs.Among.{Ascending, ComesAmong}
+use Rattle.unix_world.specs.declared.World.{World}
+use Rattle.unix_run.specs.declared.came.Came.{Came}
+use Rattle.unix_world.specs.Among.{Ascending}
+use Rattle.unix_run.specs.Among.{ComesAmong}
 use Rattle.unix_run.specs.Outcomes.{Alone, ByName}
-use Rattle.unix_run.specs.Worlds.{Comes}
+use Rattle.unix_run.specs.Coming.{Comes}
 use Rattle.unix_run.proofs.AmongLaws.{among_of, if_ok}
 
 pub by_list : {E : Type 0} (c : Description) (w : World) (p : Process) (a : Call) (path text : List ℕ) (max : ℕ) (r : Result Came E) (after : World) (q : Process) → a ≡ call.List path max → text ≡ path → IfOk r (λ came. Comes c (λ u x. at_path c u x text (λ directory. list c u x directory max)) w p came after q) → IfOk r (λ came. ByName a (Comes c (λ u x. outcome c u x a) w p came after q))

@@ -1,36 +1,17 @@
--- The processes by ascending number, where one of them stands, and what a call of one among them comes to.
-use Rattle.std.specs.Prelude.{◌≡◌, ◌<◌, ℕ, List, [], ◌∷◌, Option, Some, None, slice_get, slice_set}
-use Rattle.std.specs.List.{AllByRecursion}
+-- What a call of one process among all comes to.
+use Rattle.std.specs.Prelude.{◌≡◌, ◌<◌, ℕ, List, Some, slice_get}
 use Rattle.process_machine.specs.declared.call.Call.{Call}
 use Rattle.process_machine.specs.declared.call.Call.TheVariants as call
 use Rattle.unix_calls.specs.declared.description.Description.{Description}
 use Rattle.unix_calls.specs.declared.state.Process.{Process}
-use Rattle.unix_calls.specs.State.{Unix, process_at, put_process}
+use Rattle.unix_calls.specs.State.{Unix}
 use Rattle.unix_calls.specs.Answers.{Outcome}
-use Rattle.unix_run.specs.declared.world.World.{World}
-use Rattle.unix_run.specs.declared.world.Came.{Came}
-use Rattle.unix_run.specs.declared.world.Came.TheVariants as came
-use Rattle.unix_run.specs.Worlds.{told, unix_of}
-
-abbrev pub Behind : ℕ → Process → Type 0
-Behind pid p = pid < p.pid
-
--- by ascending number
-abbrev pub Ascending : List Process → Type 0
-Ascending [] = Unit {0}
-Ascending (p ∷ ps) = AllByRecursion (Behind p.pid) ps × Ascending ps
-
--- the process of that number stands there: it is the one found, and another of the number in its place is one put
-pub record IsAt (ps : List Process) (pid at : ℕ) : Type 0 where
-  pub process : Process
-  pub there : slice_get ps at ≡ Some process
-  pub found : process_at ps pid ≡ Some process
-  pub puts : (r : Process) → r.pid ≡ pid → slice_set ps at r ≡ put_process r ps
-
--- where a process of that number stands, if there is one
-abbrev pub StandsAt : List Process → ℕ → Option ℕ → Type 0
-StandsAt ps pid None = process_at ps pid ≡ None
-StandsAt ps pid (Some at) = IsAt ps pid at
+use Rattle.unix_world.specs.declared.World.{World}
+use Rattle.unix_world.specs.Among.{Ascending}
+use Rattle.unix_world.specs.Worlds.{unix_of}
+use Rattle.unix_run.specs.declared.came.Came.{Came}
+use Rattle.unix_run.specs.declared.came.Came.TheVariants as came
+use Rattle.unix_run.specs.Coming.{told}
 
 -- the caller stands there, and its calls can be counted further
 pub record IsCaller (ps : List Process) (at : ℕ) : Type 0 where

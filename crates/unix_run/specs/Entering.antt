@@ -14,11 +14,11 @@ use Rattle.unix_calls.specs.State.{Unix, device_at, no_descriptors, with_process
 use Rattle.unix_calls.specs.DeviceCalls.{answer_for}
 use Rattle.unix_calls.specs.Same.{same_reply}
 use Rattle.unix_calls.specs.After.{after_ask, asked, done_with, may_fail, outcome}
-use Rattle.unix_run.specs.declared.world.World.{World}
-use Rattle.unix_run.specs.declared.world.Came.{Came}
-use Rattle.unix_run.specs.declared.world.Came.TheVariants as came
-use Rattle.unix_run.specs.Among.{Ascending}
-use Rattle.unix_run.specs.Worlds.{unix_of}
+use Rattle.unix_world.specs.declared.World.{World}
+use Rattle.unix_run.specs.declared.came.Came.{Came}
+use Rattle.unix_run.specs.declared.came.Came.TheVariants as came
+use Rattle.unix_world.specs.Among.{Ascending}
+use Rattle.unix_world.specs.Worlds.{unix_of}
 
 -- the state that was made; none where none was
 abbrev pub made_state : Bool → Unix → Option Unix

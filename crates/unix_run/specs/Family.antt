@@ -1,14 +1,8 @@
 -- Parts of the calls on other processes that code has functions of their own for.
-use Rattle.std.specs.Prelude.{◌≡◌, ℕ, ◌==◌, Bool, true, false, ◌&&◌, if◌then◌else◌, List, nat_le, Option, Some, None, slice_get, slice_set}
+use Rattle.std.specs.Prelude.{◌≡◌, ℕ, ◌==◌, Bool, true, ◌&&◌, if◌then◌else◌, List, Some, slice_get, slice_set}
 use Rattle.std.specs.Option.{is_some}
 use Rattle.unix_calls.specs.declared.state.Process.{Process}
-use Rattle.unix_calls.specs.State.{births, next_pid}
 use Rattle.unix_calls.specs.ProcessCalls.{is_unwaited}
-
--- the number of a home's next process; none where it made 200
-abbrev pub IsNext : List Process → ℕ → Option ℕ → Type 0
-IsNext ps home None = nat_le 200 (births ps home) ≡ true
-IsNext ps home (Some pid) = (nat_le 200 (births ps home) ≡ false) × (pid ≡ next_pid ps home)
 
 -- whether a process is an unwaited child of that one, and has ended
 abbrev pub is_ended_child : ℕ → Process → Bool

@@ -1,9 +1,8 @@
-pub mod Worlds
+pub mod Coming
 pub mod Contents
 pub mod Names
 pub mod Devices
 pub mod Among
 pub mod Entering
-pub mod Starts
 pub mod Family
 pub mod Outcomes

@@ -1,29 +1,14 @@
 ghost use Rattle.std.specs.Prelude.{◌≡◌, ◌<◌, []};
-ghost use Rattle.std.specs.Option.{option_map};
 ghost use Rattle.process_machine.specs.declared.call.Reply.TheVariants.{Error, Value};
-ghost use Rattle.unix_calls.specs.Answers.{nothing, program_at, replied, value};
-ghost use Rattle.unix_run.specs.declared.world.Came.TheVariants as came;
+ghost use Rattle.unix_calls.specs.Answers.{nothing, replied, value};
+ghost use Rattle.unix_run.specs.declared.came.Came.TheVariants as came;
 
-use crate::world::Came;
-use process_machine::{Program, Reply, give};
+use crate::came::Came;
+use process_machine::{Reply, give};
 use sprite_ids::{Bytes, Errno};
 use std::alloc::Global;
-use unix_calls::{Description, Process, ProgramLine};
-
-/// The program at that place, from 1.
-pub fn program_at(lines: &[ProgramLine], place: u8) -> Option<&Program>
-    ensures { option_map (λ program. program.now) result ≡ program_at lines.now place }
-{
-    if place == 0 {
-        return None;
-    }
-    let at = usize::from(place - 1);
-    if at < lines.len() {
-        Some(&lines[at].program)
-    } else {
-        None
-    }
-}
+use unix_calls::{Description, Process};
+use unix_world::program_at;
 
 /// The process has that reply.
 pub(crate) fn reply_to(c: &Description, p: &mut Process, reply: &Reply)

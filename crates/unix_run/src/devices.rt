@@ -4,16 +4,16 @@ ghost use Rattle.byteorder.specs.Endian.{little_bytes};
 ghost use Rattle.unix_calls.specs.DeviceCalls.{answer_of, asked_bytes, errno_of, ioctl, kind_of, most_of, pd_get, pd_put, reply_of};
 ghost use Rattle.unix_calls.specs.declared.state.Device.{Device};
 ghost use Rattle.unix_run.specs.Devices.{first_taken, get_at, put_at};
-ghost use Rattle.unix_run.specs.Worlds.{Comes};
+ghost use Rattle.unix_run.specs.Coming.{Comes};
 
 use crate::answers::{answer, give_value, refuse};
-use crate::lookups::stream_of;
-use crate::world::{Came, World};
+use crate::came::Came;
 use byteorder::{ByteOrder, LittleEndian};
 use process_machine::{Call, Reply};
 use sprite_ids::{Bytes, Errno, NoMemory};
 use std::alloc::Global;
 use unix_calls::{Answer, Description, Device, Object, Process};
+use unix_world::{World, stream_of};
 
 /// `ioctl fd command addr len`: a device's master answers. BadFd; Invalid: a file; BadMode: a master's stream (Welch and Ousterhout
 /// 1988).

@@ -6,11 +6,11 @@ ghost use Rattle.unix_run.specs.Entering.{Dies, IsFor, Makes, asks_at, ends_ask,
 use crate::answers::reply_to;
 use crate::devices::place_of;
 use crate::same::same_reply;
-use crate::world::World;
 use process_machine::{Call, Reply};
 use sprite_ids::{Copying, Ending, Errno, Items, NoMemory, Pid};
 use std::alloc::Global;
 use unix_calls::{Answer, Ask, Description, Device, Process};
+use unix_world::World;
 
 /// A death: the process ends where a kill of it is pending and it is in no ask.
 pub fn die(p: &mut Process) -> bool

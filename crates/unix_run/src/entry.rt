@@ -3,20 +3,21 @@ ghost use Rattle.std.specs.List.{list_any};
 ghost use Rattle.unix_calls.specs.Lawful.{Lawful};
 ghost use Rattle.unix_calls.specs.State.{holds_master_of};
 ghost use Rattle.unix_calls.specs.After.{after_done, after_whole};
-ghost use Rattle.unix_run.specs.Among.{Ascending, IsBounded, IsCaller};
+ghost use Rattle.unix_world.specs.Among.{Ascending};
+ghost use Rattle.unix_run.specs.Among.{IsBounded, IsCaller};
 ghost use Rattle.unix_run.specs.Entering.{MakesAmong, asks_free, is_answer, stands};
 
 use crate::answers::reply_to;
+use crate::came::Came;
 use crate::entering::{ask, end_ask};
 use crate::faults::may_fail;
-use crate::lookups::holds_master_of;
 use crate::outcomes::outcome;
 use crate::same::same_reply;
-use crate::world::{Came, World};
 use process_machine::{Call, Reply};
 use sprite_ids::{Items, NoMemory};
 use std::alloc::Global;
-use unix_calls::{Description, Process, Stream};
+use unix_calls::{Description, Process};
+use unix_world::{Streams, World, holds_master_of};
 
 // Whether the reply may stand in the place of the one that is due.
 fn stands(alloc: Global, p: &Process, call: &Call, reply: &Reply) -> Result<bool, NoMemory>
@@ -90,7 +91,7 @@ pub fn enter_ask(
 }
 
 // Whether a device is alive: a process holds its master stream.
-fn is_alive(streams: &[Stream], ps: &[Process], device: u32) -> bool
+fn is_alive(streams: &Streams, ps: &[Process], device: u32) -> bool
     ensures { result ≡ list_any (holds_master_of streams.now device) ps.now }
 {
     for process in ps {
@@ -116,6 +117,6 @@ pub fn enter_done(
     let Some(place) = ps.at(at).asking else {
         return false;
     };
-    let alive = is_alive(world.streams.as_slice(), ps.as_slice(), place);
+    let alive = is_alive(&world.streams, ps.as_slice(), place);
     end_ask(c, world, ps.at_mut(at), place, alive, reply)
 }

@@ -4,17 +4,18 @@ ghost use Rattle.std.specs.Option.{option_and_then};
 ghost use Rattle.unix_calls.specs.declared.state.Process.{Process};
 ghost use Rattle.unix_calls.specs.Answers.{given_by, nothing, program_at};
 ghost use Rattle.unix_calls.specs.ProcessCalls.{child_of, fork, getppid, is_unwaited, kill, living_number, status_of, wait};
-ghost use Rattle.unix_calls.specs.State.{births, process_at, put_process};
-ghost use Rattle.unix_run.specs.Among.{Ascending, ComesAmong, IsCaller};
-ghost use Rattle.unix_run.specs.Family.{IsMarked, IsNext, is_ended_child};
+ghost use Rattle.unix_calls.specs.State.{process_at, put_process};
+ghost use Rattle.unix_world.specs.Among.{Ascending};
+ghost use Rattle.unix_run.specs.Among.{ComesAmong, IsCaller};
+ghost use Rattle.unix_run.specs.Family.{IsMarked, is_ended_child};
 
-use crate::answers::{give_two, give_value, nothing, program_at, refuse};
-use crate::processes::{find, find_number, put};
-use crate::world::{Came, World};
+use crate::answers::{give_two, give_value, nothing, refuse};
+use crate::came::Came;
 use process_machine::{Image, give};
-use sprite_ids::{Bytes, Copying, Ending, Errno, Items, Kernel, NoMemory, Pid};
+use sprite_ids::{Bytes, Copying, Ending, Errno, Items, NoMemory, Pid};
 use std::alloc::Global;
 use unix_calls::{Description, Process};
+use unix_world::{World, find, find_number, next_pid, program_at, put};
 
 /// `getppid`: the parent's number; 0 for a process that runs from the start or whose parent has ended.
 pub(crate) fn getppid(
@@ -72,26 +73,6 @@ pub(crate) fn fork(
     Ok(came)
 }
 
-// The number of the home's next process; none where it made 200.
-fn next_pid(ps: &[Process], home: Kernel) -> Option<Pid>
-    ensures { IsNext ps.now home result }
-{
-    let births = births(ps, home);
-    if births >= 200 {
-        return None;
-    }
-    Pid::new(home, 1 + births as u32)
-}
-
-// How many processes the home has made.
-fn births(ps: &[Process], home: Kernel) -> usize
-    ensures { result ≡ births ps.now home }
-{
-    ps.iter()
-        .filter(|process| process.pid.home() == home)
-        .count()
-}
-
 // The child of a process: with the same image, descriptors and cwd; its call gives 0.
 fn child_of(alloc: Global, c: &Description, p: &Process, pid: Pid) -> Result<Process, NoMemory>
     ensures { IfOk result (λ child. child ≡ child_of c.now p.now pid) }
@@ -131,7 +112,6 @@ fn add_child(
     child: Process,
     parent: Pid,
 ) -> Result<(), NoMemory>
-    requires { Ascending ps.old }
     ensures { OnOk result (ps.new ≡ (if child.pid == parent then ps.old else put_process child ps.old)) }
 {
     if child.pid == parent {

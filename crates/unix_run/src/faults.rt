@@ -3,13 +3,13 @@ ghost use Rattle.std.specs.Option.{is_some};
 ghost use Rattle.unix_calls.specs.State.{free_descriptor};
 ghost use Rattle.unix_calls.specs.After.{is_path, may_break, may_fail, may_miss};
 
-use crate::lookups::free_descriptor;
 use crate::names::path_of;
 use crate::opening::flags_of;
 use process_machine::Call;
 use sprite_ids::{Errno, NoMemory};
 use std::alloc::Global;
 use unix_calls::Process;
+use unix_world::free_descriptor;
 
 // Whether a text is a path of the process.
 fn is_path(alloc: Global, p: &Process, text: &[u8]) -> Result<bool, NoMemory>

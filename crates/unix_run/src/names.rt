@@ -4,16 +4,19 @@ ghost use Rattle.unix_calls.specs.Lawful.{Lawful};
 ghost use Rattle.unix_calls.specs.Domains.{begins_domain, roots_of};
 ghost use Rattle.unix_calls.specs.NameCalls.{at_path, chdir, chdir_refusal, list, mkdir, new_refusal, rename, rename_refusal, rmdir, rmdir_refusal, stat, unlink, unlink_refusal};
 ghost use Rattle.unix_run.specs.Names.{lists, place_refusal};
-ghost use Rattle.unix_run.specs.Worlds.{Comes, bare, unix_of};
+ghost use Rattle.unix_world.specs.Worlds.{bare, unix_of};
+ghost use Rattle.unix_run.specs.Coming.{Comes};
 
 use crate::answers::{answer, give_two, give_value, refuse};
-use crate::tree::{above, add_name, count_below, is_full, listing, node_at, remove_name, walk};
-use crate::world::{Came, World};
+use crate::came::Came;
 use process_machine::Reply;
 use sprite_ids::{Errno, NoMemory};
 use sprite_paths::{Path, PathEnd};
 use std::alloc::Global;
 use unix_calls::{Description, Named, Node, Process};
+use unix_world::{
+    World, above, add_name, count_below, is_full, listing, node_at, remove_name, walk,
+};
 
 /// The path of a text, from the process's cwd; none where the text is no path.
 pub(crate) fn path_of(alloc: Global, p: &Process, text: &[u8]) -> Result<Option<Path>, NoMemory>

@@ -2,21 +2,19 @@ ghost use Rattle.std.specs.Prelude.{◌≡◌, ◌<◌, ◌∷◌, ◌++◌, [],
 ghost use Rattle.unix_calls.specs.declared.state.Object.TheVariants.{OfFile};
 ghost use Rattle.unix_calls.specs.Answers.{value};
 ghost use Rattle.unix_calls.specs.Opening.{creates_file, cut, flags_by, flags_of, mode_of, open_at, open_file, opened, pd_make, make_at};
-ghost use Rattle.unix_run.specs.declared.world.Came.TheVariants as came;
+ghost use Rattle.unix_run.specs.declared.came.Came.TheVariants as came;
 ghost use Rattle.unix_run.specs.Contents.{cut_files};
-ghost use Rattle.unix_run.specs.Worlds.{Comes};
+ghost use Rattle.unix_run.specs.Coming.{Comes};
 
 use crate::answers::{give_value, refuse};
-use crate::files::clear_bytes;
-use crate::lookups::free_descriptor;
+use crate::came::Came;
 use crate::names::{new_refusal, path_of};
 use crate::streams::writes;
-use crate::tree::{above, add_name, is_full, node_at, walk};
-use crate::world::{Came, World};
 use sprite_ids::{Bytes, Errno, Items, Mode, NoMemory};
 use sprite_paths::Path;
 use std::alloc::Global;
 use unix_calls::{Description, Device, File, FileName, Flags, Node, Object, Process, Stream};
+use unix_world::{Files, World, above, add_name, free_descriptor, is_full, node_at, walk};
 
 // The mode of two bits: 1 read, 2 write, 3 both.
 fn mode_of(bits: u64) -> Option<Mode>
@@ -151,11 +149,11 @@ fn open_named(
 }
 
 // Takes all bytes of a file away, where that is asked for.
-fn cut_bytes(alloc: Global, files: &mut Items<File>, truncates: bool, name: FileName)
+fn cut_bytes(alloc: Global, files: &mut Files, truncates: bool, name: FileName)
     ensures { files.new ≡ cut_files truncates name files.old }
 {
     if truncates {
-        clear_bytes(alloc, files, name);
+        files.clear(alloc, name);
     }
 }
 

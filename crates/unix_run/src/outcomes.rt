@@ -1,22 +1,24 @@
 ghost use Rattle.std.specs.Prelude.{◌<◌, IfOk};
 ghost use Rattle.unix_calls.specs.After.{outcome};
 ghost use Rattle.unix_calls.specs.Lawful.{Lawful};
-ghost use Rattle.unix_run.specs.Among.{Ascending, ComesAmong, IsBounded, IsCaller};
+ghost use Rattle.unix_world.specs.Among.{Ascending};
+ghost use Rattle.unix_run.specs.Among.{ComesAmong, IsBounded, IsCaller};
 ghost use Rattle.unix_run.specs.Outcomes.{Alone, ByName, OnStream};
-ghost use Rattle.unix_run.specs.Worlds.{Comes};
+ghost use Rattle.unix_run.specs.Coming.{Comes};
 
 use crate::answers::refuse;
+use crate::came::Came;
 use crate::devices::{ioctl, pd_get, pd_put};
 use crate::family::{fork, getppid, kill, wait};
 use crate::names::{chdir, list, mkdir, rename, rmdir, stat, unlink};
 use crate::opening::{open_file, pd_make};
 use crate::running::{end, exec, getpid, host, migrate, print, rexec, tick};
 use crate::streams::{close, dup, read, seek, size, sync, write};
-use crate::world::{Came, World};
 use process_machine::Call;
 use sprite_ids::{Ending, Items, NoMemory};
 use std::alloc::Global;
 use unix_calls::{Description, Process};
+use unix_world::World;
 
 /// What a call comes to of the process that stands at `at` among these, whose image stands at it.
 pub fn outcome(

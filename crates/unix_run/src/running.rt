@@ -3,16 +3,17 @@ ghost use Rattle.std.specs.Option.{option_map};
 ghost use Rattle.process_machine.specs.Fresh.{fresh_machine};
 ghost use Rattle.unix_calls.specs.Answers.{gives, nothing};
 ghost use Rattle.unix_calls.specs.ProcessCalls.{ends, exec, host, is_host, kernel_name, migrate, move_refusal, print, program_named, rexec, tick};
-ghost use Rattle.unix_run.specs.declared.world.Came.TheVariants as came;
-ghost use Rattle.unix_run.specs.Worlds.{Comes, unix_of};
+ghost use Rattle.unix_run.specs.declared.came.Came.TheVariants as came;
+ghost use Rattle.unix_world.specs.Worlds.{unix_of};
+ghost use Rattle.unix_run.specs.Coming.{Comes};
 
 use crate::answers::{answer, give_value, nothing, refuse};
-use crate::lookups::holds_a_master;
-use crate::world::{Came, World};
+use crate::came::Came;
 use process_machine::{Image, Program, Reply};
 use sprite_ids::{Bytes, Copying, Ending, Errno, NoMemory};
 use std::alloc::Global;
 use unix_calls::{Description, KernelLine, Process, ProgramLine};
+use unix_world::{World, holds_a_master};
 
 /// `print addr len`: the bytes join the console.
 pub(crate) fn print(

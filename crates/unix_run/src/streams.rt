@@ -1,16 +1,15 @@
 ghost use Rattle.std.specs.Prelude.{◌≡◌, ◌<◌, IfOk};
 ghost use Rattle.unix_calls.specs.Opening.{reads, writes};
 ghost use Rattle.unix_calls.specs.StreamCalls.{begins_at, close, dup, read, read_file, seek, size, sync, write, write_file};
-ghost use Rattle.unix_run.specs.Worlds.{Comes};
+ghost use Rattle.unix_run.specs.Coming.{Comes};
 
 use crate::answers::{answer, give_value, refuse};
-use crate::files::{bytes_of, bytes_read, write_bytes};
-use crate::lookups::{free_descriptor, put_offset, stream_of};
-use crate::world::{Came, World};
+use crate::came::Came;
 use process_machine::Reply;
 use sprite_ids::{Errno, Mode, NoMemory};
 use std::alloc::Global;
 use unix_calls::{Description, FileName, Object, Process, Stream};
+use unix_world::{World, free_descriptor, stream_of};
 
 /// `close fd`: the descriptor is free. BadFd: it is not in use.
 pub(crate) fn close(
@@ -109,10 +108,10 @@ fn read_file(
     requires { p.old.calls < 4294967295 }
     ensures { IfOk result (λ came. Comes c.now (λ u q. read_file c.now u q stream.now many name) world.old p.old came world.new p.new) }
 {
-    let bytes = bytes_read(alloc, world.files.as_slice(), name, stream.offset, many)?;
+    let bytes = world.files.read(alloc, name, stream.offset, many)?;
     let first = bytes.len() as u64;
     let offset = stream.offset.checked_add(first).ok_or(NoMemory)?;
-    put_offset(&mut world.streams, stream, offset);
+    world.streams.put_offset(stream, offset);
     let second = 0;
     Ok(answer(
         c,
@@ -163,13 +162,13 @@ fn write_file(
     requires { p.old.calls < 4294967295 }
     ensures { IfOk result (λ came. Comes c.now (λ u q. write_file c.now u q stream.now bytes.now name) world.old p.old came world.new p.new) }
 {
-    let from = begins_at(stream, bytes_of(world.files.as_slice(), name));
+    let from = begins_at(stream, world.files.bytes_of(name));
     let end = from.saturating_add(bytes.len() as u64);
     if u64::from(world.limit) < end {
         return Ok(refuse(c, p, Errno::TooBig));
     }
-    write_bytes(alloc, &mut world.files, name, from, bytes)?;
-    put_offset(&mut world.streams, stream, end);
+    world.files.write(alloc, name, from, bytes)?;
+    world.streams.put_offset(stream, end);
     Ok(give_value(alloc, c, p, bytes.len() as u64))
 }
 
@@ -205,7 +204,7 @@ pub(crate) fn seek(
     if u64::from(world.limit) < offset {
         return Ok(refuse(c, p, Errno::Invalid));
     }
-    put_offset(&mut world.streams, &stream, offset);
+    world.streams.put_offset(&stream, offset);
     Ok(give_value(alloc, c, p, offset))
 }
 
@@ -226,7 +225,7 @@ pub(crate) fn size(
     let Object::OfFile(name) = stream.object else {
         return Ok(refuse(c, p, Errno::Invalid));
     };
-    let count = bytes_of(world.files.as_slice(), name).len() as u64;
+    let count = world.files.bytes_of(name).len() as u64;
     Ok(give_value(alloc, c, p, count))
 }
 

@@ -1,4 +1,4 @@
-//! Tests of `unix_run`: what one kernel's Unix has at its start.
+//! Tests of `unix_world`: what one kernel's Unix has at its start.
 #![tactic(auto)]
 
 #[cfg(test)]

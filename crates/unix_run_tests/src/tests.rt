@@ -7,7 +7,7 @@ use std::test::*;
 use unix_calls::{
     Description, FileLine, FileName, KernelLine, Node, Process, ProgramLine, StartLine,
 };
-use unix_run::{World, boot};
+use unix_world::{World, boot};
 
 // The kernels, each with its domain; a client has none.
 const KERNELS: [(&[u8], &[u8]); 4] = [(b"s1", b"/"), (b"s2", b"/a/b"), (b"c1", b""), (b"c2", b"")];
@@ -198,10 +198,11 @@ fn first_other_name(alloc: Global, world: &World) -> Result<Option<usize>, NoMem
 
 // Whether the file at that place is this one.
 fn has_file(world: &World, at: usize, name: FileName, bytes: &[u8]) -> bool {
-    if at >= world.files.len() {
+    let files = world.files.as_slice();
+    if at >= files.len() {
         return false;
     }
-    let file = world.files.at(at);
+    let file = &files[at];
     file.name == name && file.bytes.as_slice() == bytes
 }
 
@@ -253,7 +254,7 @@ fn first_other(
     if world.nodes.len() != NAMES.len() || first_other_name(alloc, world)?.is_some() {
         return Ok(Some(Part::Names));
     }
-    if world.files.len() != FILES.len() || first_other_file(world).is_some() {
+    if world.files.as_slice().len() != FILES.len() || first_other_file(world).is_some() {
         return Ok(Some(Part::Files));
     }
     if processes.len() != PROCESSES.len() || first_other_process(processes).is_some() {

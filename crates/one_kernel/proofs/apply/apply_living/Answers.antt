@@ -1,7 +1,7 @@
 use Rattle.std.proofs.Common.{Option, refl, sym, subst, arith}
 use Rattle.process_machine.specs.declared.call.Call.{Call}
 use Rattle.unix_calls.specs.After.{after_living}
-use Rattle.unix_run.specs.Worlds.{unix_of}
+use Rattle.unix_world.specs.Worlds.{unix_of}
 use Rattle.one_kernel.specs.Verdicts.{way_at}
 use Rattle.one_kernel.specs.declared.apply.Applied.{Applied}
 use Rattle.one_kernel.specs.Applied.{Applies, applied_by, dies}

@@ -1,8 +1,8 @@
 use Rattle.std.proofs.Common.{◌≡◌, ◌≤◌, ◌+◌, ◌-◌, ◌∷◌, suc, drop, sym, ap, subst, ◌∙◌, arith, add-one, drop-cons}
 use Rattle.unix_calls.specs.declared.entry.Entry.{Entry}
 use Rattle.unix_calls.specs.After.{after}
-use Rattle.unix_run.specs.Worlds.{unix_of}
-use Rattle.unix_run.proofs.BootLaws.{lawful_boots}
+use Rattle.unix_world.specs.Worlds.{unix_of}
+use Rattle.unix_world.proofs.BootLaws.{lawful_boots}
 use Rattle.one_kernel.specs.declared.apply.Applied.{Applied}
 use Rattle.one_kernel.specs.Applied.{Applies}
 use Rattle.one_kernel.specs.Verdicts.{verdict_from, way_of}

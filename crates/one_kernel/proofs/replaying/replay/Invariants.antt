@@ -1,7 +1,7 @@
 use Rattle.std.proofs.Common.{◌≡◌, ◌≤◌, drop, Some}
 use Rattle.unix_calls.specs.After.{state_from, state_of}
-use Rattle.unix_run.specs.Among.{Ascending}
-use Rattle.unix_run.specs.Worlds.{unix_of}
+use Rattle.unix_world.specs.Among.{Ascending}
+use Rattle.unix_world.specs.Worlds.{unix_of}
 use Rattle.one_kernel.specs.Verdicts.{verdict_from, verdict_of}
 use Rattle.one_kernel.proofs.replaying.replay.Given as goal
 

@@ -1,7 +1,7 @@
 use Rattle.std.proofs.Common.{ℕ, ◌<◌, ◌≤◌, List, refl, sym, ap, ap₂, subst, ◌∙◌, drop, length, slice_set}
 use Rattle.std.proofs.lemmas.Bool.{lt-ltb, le-ltb}
 use Rattle.sprite_ids.proofs.ListLaws.{some_is}
-use Rattle.unix_run.specs.declared.world.Came.TheVariants as came
+use Rattle.unix_run.specs.declared.came.Came.TheVariants as came
 use Rattle.sprite_ids.specs.declared.errno.Errno.TheVariants as errno
 use Rattle.process_machine.specs.declared.call.Reply.TheVariants.{Value, Error}
 use Rattle.unix_calls.specs.declared.state.Device.{Device}
@@ -10,8 +10,8 @@ use Rattle.unix_calls.specs.State.{with_process}
 use Rattle.unix_calls.specs.Answers.{Answered, replied}
 use Rattle.unix_calls.specs.DeviceCalls.{asked_bytes, kind_of, taken}
 use Rattle.unix_run.specs.Devices.{first_taken, get_at, taken_by}
-use Rattle.unix_run.specs.Worlds.{unix_of}
-use Rattle.unix_run.proofs.ChangeLaws.{device_there}
+use Rattle.unix_world.specs.Worlds.{unix_of}
+use Rattle.unix_world.proofs.ChangeLaws.{device_there}
 use Rattle.unix_run.proofs.DeviceLaws.{comes_answered, get_busy, get_waits, get_invalid, get_takes, head_is, place_there, put_device}
 use Rattle.unix_run.proofs.devices.get_at.Goals as goal
 

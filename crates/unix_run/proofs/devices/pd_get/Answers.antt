@@ -8,8 +8,8 @@ use Rattle.unix_calls.specs.declared.state.Process.{Process}
 use Rattle.unix_calls.specs.State.{with_process}
 use Rattle.unix_calls.specs.Answers.{Answered}
 use Rattle.unix_calls.specs.DeviceCalls.{get_from, pd_get}
-use Rattle.unix_run.specs.Worlds.{unix_of}
-use Rattle.unix_run.proofs.ChangeLaws.{no_device}
+use Rattle.unix_world.specs.Worlds.{unix_of}
+use Rattle.unix_world.proofs.ChangeLaws.{no_device}
 use Rattle.unix_run.proofs.DeviceLaws.{comes_answered, no_master}
 use Rattle.unix_run.proofs.devices.pd_get.Goals as goal
 

@@ -8,8 +8,8 @@ use Rattle.unix_calls.specs.State.{with_process}
 use Rattle.unix_calls.specs.Answers.{Answered, value}
 use Rattle.unix_calls.specs.DeviceCalls.{left}
 use Rattle.unix_run.specs.Devices.{put_at}
-use Rattle.unix_run.specs.Worlds.{unix_of}
-use Rattle.unix_run.proofs.ChangeLaws.{device_there}
+use Rattle.unix_world.specs.Worlds.{unix_of}
+use Rattle.unix_world.proofs.ChangeLaws.{device_there}
 use Rattle.unix_run.proofs.DeviceLaws.{comes_answered, place_there, put_device, put_free, put_held}
 use Rattle.unix_run.proofs.devices.put_at.Goals as goal
 

@@ -8,8 +8,8 @@ use Rattle.unix_calls.specs.declared.state.Process.{Process}
 use Rattle.unix_calls.specs.State.{with_process}
 use Rattle.unix_calls.specs.Answers.{replied}
 use Rattle.unix_calls.specs.DeviceCalls.{without_answer}
-use Rattle.unix_run.specs.Worlds.{unix_of}
-use Rattle.unix_run.proofs.ChangeLaws.{device_there, no_device}
+use Rattle.unix_world.specs.Worlds.{unix_of}
+use Rattle.unix_world.proofs.ChangeLaws.{device_there, no_device}
 use Rattle.unix_run.proofs.DeviceLaws.{place_there, put_device}
 use Rattle.unix_run.proofs.EnteringLaws.{an_ask, an_end, no_ask, no_end}
 use Rattle.unix_run.proofs.entering.end_ask.Goals as goal

@@ -5,7 +5,7 @@ use Rattle.unix_calls.specs.declared.state.Process.{Process}
 use Rattle.unix_calls.specs.State.{Unix, with_process}
 use Rattle.unix_calls.specs.After.{after_whole}
 use Rattle.unix_run.specs.Entering.{stands}
-use Rattle.unix_run.specs.Worlds.{unix_of}
+use Rattle.unix_world.specs.Worlds.{unix_of}
 use Rattle.unix_run.proofs.EntryLaws.{makes_among, whole_stands}
 use Rattle.unix_run.proofs.entry.enter_whole.Goals as goal
 

@@ -7,10 +7,9 @@ use Rattle.unix_calls.specs.declared.state.Process.{Process}
 use Rattle.unix_calls.specs.State.{births}
 use Rattle.unix_calls.specs.Answers.{replied, value}
 use Rattle.unix_calls.specs.ProcessCalls.{child_of, fork}
-use Rattle.unix_run.specs.Family.{IsNext}
-use Rattle.unix_run.specs.Worlds.{unix_of}
-use Rattle.unix_run.specs.declared.world.Came.TheVariants as came
-use Rattle.unix_run.proofs.ProcessLaws.{set_ascends}
+use Rattle.unix_world.specs.Among.{IsNext}
+use Rattle.unix_world.specs.Worlds.{unix_of}
+use Rattle.unix_run.specs.declared.came.Came.TheVariants as came
 use Rattle.unix_run.proofs.AmongLaws.{answered_among}
 use Rattle.unix_run.proofs.FamilyLaws.{fork_full, forks}
 use Rattle.unix_run.proofs.family.fork.Goals as goal
@@ -31,10 +30,6 @@ at-requires-2 c = get_within c.args.ps.now c.args.at c.requires.caller.process c
 
 pub at_mut-requires-2 : goal.at_mut-requires-2
 at_mut-requires-2 c = get_within c.args.ps.now c.args.at c.requires.caller.process c.requires.caller.there
-
-pub add_child-requires : goal.add_child-requires
-add_child-requires c =
-    set_ascends c.args.ps.now c.args.at c.at_mut-2.result.now c.give_value-came.new.p c.requires.ascending c.at_mut-2.ensures.value (ap (λ (x : Process). x.pid) c.give_value-came.ensures.process)
 
 pub returns : goal.returns
 returns c =

@@ -5,7 +5,7 @@ use Rattle.unix_calls.specs.declared.state.Process.{Process}
 use Rattle.unix_calls.specs.State.{process_at}
 use Rattle.unix_calls.specs.Answers.{replies, value}
 use Rattle.unix_calls.specs.ProcessCalls.{getppid, living_number}
-use Rattle.unix_run.specs.Worlds.{unix_of}
+use Rattle.unix_world.specs.Worlds.{unix_of}
 use Rattle.unix_run.proofs.AmongLaws.{answered_among}
 use Rattle.unix_run.proofs.family.getppid.Goals as goal
 

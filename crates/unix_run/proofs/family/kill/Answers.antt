@@ -7,8 +7,8 @@ use Rattle.process_machine.specs.declared.call.Reply.TheVariants.{Error}
 use Rattle.unix_calls.specs.declared.state.Process.{Process}
 use Rattle.unix_calls.specs.State.{process_at}
 use Rattle.unix_calls.specs.ProcessCalls.{kill}
-use Rattle.unix_run.specs.Among.{IsAt}
-use Rattle.unix_run.specs.Worlds.{unix_of}
+use Rattle.unix_world.specs.Among.{IsAt}
+use Rattle.unix_world.specs.Worlds.{unix_of}
 use Rattle.unix_run.proofs.AmongLaws.{answered_among}
 use Rattle.unix_run.proofs.FamilyLaws.{kill_none, kill_ended, killed, killed_calls, kills}
 use Rattle.unix_run.proofs.family.kill.Goals as goal

@@ -8,8 +8,8 @@ use Rattle.unix_calls.specs.declared.state.Process.{Process}
 use Rattle.unix_calls.specs.Answers.{replied}
 use Rattle.unix_calls.specs.ProcessCalls.{is_unwaited, status_of, wait}
 use Rattle.unix_run.specs.Family.{is_ended_child}
-use Rattle.unix_run.specs.Worlds.{unix_of}
-use Rattle.unix_run.specs.declared.world.Came.TheVariants as came
+use Rattle.unix_world.specs.Worlds.{unix_of}
+use Rattle.unix_run.specs.declared.came.Came.TheVariants as came
 use Rattle.unix_run.proofs.AmongLaws.{answered_among, unanswered_among}
 use Rattle.unix_run.proofs.FamilyLaws.{marks, wait_none, wait_waits, waits}
 use Rattle.unix_run.proofs.family.wait.Goals as goal

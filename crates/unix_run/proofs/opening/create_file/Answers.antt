@@ -7,7 +7,7 @@ use Rattle.unix_calls.specs.declared.state.Object.TheVariants.{OfFile}
 use Rattle.unix_calls.specs.Tree.{above, is_full, with_name}
 use Rattle.unix_calls.specs.Answers.{value}
 use Rattle.unix_calls.specs.Opening.{creates_file, opened}
-use Rattle.unix_run.specs.Worlds.{unix_of}
+use Rattle.unix_world.specs.Worlds.{unix_of}
 use Rattle.unix_run.proofs.OpeningLaws.{comes_from, if_both, creates}
 use Rattle.unix_run.proofs.opening.create_file.Goals as goal
 
@@ -20,7 +20,7 @@ returns c =
     let path = c.args.path.now in
     let made = Made w.entries in
     let full = ap₂ is_full (sym c.as_slice.ensures) (sym (c.above.ensures ∙ ap above c.parts.ensures.parts)) ∙ sym c.is_full.ensures ∙ c.if-is_full.false in
-    let files = c.in_ok-push.ensures.ok ∙ ap (λ (bytes : List ℕ). w.files ++ record { name = made; bytes = bytes } ∷ []) c.new-bytes.ensures in
+    let files = c.in_ok-push.ensures ∙ ap (λ (bytes : List ℕ). w.files ++ record { name = made; bytes = bytes } ∷ []) c.new-bytes.ensures in
     let nodes = c.in_ok-add_name.ensures ∙ ap (λ (parts : List (List ℕ)). with_name (record { path = parts; node = FileNode made }) w.nodes) c.parts-2.ensures.parts in
     let between = record w { files = c.push.new.self; nodes = c.add_name.new.nodes } in
     if_both c.add_stream.result

@@ -7,7 +7,7 @@ use Rattle.unix_calls.specs.declared.state.Object.TheVariants.{OfMaster}
 use Rattle.unix_calls.specs.Tree.{with_name}
 use Rattle.unix_calls.specs.Answers.{value}
 use Rattle.unix_calls.specs.Opening.{make_at, opened}
-use Rattle.unix_run.specs.Worlds.{unix_of}
+use Rattle.unix_world.specs.Worlds.{unix_of}
 use Rattle.unix_run.proofs.OpeningLaws.{comes_from, if_both, makes}
 use Rattle.unix_run.proofs.opening.make_at.Goals as goal
 

@@ -3,7 +3,7 @@ use Rattle.unix_calls.specs.declared.state.File.{File}
 use Rattle.unix_calls.specs.declared.state.Object.TheVariants.{OfFile}
 use Rattle.unix_calls.specs.Answers.{value}
 use Rattle.unix_calls.specs.Opening.{cut, opened}
-use Rattle.unix_run.specs.Worlds.{unix_of}
+use Rattle.unix_world.specs.Worlds.{unix_of}
 use Rattle.unix_run.proofs.OpeningLaws.{comes_from, if_both, cut_is}
 use Rattle.unix_run.proofs.opening.open_named.Goals as goal
 
