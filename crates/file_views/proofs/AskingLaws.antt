@@ -105,7 +105,7 @@ held_last : (blocks : List Held) (new : Held) (number : ℕ) → new.block.0 ≢
 held_last [] new number d = ap (λ b. cond b (Some new) None) (ne_eqb new.block.0 number d)
 held_last (h ∷ blocks) new number d = ap (λ o. cond (h.block.0 == number) (Some h) o) (held_last blocks new number d)
 
-held_without : (blocks : List Held) (other number : ℕ) → other ≢ number → held (without_block other blocks) number ≡ held blocks number
+pub held_without : (blocks : List Held) (other number : ℕ) → other ≢ number → held (without_block other blocks) number ≡ held blocks number
 held_without [] other number d = refl
 held_without (h ∷ blocks) other number d = first (h.block.0 == other) refl (held_without blocks other number d)
   where
@@ -135,11 +135,11 @@ none_cleaned (h ∷ blocks) number e = first (h.block.0 == number) refl e (none_
     first false q g f = ap (λ b. cond b (Some (cleaned h)) (held (map cleaned blocks) number)) q ∙ f g
 
 -- a write touches no block that would have to come in first
-held_written : (z : Setting) (numbers : List ℕ) (blocks : List Held) (low : ℕ) (bytes : List ℕ) (count number : ℕ) → (In number numbers → ⊥) → held (blocks_written z blocks low bytes count numbers) number ≡ held blocks number
+pub held_written : (z : Setting) (numbers : List ℕ) (blocks : List Held) (low : ℕ) (bytes : List ℕ) (count number : ℕ) → (In number numbers → ⊥) → held (blocks_written z blocks low bytes count numbers) number ≡ held blocks number
 held_written z [] blocks low bytes count number out = refl
 held_written z (n ∷ rest) blocks low bytes count number out = held_written z rest (with_block (block_written z (held_bytes z (held blocks n)) n low bytes (count + 1)) blocks) low bytes (count + 1) number (λ m. out (inr m)) ∙ held_with blocks (block_written z (held_bytes z (held blocks n)) n low bytes (count + 1)) number (λ q. out (inl (sym q)))
 
-not_absent : (z : Setting) (c : Client) (numbers : List ℕ) → first_absent z c numbers ≡ None → (number : ℕ) → In number numbers → (nat_lt (number * z.block) c.size && is_none (held c.blocks number)) ≡ false
+pub not_absent : (z : Setting) (c : Client) (numbers : List ℕ) → first_absent z c numbers ≡ None → (number : ℕ) → In number numbers → (nat_lt (number * z.block) c.size && is_none (held c.blocks number)) ≡ false
 not_absent z c [] e number m = absurd m
 not_absent z c (n ∷ rest) e number m = by_test (nat_lt (n * z.block) c.size && is_none (held c.blocks n)) refl e m (not_absent z c rest)
   where
@@ -148,7 +148,7 @@ not_absent z c (n ∷ rest) e number m = by_test (nat_lt (n * z.block) c.size &&
     by_test false q g (inl r) f = ap (λ x. nat_lt (x * z.block) c.size && is_none (held c.blocks x)) r ∙ q
     by_test false q g (inr r) f = f g number r
 
-outside : (z : Setting) (c : Client) (numbers : List ℕ) → first_absent z c numbers ≡ None → (number : ℕ) → held c.blocks number ≡ None → number * z.block < c.size → In number numbers → ⊥
+pub outside : (z : Setting) (c : Client) (numbers : List ℕ) → first_absent z c numbers ≡ None → (number : ℕ) → held c.blocks number ≡ None → number * z.block < c.size → In number numbers → ⊥
 outside z c numbers e number h l m = cc (not_absent z c numbers e number m, and_from (nat_lt (number * z.block) c.size) (is_none (held c.blocks number)) (lt-ltb (number * z.block) c.size l) (ap is_none h))
 
 size_grows : (size low : ℕ) (bytes : List ℕ) → size ≤ size_written size low bytes

@@ -55,7 +55,7 @@ no_client : (one : FileCall) (kernel : ℕ) → 1 ≤ kernel → one.from ≡ ke
 no_client one kernel l e n = omega (arith, l, e, n)
 
 -- fewer calls
-quiet_calls : (v w : View) → w.clients ≡ v.clients → ((one : FileCall) → In one w.calls → In one v.calls) → Quiet v w
+pub quiet_calls : (v w : View) → w.clients ≡ v.clients → ((one : FileCall) → In one w.calls → In one v.calls) → Quiet v w
 quiet_calls v w c less = record {
   clients = c;
   stand = λ kernel l h x n q. elim (in_things w x n) [ inl r ↦ absurd (no_client x kernel l q (ap (λ (y : FileCall). y.from) r.makes)) | inr k ↦ stood_self x (things v) (call_in_things v x (less x k)) ];
@@ -64,10 +64,10 @@ quiet_calls v w c less = record {
 asking_fewer : (z : Setting) (v w : View) → Asks z v → w.clients ≡ v.clients → ((one : FileCall) → In one w.calls → In one v.calls) → FlatAsking z w
 asking_fewer z v w t c less = asking_quiet z v w t.asking (quiet_calls v w c less) t.flat.items.fifteen
 
-asking_removed : (z : Setting) (v : View) (one : FileCall) → Asks z v → FlatAsking z (remove_call v one.number)
+pub asking_removed : (z : Setting) (v : View) (one : FileCall) → Asks z v → FlatAsking z (remove_call v one.number)
 asking_removed z v one t = asking_fewer z v (remove_call v one.number) t refl (λ x k. (in_without one.number x v.calls k).0)
 
-alone_removed : (z : Setting) (v : View) (one : FileCall) → Asks z v → In one v.calls → is_fetch one.body ≡ true → IsClient (length v.clients) one.from → NoFetch (remove_call v one.number) one.from
+pub alone_removed : (z : Setting) (v : View) (one : FileCall) → Asks z v → In one v.calls → is_fetch one.body ≡ true → IsClient (length v.clients) one.from → NoFetch (remove_call v one.number) one.from
 alone_removed z v one t m e i x k q = elim (in_things (remove_call v one.number) x k) [
   | inl r ↦ absurd (no_client x one.from i.0 q (ap (λ (y : FileCall). y.from) r.makes))
   | inr n ↦ (let p = in_without one.number x v.calls n in by_test (is_fetch x.body) refl p.0 p.1)
@@ -77,7 +77,7 @@ alone_removed z v one t m e i x k q = elim (in_things (remove_call v one.number)
     by_test true f n d = absurd (d ((t.asking one.from i).one_fetch x one (call_in_things v x n) (call_in_things v one m) q refl f e))
     by_test false f n d = refl
 
-taken_removed : (z : Setting) (v : View) (one : FileCall) (grant : FileGrant) → Asks z v → In one v.calls → IsClient (length v.clients) one.from → Asking z one.from (take_grant (client v one.from) grant) (things (remove_call v one.number))
+pub taken_removed : (z : Setting) (v : View) (one : FileCall) (grant : FileGrant) → Asks z v → In one v.calls → IsClient (length v.clients) one.from → Asking z one.from (take_grant (client v one.from) grant) (things (remove_call v one.number))
 taken_removed z v one grant t m i = asking_take z (remove_call v one.number) one.from grant (stamps_remove v one t.flat.numbered.differ m t.stamps) (asking_removed z v one t) i
 
 -- replies come
@@ -185,7 +185,7 @@ asking_after z v (act.Delivering number) e t = asking_delivered z v number (find
 asking_after z v (act.Expiring number) e t = t.asking
 
 -- the two ways to say it
-flat_asking : (z : Setting) (v : View) → EachAsks z v → FlatAsking z v
+pub flat_asking : (z : Setting) (v : View) → EachAsks z v → FlatAsking z v
 flat_asking z v f kernel i = asking_calls z kernel (client v kernel) (at_kernel v kernel).calls (things v) (f kernel i) (λ one m e. stood_self one (at_kernel v kernel).calls (filter_in (about kernel) one (things v) m (or_left (one.from == kernel) _ (eq-eqb one.from kernel e))))
 
 each_asks : (z : Setting) (v : View) → FlatAsking z v → EachAsks z v
@@ -228,7 +228,8 @@ asking_move z v (move.Zeros kernel block) e f =
     let i : IsClient (length v.clients) kernel = client_is v kernel p.0 in
     let a = and_parts (is_on (client v kernel).mode) _ p.1 in
     let b = and_parts (is_any (client v kernel).streams) _ a.1 in
-    let past = leb-true (client v kernel).size (block.0 * z.block) (and_parts (nat_le (client v kernel).size (block.0 * z.block)) _ b.1).0 in
+    let c = and_parts (nat_lt (block.0 * z.block) z.most) _ b.1 in
+    let past = leb-true (client v kernel).size (block.0 * z.block) (and_parts (nat_le (client v kernel).size (block.0 * z.block)) _ c.1).0 in
     let new : Held = record { block = block; bytes = zeros z.block; dirty = None } in
     asking_set z v kernel (record (client v kernel) { blocks = with_block new (client v kernel).blocks }) f i (asking_waits z kernel (client v kernel) (record (client v kernel) { blocks = with_block new (client v kernel).blocks }) (things v) (f kernel i) (record {
       stamp = refl;

@@ -67,7 +67,7 @@ quiet_deciding v one kind (kernel ∷ rest) m = quiet_call_back (kernel ∷ rest
 quiet_decide : (z : Setting) (v : View) (one : FileCall) → In one v.calls → Quiet v (decide z v one)
 quiet_decide z v one m = quiet_on v (told v (uncached_after z v one)) (decide z v one) (quiet_less v (told v (uncached_after z v one)) refl (λ x n. n)) (quiet_deciding (told v (uncached_after z v one)) one (kind_of_calls (uncached_after z v one)) (called_kernels z v one) m)
 
-quiet_serve : (z : Setting) (v : View) (one : FileCall) (body : FileBody) → In one v.calls → Quiet v (serve_body z v one body)
+pub quiet_serve : (z : Setting) (v : View) (one : FileCall) (body : FileBody) → In one v.calls → Quiet v (serve_body z v one body)
 quiet_serve z v one (form.Opening pid number stream mode truncate) m = quiet_decide z v one m
 quiet_serve z v one (form.Move stream place kept grants) m = quiet_decide z v one m
 quiet_serve z v one (form.Close stream grants) m = quiet_with v (close v one stream grants) one form.Done m refl refl refl
@@ -90,7 +90,7 @@ quiet_resume z (one ∷ rest) v m u = choose (Quiet v) (asks one.body) (serve_al
 pub quiet_resumed : (z : Setting) (v : View) → Unique (numbers v.calls) → Quiet v (resumed z v)
 quiet_resumed z v u = choose (Quiet v) (busy v) v (resume z (waiting_calls v) v) (quiet_less v v refl (λ x n. n)) (quiet_resume z (waiting_calls v) v (λ one m. (in_filter waits one v.calls m).0) (unique_filter number_of waits v.calls u))
 
-quiet_taken : (v : View) (one : FileCall) → In one v.calls → Quiet v (to_the_end v one)
+pub quiet_taken : (v : View) (one : FileCall) → In one v.calls → Quiet v (to_the_end v one)
 quiet_taken v one m = record {
   clients = refl;
   stand = λ kernel l h x n q. elim (in_join x (map as_call v.carried) (without_call one.number v.calls ++ record one { taken = true } ∷ []) n) [

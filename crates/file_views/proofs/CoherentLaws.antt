@@ -38,7 +38,7 @@ use Rattle.file_views.proofs.ModeLaws.{FlatModes, flat_modes}
 use Rattle.file_views.proofs.HolderLaws.{FlatHolders, flat_holders}
 
 -- a test of each item
-all_by : {X : Type 0} (p : X → Bool) (xs : List X) → ((x : X) → In x xs → p x ≡ true) → list_all p xs ≡ true
+pub all_by : {X : Type 0} (p : X → Bool) (xs : List X) → ((x : X) → In x xs → p x ≡ true) → list_all p xs ≡ true
 all_by p [] f = refl
 all_by p (x ∷ xs) f = and_from (p x) (list_all p xs) (f x (inl refl)) (all_by p xs (λ y m. f y (inr m)))
 
@@ -53,7 +53,7 @@ inserted_in one (first ∷ rest) x m = by_test (nat_le (due_stamp one) (due_stam
     by_test false (inr (inl e)) f = inl e
     by_test false (inr (inr k)) f = inr (f (inr k))
 
-in_inserted : (one : Due) (xs : List Due) (x : Due) → In x (inserted one xs) → In x (one ∷ xs)
+pub in_inserted : (one : Due) (xs : List Due) (x : Due) → In x (inserted one xs) → In x (one ∷ xs)
 in_inserted one [] x m = m
 in_inserted one (first ∷ rest) x m = by_test (nat_le (due_stamp one) (due_stamp first)) m (in_inserted one rest x)
   where
@@ -70,7 +70,7 @@ ordered_first : (one : Due) (rest : List Due) (x : Due) → In x (one ∷ rest) 
 ordered_first one rest x (inl e) f = inl e
 ordered_first one rest x (inr m) f = inr (f m)
 
-ordered_in : (xs : List Due) (x : Due) → In x xs → In x (in_order xs)
+pub ordered_in : (xs : List Due) (x : Due) → In x xs → In x (in_order xs)
 ordered_in [] x m = m
 ordered_in (one ∷ rest) x m = inserted_in one (in_order rest) x (ordered_first one rest x m (ordered_in rest x))
 
@@ -78,12 +78,12 @@ unordered_first : (one : Due) (rest : List Due) (x : Due) → In x (one ∷ in_o
 unordered_first one rest x (inl e) f = inl e
 unordered_first one rest x (inr m) f = inr (f m)
 
-in_ordered : (xs : List Due) (x : Due) → In x (in_order xs) → In x xs
+pub in_ordered : (xs : List Due) (x : Due) → In x (in_order xs) → In x xs
 in_ordered [] x m = m
 in_ordered (one ∷ rest) x m = unordered_first one rest x (in_inserted one (in_order rest) x m) (in_ordered rest x)
 
 -- what a call makes due
-grant_of_call : (kernel : ℕ) (one : FileCall) (grant : FileGrant) → Arrives kernel one grant → In (GrantComes grant) (due_of kernel one)
+pub grant_of_call : (kernel : ℕ) (one : FileCall) (grant : FileGrant) → Arrives kernel one grant → In (GrantComes grant) (due_of kernel one)
 grant_of_call kernel one grant a = in_left (GrantComes grant) (due_grant (goes_to one == kernel) (arrival one.reply)) (due_call ((one.to == kernel) && not one.taken) one.body)
     (subst (λ b. In (GrantComes grant) (due_grant b (arrival one.reply))) (sym (eq-eqb (goes_to one) kernel a.0)) (subst (λ o. In (GrantComes grant) (due_grant true o)) (sym a.1) (inl refl)))
 
@@ -91,7 +91,7 @@ call_of_call : (kernel : ℕ) (one : FileCall) (stamp : ℕ) (kind : CallKind) �
 call_of_call kernel one stamp kind t e u = in_right (CallComes stamp kind) (due_grant (goes_to one == kernel) (arrival one.reply)) (due_call ((one.to == kernel) && not one.taken) one.body)
     (subst (λ b. In (CallComes stamp kind) (due_call b one.body)) (sym (and_from (one.to == kernel) (not one.taken) (eq-eqb one.to kernel t) (ap not u))) (subst (λ b. In (CallComes stamp kind) (due_call true b)) (sym e) (inl refl)))
 
-dues_there : (kernel : ℕ) (calls : List FileCall) (one : FileCall) (x : Due) → In one calls → In x (due_of kernel one) → In x (dues_in kernel calls)
+pub dues_there : (kernel : ℕ) (calls : List FileCall) (one : FileCall) (x : Due) → In one calls → In x (due_of kernel one) → In x (dues_in kernel calls)
 dues_there kernel [] one x m k = absurd m
 dues_there kernel (c ∷ calls) one x (inl e) k = in_left x (due_of kernel c) (dues_in kernel calls) (subst (λ y. In x (due_of kernel y)) e k)
 dues_there kernel (c ∷ calls) one x (inr m) k = in_right x (due_of kernel c) (dues_in kernel calls) (dues_there kernel calls one x m k)
@@ -106,23 +106,23 @@ due_further : (kernel : ℕ) (c : FileCall) (calls : List FileCall) (x : Due) �
 due_further kernel c calls x (inl k) f = record { call = c; there = inl refl; due = k }
 due_further kernel c calls x (inr m) f = let r : DueFrom kernel calls x = f m in record { call = r.call; there = inr r.there; due = r.due }
 
-dues_from : (kernel : ℕ) (calls : List FileCall) (x : Due) → In x (dues_in kernel calls) → DueFrom kernel calls x
+pub dues_from : (kernel : ℕ) (calls : List FileCall) (x : Due) → In x (dues_in kernel calls) → DueFrom kernel calls x
 dues_from kernel [] x m = absurd m
 dues_from kernel (c ∷ calls) x m = due_further kernel c calls x (in_join x (due_of kernel c) (dues_in kernel calls) m) (dues_from kernel calls x)
 
-in_due_grant : (b : Bool) (o : Option FileGrant) (x : Due) → In x (due_grant b o) → (b ≡ true) × ((g : FileGrant) × ((o ≡ Some g) × (x ≡ GrantComes g)))
+pub in_due_grant : (b : Bool) (o : Option FileGrant) (x : Due) → In x (due_grant b o) → (b ≡ true) × ((g : FileGrant) × ((o ≡ Some g) × (x ≡ GrantComes g)))
 in_due_grant true (Some g) x (inl e) = (refl, (g, (refl, e)))
 in_due_grant true (Some g) x (inr m) = absurd m
 in_due_grant true None x m = absurd m
 in_due_grant false o x m = absurd m
 
-in_due_call : (b : Bool) (body : FileBody) (x : Due) → In x (due_call b body) → is_callback body ≡ true
+pub in_due_call : (b : Bool) (body : FileBody) (x : Due) → In x (due_call b body) → is_callback body ≡ true
 in_due_call true (form.Callback stamp kind) x m = refl
 in_due_call true body x m = absurd m
 in_due_call false body x m = absurd m
 
 -- stamps and modes of server and kernels agree
-same_mode_by : (mode other : CacheMode) → mode ≡ other → same_mode mode other ≡ true
+pub same_mode_by : (mode other : CacheMode) → mode ≡ other → same_mode mode other ≡ true
 same_mode_by mode other e = subst (λ m. same_mode mode m ≡ true) e (self mode)
   where
     self : (m : CacheMode) → same_mode m m ≡ true
@@ -130,7 +130,7 @@ same_mode_by mode other e = subst (λ m. same_mode mode m ≡ true) e (self mode
     self cache.Off = refl
     self cache.None = refl
 
-implies_by : (a b : Bool) → (a ≡ true → b ≡ true) → implies a b ≡ true
+pub implies_by : (a b : Bool) → (a ≡ true → b ≡ true) → implies a b ≡ true
 implies_by true b f = f refl
 implies_by false b f = refl
 
@@ -167,7 +167,7 @@ mapped f none first zero i l = absurd (omega (arith, l))
 mapped f none first (suc count) zero l = ap f (omega arith)
 mapped f none first (suc count) (suc i) l = mapped f none (first + 1) count i (omega (arith, l)) ∙ ap f (omega arith)
 
-settled_is : (z : Setting) (v : View) (kernel : ℕ) → IsClient (length v.clients) kernel → client (settled z v) kernel ≡ settled_client v kernel
+pub settled_is : (z : Setting) (v : View) (kernel : ℕ) → IsClient (length v.clients) kernel → client (settled z v) kernel ≡ settled_client v kernel
 settled_is z v kernel i = let low = i.0 in let high = i.1 in mapped (settled_client v) new_client 1 (length v.clients) (kernel - 1) (omega (arith, low, high)) ∙ ap (settled_client v) (omega (arith, low))
 
 -- a client that doesn't use its cache doesn't after grants that are Off
@@ -262,7 +262,7 @@ settled_holder : (z : Setting) (v : View) (holder : ℕ) → (settled z v).holde
 settled_holder z v holder e = in_answers z v.calls (record { bytes = v.bytes; holder = v.holder }) holder (in_clients z v (kernels v) (stored_answers z (record { bytes = v.bytes; holder = v.holder }) v.calls) holder e)
 
 -- while the holder has dirty blocks that count, no other kernel works in its cache
-some_stream : (streams : List StreamNo) → is_any streams ≡ true → (s : StreamNo) × (has_stream s streams ≡ true)
+pub some_stream : (streams : List StreamNo) → is_any streams ≡ true → (s : StreamNo) × (has_stream s streams ≡ true)
 some_stream [] e = absurd (cc (e))
 some_stream (s ∷ streams) e = (s, found_any (same_stream s) (s ∷ streams) s (inl refl) (same_self s))
 

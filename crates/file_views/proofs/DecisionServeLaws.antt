@@ -171,7 +171,7 @@ pub left_before : (opens : List Open) (stream : StreamNo) (source grants : ℕ) 
 left_before opens stream source grants true x m = record { before = x; there = m; stream_is = refl; kernel_is = refl; mode_is = refl; counts = λ l. l }
 left_before opens stream source grants false x m = left_in opens stream source grants x m
 
-opened_before : (opens : List Open) (source : ℕ) (body : FileBody) (x : Open) → asks body ≡ true → In x (opens_after opens source body) → Left x opens ⊎ (x.kernel ≡ receiver_of source body)
+pub opened_before : (opens : List Open) (source : ℕ) (body : FileBody) (x : Open) → asks body ≡ true → In x (opens_after opens source body) → Left x opens ⊎ (x.kernel ≡ receiver_of source body)
 opened_before opens source (form.Opening pid number stream mode truncate) x a m = elim (in_added opens stream source mode x m) [ inl k ↦ inl (record { before = x; there = k; stream_is = refl; kernel_is = refl; mode_is = refl; counts = λ l. l }) | inr q ↦ inr q.1 ]
 opened_before opens source (form.Move stream place kept grants) x a m = elim (in_added (left_by opens stream source kept grants) stream place (mode_of_stream opens stream) x m) [ inl k ↦ inl (left_before opens stream source grants kept x k) | inr q ↦ inr q.1 ]
 opened_before opens source body x a m = absurd (cc (a))

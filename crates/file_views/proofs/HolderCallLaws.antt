@@ -40,7 +40,7 @@ use Rattle.file_views.proofs.ModeServeLaws.{total_in, OpenFor, arrival_there, mo
 use Rattle.file_views.proofs.HolderLaws.{SameOpen, holders_opened, holders_ways, seat, FlatHolders}
 use Rattle.file_views.proofs.HolderTakeLaws.{holders_called}
 use Rattle.file_views.proofs.HolderChangeLaws.{arrivals_begin, ways_begin}
-use Rattle.file_views.proofs.HolderSettleLaws.{left_of, left_was, Adds, adds, shared_by, Grantable, is_holder_by, Alone, alone_by, holders_settle, holders_equal}
+use Rattle.file_views.proofs.HolderSettleLaws.{Settles, left_of, left_was, Adds, adds, shared_by, Grantable, is_holder_by, Alone, alone_by, holders_settle, holders_equal}
 
 -- a callback goes out to a kernel that has none
 pub holders_call_out : (v : View) (kind : CallKind) (kernel : ℕ) → FlatHolders v → IsClient (length v.clients) kernel → length v.stamps ≡ length v.clients → length v.modes ≡ length v.clients → own_stamp v kernel ≤ current_stamp v kernel → ((x : FileCall) → In x (things v) → x.to ≡ kernel → is_callback x.body ≡ true → ⊥) →
@@ -244,21 +244,23 @@ recalled_ready z v one e t kernel i c = by_state ((t.holders.each kernel i).hold
     by_state (inl k) = absurd (no_call_thing v t.none k.call k.there (ap is_callback k.is_call))
     by_state (inr k) = (elim k.1 [ inl r ↦ r | inr w ↦ absurd (no_coming w) ], elim k.0 [ inl o ↦ o | inr p ↦ absurd (no_call_thing v t.none p.call p.there (ap is_callback p.stops)) ])
 
+-- with nobody to call back it may be granted
+pub settles_at_once : (z : Setting) (v : View) (one : FileCall) (b : Bool) → uncached_after z v one ≡ b → [] ≡ filter (is_called b v one) (kernels v) → Deciding v one → Settles z (told v b) one
+settles_at_once z v one b e k t = record {
+  both = record { flat = flat_told v b t.both.flat; streams = streams_same v (told v b) refl refl refl refl refl t.both.streams };
+  stamps = stamps_told v (told v b) t.none refl refl refl refl t.stamps;
+  ruled = ruled_told z v one b e k t.ruled;
+  modes = modes_told v b (λ q. sym e ∙ or_left v.uncached (makes_uncached z false v.shared v.opens one) q) t.modes;
+  there = t.there;
+  unanswered = t.unanswered;
+  none = t.none;
+  asks_it = t.asks_it;
+  told = told_is z v one b e;
+  grantable = grantable_at_once z v one b e k t;
+}
+
 holders_decided : (z : Setting) (v : View) (one : FileCall) (b : Bool) → uncached_after z v one ≡ b → (called : List ℕ) → called ≡ filter (is_called b v one) (kernels v) → Deciding v one → FlatHolders (deciding (told v b) one (kind_of_calls b) called)
-holders_decided z v one b e [] k t =
-    let u : v.uncached ≡ true → b ≡ true = λ q. sym e ∙ or_left v.uncached (makes_uncached z false v.shared v.opens one) q in
-    holders_settle z (told v b) one (record {
-      both = record { flat = flat_told v b t.both.flat; streams = streams_same v (told v b) refl refl refl refl refl t.both.streams };
-      stamps = stamps_told v (told v b) t.none refl refl refl refl t.stamps;
-      ruled = ruled_told z v one b e k t.ruled;
-      modes = modes_told v b u t.modes;
-      there = t.there;
-      unanswered = t.unanswered;
-      none = t.none;
-      asks_it = t.asks_it;
-      told = told_is z v one b e;
-      grantable = grantable_at_once z v one b e k t;
-    })
+holders_decided z v one b e [] k t = holders_settle z (told v b) one (settles_at_once z v one b e k t)
 holders_decided z v one b e (kernel ∷ rest) k t =
     let u : v.uncached ≡ true → b ≡ true = λ q. sym e ∙ or_left v.uncached (makes_uncached z false v.shared v.opens one) q in
     holders_call_back (kernel ∷ rest) (kind_of_calls b) (told v b) (holders_told v b u t.holders) (λ c m. among_clients v c (in_called c m).0) t.both.flat.items.stamp_each t.both.flat.items.mode_each t.stamps.own_below

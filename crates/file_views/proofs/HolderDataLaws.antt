@@ -61,7 +61,7 @@ pub holders_begin : (v : View) (source : ℕ) (body : FileBody) (dirty : Option 
 holders_begin v source body dirty c p = holders_calls v v.bytes (v.next + 1) (v.calls ++ new_call v source server body dirty ∷ []) v.carried v.uncached p (λ e. e)
     (λ kernel i. subst (Ways kernel (own_stamp v kernel) (is_holder v kernel) (things v)) (sym (things_begin v source server body dirty)) (ways_begin kernel (own_stamp v kernel) (is_holder v kernel) (things v) (new_call v source server body dirty) refl (λ b e. cc (b, c))))
 
-able_begin : (v : View) (kernel source : ℕ) (body : FileBody) (dirty : Option ℕ) (waiting : List FileStep) → is_callback body ≡ false → Able v kernel waiting → Able (begin v source server body dirty) kernel waiting
+pub able_begin : (v : View) (kernel source : ℕ) (body : FileBody) (dirty : Option ℕ) (waiting : List FileStep) → is_callback body ≡ false → Able v kernel waiting → Able (begin v source server body dirty) kernel waiting
 able_begin v kernel source body dirty waiting c a step m w o = let p = a step m w o in (p.0, λ k. p.1 (before k))
   where
     before : Answered kernel (things (begin v source server body dirty)) → Answered kernel (things v)
@@ -70,12 +70,12 @@ able_begin v kernel source body dirty waiting c a step m w o = let p = a step m 
       | inr q ↦ absurd (cc (c, ap is_callback (sym k.is_call ∙ ap (λ (x : FileCall). x.body) q)))
     ]
 
-able_client : (v : View) (kernel : ℕ) (c : Client) (waiting : List FileStep) → IsClient (length v.clients) kernel → c.mode ≡ (client v kernel).mode → c.streams ≡ (client v kernel).streams → Able v kernel waiting → Able (set_client v kernel c) kernel waiting
+pub able_client : (v : View) (kernel : ℕ) (c : Client) (waiting : List FileStep) → IsClient (length v.clients) kernel → c.mode ≡ (client v kernel).mode → c.streams ≡ (client v kernel).streams → Able v kernel waiting → Able (set_client v kernel c) kernel waiting
 able_client v kernel c waiting i e s a step m w o =
     let p = a step m w (ap is_on (sym e) ∙ ap (λ (x : Client). is_on x.mode) (sym (client_set v kernel c i)) ∙ o) in
     (subst (WriterAt (seat v kernel).opened) (sym (ap (λ (x : Client). x.streams) (client_set v kernel c i) ∙ s)) p.0, p.1)
 
-able_rest : (v : View) (kernel : ℕ) (step : FileStep) (rest : List FileStep) → Able v kernel (step ∷ rest) → Able v kernel rest
+pub able_rest : (v : View) (kernel : ℕ) (step : FileStep) (rest : List FileStep) → Able v kernel (step ∷ rest) → Able v kernel rest
 able_rest v kernel step rest a s m = a s (inr m)
 
 -- a write in the cache
@@ -84,15 +84,15 @@ holders_write v kernel d i p a b c e o w =
     let r : Ready kernel (own_stamp v kernel) (client v kernel).version v.version (is_holder v kernel) (client v kernel).mode (things v) = (p.each kernel i).writer_ready (inl o) (record { one = w.0.one; there = w.0.there; writing = w.0.writing; works = inl w.0.has }) in
     holders_set v kernel d p i (holders_written (seat v kernel) d (p.each kernel i) a b c e r w.1) (λ holder h q k. subst (λ n. n < v.version) (sym b) (p.stale holder h kernel i q (sym (ap is_on c) ∙ k)))
 
-holders_same : (v : View) (kernel : ℕ) → IsClient (length v.clients) kernel → FlatHolders v → FlatHolders (set_client v kernel (client v kernel))
+pub holders_same : (v : View) (kernel : ℕ) → IsClient (length v.clients) kernel → FlatHolders v → FlatHolders (set_client v kernel (client v kernel))
 holders_same v kernel i p = holders_mild v kernel (client v kernel) p i refl refl refl (λ s h. h) (λ d. d)
 
-holders_enter : (z : Setting) (v : View) (kernel : ℕ) (step : FileStep) → IsClient (length v.clients) kernel → FlatHolders v → is_on (client v kernel).mode ≡ true → (is_writing step ≡ true → WriterAt (seat v kernel).opened (client v kernel).streams × (Answered kernel (things v) → ⊥)) → FlatHolders (enter_cached z v kernel step)
+pub holders_enter : (z : Setting) (v : View) (kernel : ℕ) (step : FileStep) → IsClient (length v.clients) kernel → FlatHolders v → is_on (client v kernel).mode ≡ true → (is_writing step ≡ true → WriterAt (seat v kernel).opened (client v kernel).streams × (Answered kernel (things v) → ⊥)) → FlatHolders (enter_cached z v kernel step)
 holders_enter z v kernel (act.Writing pid number place stream from bytes) i p o w = holders_write v kernel (write_cached z (client v kernel) from bytes) i p refl refl refl refl o (w refl)
 holders_enter z v kernel (act.Append pid number place stream bytes) i p o w = choose (λ (c : Client). FlatHolders (set_client v kernel c)) (nat_lt z.most ((client v kernel).size + length bytes)) (client v kernel) (write_cached z (client v kernel) (client v kernel).size bytes) (holders_same v kernel i p) (holders_write v kernel (write_cached z (client v kernel) (client v kernel).size bytes) i p refl refl refl refl o (w refl))
 holders_enter z v kernel step i p o w = holders_same v kernel i p
 
-holders_wait : (v : View) (kernel : ℕ) (waiting : List FileStep) → IsClient (length v.clients) kernel → FlatHolders v → FlatHolders (set_client v kernel (record (client v kernel) { waiting = waiting }))
+pub holders_wait : (v : View) (kernel : ℕ) (waiting : List FileStep) → IsClient (length v.clients) kernel → FlatHolders v → FlatHolders (set_client v kernel (record (client v kernel) { waiting = waiting }))
 holders_wait v kernel waiting i p = holders_mild v kernel (record (client v kernel) { waiting = waiting }) p i refl refl refl (λ s h. h) (λ d. d)
 
 pub holders_queue : (v : View) (kernel : ℕ) (step : FileStep) → IsClient (length v.clients) kernel → FlatHolders v → FlatHolders (queue v kernel step)
@@ -101,7 +101,7 @@ holders_queue v kernel step i p = holders_wait v kernel ((client v kernel).waiti
 pub holders_fetch : (v : View) (kernel number : ℕ) → FlatHolders v → FlatHolders (send_fetch v kernel number)
 holders_fetch v kernel number p = holders_begin v kernel (form.Fetch (client v kernel).stamp (record { 0 = number })) None refl p
 
-holders_send_op : (v : View) (kernel : ℕ) (step : FileStep) → FlatHolders v → FlatHolders (send_op v kernel step)
+pub holders_send_op : (v : View) (kernel : ℕ) (step : FileStep) → FlatHolders v → FlatHolders (send_op v kernel step)
 holders_send_op v kernel step p = holders_begin v kernel (op_of (client v kernel).stamp step) None (op_no_call (client v kernel).stamp step) p
 
 holders_wait_for : (v : View) (kernel : ℕ) (step : FileStep) (number : ℕ) (waiting : List FileStep) → IsClient (length v.clients) kernel → FlatHolders v → FlatHolders (wait_for v kernel step number waiting)

@@ -245,10 +245,10 @@ pub record FlatHolders (v : View) : Type 0 where
   pub exclusive : v.uncached ≡ false → is_write_shared v.opens ≡ false
   pub each : (kernel : ℕ) → IsClient (length v.clients) kernel → LocalHolders (seat v kernel)
 
-about_arrives : (kernel : ℕ) (one : FileCall) (grant : FileGrant) → Arrives kernel one grant → about kernel one ≡ true
+pub about_arrives : (kernel : ℕ) (one : FileCall) (grant : FileGrant) → Arrives kernel one grant → about kernel one ≡ true
 about_arrives kernel one grant a = subst (λ k. about k one ≡ true) a.0 (about_goes one.from one.to one.body)
 
-about_to : (kernel : ℕ) (one : FileCall) → one.to ≡ kernel → about kernel one ≡ true
+pub about_to : (kernel : ℕ) (one : FileCall) → one.to ≡ kernel → about kernel one ≡ true
 about_to kernel one e = or_right (one.from == kernel) _ (or_left (one.to == kernel) _ (eq-eqb one.to kernel e))
 
 pub flat_holders : (v : View) → Holders v → FlatHolders v

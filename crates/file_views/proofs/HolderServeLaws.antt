@@ -106,11 +106,11 @@ pub record Serving (v : View) (one : FileCall) : Type 0 where
   pub unanswered : one.reply ≡ None
   pub none : NoCall v
 
-deciding_of : (v : View) (one : FileCall) → Serving v one → asks one.body ≡ true → Deciding v one
+pub deciding_of : (v : View) (one : FileCall) → Serving v one → asks one.body ≡ true → Deciding v one
 deciding_of v one t a = record { both = t.both; stamps = t.stamps; ruled = t.ruled; modes = t.modes; holders = t.holders; there = t.there; unanswered = t.unanswered; none = t.none; asks_it = a }
 
 -- a request is taken up
-holders_serve : (z : Setting) (v : View) (one : FileCall) (body : FileBody) → one.body ≡ body → Serving v one → FlatHolders (serve_body z v one body)
+pub holders_serve : (z : Setting) (v : View) (one : FileCall) (body : FileBody) → one.body ≡ body → Serving v one → FlatHolders (serve_body z v one body)
 holders_serve z v one (form.Opening pid number stream mode truncate) e t = holders_decide z v one (deciding_of v one t (ap asks e))
 holders_serve z v one (form.Move stream place kept grants) e t = holders_decide z v one (deciding_of v one t (ap asks e))
 holders_serve z v one (form.Close stream grants) e t = holders_close v one stream grants e t.both (record { flat = flat_serve z v one (form.Close stream grants) e t.both.flat t.there; streams = streams_close v one stream grants e t.unanswered t.both t.there }) t.holders t.there t.unanswered
@@ -199,14 +199,14 @@ silent : (v : View) (one : FileCall) (stamp : ℕ) (kind : CallKind) → Answeri
 silent v one stamp kind t grant a = let r = reply_of_arrival one.reply grant a in cc (brings_none one.body r.0 ((t.flat.calls one t.there).fits r.0 r.1) (ap asks t.is_call), ap arrival r.1, a)
 
 -- who answered is the holder no more
-answered_holder : (holder : Option ℕ) (kernel other : ℕ) → cond (is_kernel kernel holder) None holder ≡ Some other → (holder ≡ Some other) × (other ≢ kernel)
+pub answered_holder : (holder : Option ℕ) (kernel other : ℕ) → cond (is_kernel kernel holder) None holder ≡ Some other → (holder ≡ Some other) × (other ≢ kernel)
 answered_holder holder kernel other e = by_test (is_kernel kernel holder) refl e
   where
     by_test : (b : Bool) → is_kernel kernel holder ≡ b → cond b None holder ≡ Some other → (holder ≡ Some other) × (other ≢ kernel)
     by_test true h q = absurd (cc (q))
     by_test false h q = (q, λ d. cc (h, is_holder_by holder kernel (q ∙ ap Some d)))
 
-answered_other : (holder : Option ℕ) (kernel other : ℕ) → other ≢ kernel → is_kernel other (cond (is_kernel kernel holder) None holder) ≡ is_kernel other holder
+pub answered_other : (holder : Option ℕ) (kernel other : ℕ) → other ≢ kernel → is_kernel other (cond (is_kernel kernel holder) None holder) ≡ is_kernel other holder
 answered_other holder kernel other d = by_test (is_kernel kernel holder) refl
   where
     by_test : (b : Bool) → is_kernel kernel holder ≡ b → is_kernel other (cond b None holder) ≡ is_kernel other holder
@@ -234,10 +234,10 @@ answered_far v one bytes stamp kind opens t kernel i d left same =
     (subst (Ways kernel (own_stamp v kernel) (is_holder v kernel) (things v)) (sym (things_without v one t.flat.numbered.differ t.there)) (ways_without v kernel (own_stamp v kernel) (is_holder v kernel) one t.flat.numbered.differ (call_in_things v one t.there) (λ g a. absurd (silent v one stamp kind t g a.1)) (λ h b e. d (sym e)))))
 
 -- the kernel that answered
-own_current : (v : View) (one : FileCall) (stamp : ℕ) (kind : CallKind) → Answering v one stamp kind → own_stamp v one.to ≡ current_stamp v one.to
+pub own_current : (v : View) (one : FileCall) (stamp : ℕ) (kind : CallKind) → Answering v one stamp kind → own_stamp v one.to ≡ current_stamp v one.to
 own_current v one stamp kind t = let s = t.stamps.each one (call_in_things v one t.there) in s.behind stamp kind t.is_call t.taken ∙ s.called stamp kind t.is_call
 
-nothing_newer : (v : View) (one : FileCall) (stamp : ℕ) (kind : CallKind) → Answering v one stamp kind → (x : FileCall) → In x (things v) → (grant : FileGrant) → Arrives one.to x grant → own_stamp v one.to < grant.stamp → ⊥
+pub nothing_newer : (v : View) (one : FileCall) (stamp : ℕ) (kind : CallKind) → Answering v one stamp kind → (x : FileCall) → In x (things v) → (grant : FileGrant) → Arrives one.to x grant → own_stamp v one.to < grant.stamp → ⊥
 nothing_newer v one stamp kind t x m grant a n =
     let l : grant.stamp ≤ current_stamp v one.to = subst (λ k. grant.stamp ≤ current_stamp v k) a.0 ((t.stamps.each x m).granted grant a.1) in
     let e = own_current v one stamp kind t in
@@ -272,33 +272,31 @@ stopped_inactive v one stamp kind t i e (inl o) =
     cc (o, ap is_on ((t.holders.each one.to i).modes_agree (own_current v one stamp kind t) ∙ off))
 stopped_inactive v one stamp kind t i e (inr o) = nothing_newer v one stamp kind t o.call o.is_newer.0 o.grant o.is_newer.1 o.is_newer.2
 
--- the answer is stored, and what asks is granted once no callback is out
-pub holders_flushed_by : (z : Setting) (v : View) (one : FileCall) (bytes : List ℕ) (stamp : ℕ) (kind : CallKind) → Answering v one stamp kind → IsClient (length v.clients) one.to → (a : Asking z v) → Both (answered_view v one bytes) → FlatStamps (answered_view v one bytes) → (b : Asking z (answered_view v one bytes)) → b.first ≡ a.first → FlatModes (answered_view v one bytes) → FlatHolders (resumed z (answered_view v one bytes))
-holders_flushed_by z v one bytes stamp kind t i a both stamps b same modes = holders_resumed z w both stamps ruled b modes
-    (λ h. record {
-      is_client = λ holder e. t.holders.is_client holder (answered_holder v.holder one.to holder e).0;
-      opens = λ holder e. t.holders.opens holder (answered_holder v.holder one.to holder e).0;
-      stale = λ holder e. t.holders.stale holder (answered_holder v.holder one.to holder e).0;
-      exclusive = t.holders.exclusive;
-      each = λ kernel j. by_kernel (λ k. IsClient (length v.clients) k → LocalHolders (seat w k)) one.to kernel
-          (λ n. answered_here v one bytes stamp kind v.opens t i left_all (λ x m k q. stopped_inactive v one stamp kind t i (is_stop h kind refl)))
-          (λ d n. answered_far v one bytes stamp kind v.opens t kernel n d left_all (λ q. refl)) j;
-    })
-    (λ h n m. record {
-      is_client = λ holder e. absurd (nobody h holder e);
-      opens = λ holder e. absurd (nobody h holder e);
-      stale = λ holder e. absurd (nobody h holder e);
-      spare = λ holder e. absurd (nobody h holder e);
-      each = λ kernel j. by_kernel (λ k. IsClient (length v.clients) k → LocalHolders (record (seat w k) { opened = filter (λ (x : Open). x.kernel == k) (left_of v.opens b.first.from b.first.body) })) one.to kernel
-          (λ k. answered_here v one bytes stamp kind (left_of v.opens b.first.from b.first.body) t i (λ x q. left_was v.opens b.first.from b.first.body x q) (λ x q p r c. writer h n m x q p r c kind refl))
-          (λ d k. answered_far v one bytes stamp kind (left_of v.opens b.first.from b.first.body) t kernel k d (λ x q. left_was v.opens b.first.from b.first.body x q) (λ q. absurd (nobody h kernel (holder_is w.holder kernel (answered_other v.holder one.to kernel d ∙ q))))) j;
-    })
+-- the answer is stored: each kernel is as it was, or nobody is the holder and what asks may be granted once no callback is out
+pub flushed_by : (z : Setting) (v : View) (one : FileCall) (bytes : List ℕ) (stamp : ℕ) (kind : CallKind) → Answering v one stamp kind → IsClient (length v.clients) one.to → (a : Asking z v) → Both (answered_view v one bytes) → (b : Asking z (answered_view v one bytes)) → b.first ≡ a.first → (busy (answered_view v one bytes) ≡ true → FlatHolders (answered_view v one bytes)) × (busy (answered_view v one bytes) ≡ false → b.first.reply ≡ None → In b.first (answered_view v one bytes).calls → Grantable (answered_view v one bytes) b.first)
+flushed_by z v one bytes stamp kind t i a both b same = (
+  λ h. record {
+    is_client = λ holder e. t.holders.is_client holder (answered_holder v.holder one.to holder e).0;
+    opens = λ holder e. t.holders.opens holder (answered_holder v.holder one.to holder e).0;
+    stale = λ holder e. t.holders.stale holder (answered_holder v.holder one.to holder e).0;
+    exclusive = t.holders.exclusive;
+    each = λ kernel j. by_kernel (λ k. IsClient (length v.clients) k → LocalHolders (seat w k)) one.to kernel
+        (λ n. answered_here v one bytes stamp kind v.opens t i left_all (λ x m k q. stopped_inactive v one stamp kind t i (is_stop h kind refl)))
+        (λ d n. answered_far v one bytes stamp kind v.opens t kernel n d left_all (λ q. refl)) j;
+  },
+  λ h n m. record {
+    is_client = λ holder e. absurd (nobody h holder e);
+    opens = λ holder e. absurd (nobody h holder e);
+    stale = λ holder e. absurd (nobody h holder e);
+    spare = λ holder e. absurd (nobody h holder e);
+    each = λ kernel j. by_kernel (λ k. IsClient (length v.clients) k → LocalHolders (record (seat w k) { opened = filter (λ (x : Open). x.kernel == k) (left_of v.opens b.first.from b.first.body) })) one.to kernel
+        (λ k. answered_here v one bytes stamp kind (left_of v.opens b.first.from b.first.body) t i (λ x q. left_was v.opens b.first.from b.first.body x q) (λ x q p r c. writer h n m x q p r c kind refl))
+        (λ d k. answered_far v one bytes stamp kind (left_of v.opens b.first.from b.first.body) t kernel k d (λ x q. left_was v.opens b.first.from b.first.body x q) (λ q. absurd (nobody h kernel (holder_is w.holder kernel (answered_other v.holder one.to kernel d ∙ q))))) j;
+  },
+)
   where
     w : View
     w = answered_view v one bytes
-
-    ruled : Ruled w
-    ruled = ruled_holds v w (holds_server v w refl refl refl refl refl) t.ruled
 
     there : In one (things v)
     there = call_in_things v one t.there
@@ -342,3 +340,9 @@ holders_flushed_by z v one bytes stamp kind t i a both stamps b same modes = hol
           | inl d ↦ inl (ap (λ (y : FileCall). truncates y.body) same ∙ a.spared one t.there stamp recall (d.1 ∙ ap receiver same))
           | inr d ↦ inr (λ y. d.1 (sym p ∙ y))
         ])
+
+pub ruled_answered : (v : View) (one : FileCall) (bytes : List ℕ) → Ruled v → Ruled (answered_view v one bytes)
+ruled_answered v one bytes r = ruled_holds v (answered_view v one bytes) (holds_server v (answered_view v one bytes) refl refl refl refl refl) r
+
+pub holders_flushed_by : (z : Setting) (v : View) (one : FileCall) (bytes : List ℕ) (stamp : ℕ) (kind : CallKind) → Answering v one stamp kind → IsClient (length v.clients) one.to → (a : Asking z v) → Both (answered_view v one bytes) → FlatStamps (answered_view v one bytes) → (b : Asking z (answered_view v one bytes)) → b.first ≡ a.first → FlatModes (answered_view v one bytes) → FlatHolders (resumed z (answered_view v one bytes))
+holders_flushed_by z v one bytes stamp kind t i a both stamps b same modes = let f = flushed_by z v one bytes stamp kind t i a both b same in holders_resumed z (answered_view v one bytes) both stamps (ruled_answered v one bytes t.ruled) b modes f.0 f.1

@@ -90,7 +90,7 @@ dirty_back blocks dirty b (Some one) = choose (λ (xs : List Held). DirtyIn xs �
 dirty_back blocks dirty b None = λ d. d
 
 -- a call that brings nothing is finished
-no_arrival : (v : View) (one : FileCall) → Flat v → In one v.calls → asks one.body ≡ false → arrival one.reply ≡ None
+pub no_arrival : (v : View) (one : FileCall) → Flat v → In one v.calls → asks one.body ≡ false → arrival one.reply ≡ None
 no_arrival v one f m n = by_reply one.reply refl
   where
     by_reply : (reply : Option FileBody) → one.reply ≡ reply → arrival reply ≡ None
@@ -168,7 +168,7 @@ holders_again z v one grant t m n i r = holders_takes v (without_call one.number
   streams = λ s h. inl (subst (λ xs. has_stream s xs ≡ true) (take_streams (client v one.from) grant) h);
 }) t.standing.flat t.standing.streams t.standing.stamps t.standing.modes t.holders i
 
-knowing_again : (z : Setting) (v : View) (one : FileCall) (grant : FileGrant) → Whole z v → In one v.calls → is_callback one.body ≡ false → quiet one.body ≡ true → IsClient (length v.clients) one.from → one.reply ≡ Some (form.Again grant) → Knowing z (grant_comes (remove_call v one.number) one.from grant)
+pub knowing_again : (z : Setting) (v : View) (one : FileCall) (grant : FileGrant) → Whole z v → In one v.calls → is_callback one.body ≡ false → quiet one.body ≡ true → IsClient (length v.clients) one.from → one.reply ≡ Some (form.Again grant) → Knowing z (grant_comes (remove_call v one.number) one.from grant)
 knowing_again z v one grant t m n q i r =
     let two : Two v = record { flat = t.standing.flat; stamps = t.standing.stamps } in
     let b : Both (grant_comes (remove_call v one.number) one.from grant) = both_grant (remove_call v one.number) one.from grant (both_quiet v one one.body refl q (record { flat = t.standing.flat; streams = t.standing.streams }) m) i in
@@ -180,7 +180,7 @@ knowing_again z v one grant t m n q i r =
       holders = holders_again z v one grant t m n i r;
     }
 
-knowing_filled : (z : Setting) (v : View) (one : FileCall) (stamp : ℕ) (block : BlockNo) (piece : List ℕ) → Whole z v → In one v.calls → is_some one.reply ≡ true → is_callback one.body ≡ false → quiet one.body ≡ true → asks one.body ≡ false → IsClient (length v.clients) one.from → Knowing z (set_client (remove_call v one.number) one.from (fill z (client v one.from) stamp block piece))
+pub knowing_filled : (z : Setting) (v : View) (one : FileCall) (stamp : ℕ) (block : BlockNo) (piece : List ℕ) → Whole z v → In one v.calls → is_some one.reply ≡ true → is_callback one.body ≡ false → quiet one.body ≡ true → asks one.body ≡ false → IsClient (length v.clients) one.from → Knowing z (set_client (remove_call v one.number) one.from (fill z (client v one.from) stamp block piece))
 knowing_filled z v one stamp block piece t m s n q a i =
     let two : Two (remove_call v one.number) = two_removed v one (record { flat = t.standing.flat; stamps = t.standing.stamps }) m in
     let b : Both (remove_call v one.number) = both_quiet v one one.body refl q (record { flat = t.standing.flat; streams = t.standing.streams }) m in
@@ -319,7 +319,7 @@ holders_writing_back : (z : Setting) (v : View) (kernel : ℕ) (o : Option Held)
 holders_writing_back z v kernel (Some one) p i = holders_back_at z v kernel one one.dirty p i
 holders_writing_back z v kernel None p i = p
 
-knowing_of : (z : Setting) (v : View) → Whole z v → Knowing z v
+pub knowing_of : (z : Setting) (v : View) → Whole z v → Knowing z v
 knowing_of z v t = record { flat = t.standing.flat; streams = t.standing.streams; stamps = t.standing.stamps; decided = t.standing.decided; holders = t.holders }
 
 holders_data : (z : Setting) (v : View) (kernel : ℕ) (step : FileStep) → Whole z v → IsClient (length v.clients) kernel → StepOpen kernel (client v kernel).streams v.opens step → FlatHolders (start_data z v kernel step)

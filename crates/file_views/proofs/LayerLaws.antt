@@ -1,5 +1,5 @@
--- The first six layers of soundness together, after any steps and moves of clients.
-use Rattle.std.proofs.Common.{◌≡◌, ◌≤◌, ℕ, ◌-◌, Bool, true, false, not, List, [], ◌∷◌, length, refl, ap, ◌∙◌, subst, inl, inr}
+-- The first eight layers of soundness together, after any steps and moves of clients.
+use Rattle.std.proofs.Common.{◌≡◌, ◌≤◌, ◌<◌, ℕ, ◌-◌, Bool, true, false, not, List, [], ◌∷◌, length, refl, ap, ◌∙◌, subst, inl, inr}
 use Rattle.std.specs.List.{list_any}
 use Rattle.std.proofs.lemmas.Bool.{and_parts}
 use Rattle.sprite_ids.specs.declared.CallKind.TheVariants.{Recall, Stop}
@@ -16,6 +16,8 @@ use Rattle.file_views.specs.Moves.{none_on, may_move, after_move}
 use Rattle.file_views.specs.Coherent.{implies, first_asks, asking_waits}
 use Rattle.file_views.specs.Here.{IsClient}
 use Rattle.file_views.specs.SoundShapes.{Ends}
+use Rattle.file_views.specs.SoundContents.{StandsFor}
+use Rattle.file_views.specs.LimitLaw.{EachLimited}
 use Rattle.file_views.specs.LayerLaw.{Happening, Step, Move, happened, all_happened, Layers}
 use Rattle.file_views.proofs.EffectLaws.{call_in_things}
 use Rattle.file_views.proofs.ClientLaws.{choose_by}
@@ -33,6 +35,10 @@ use Rattle.file_views.proofs.DecisionStepLaws.{no_mode_on, steps_keep_decisions,
 use Rattle.file_views.proofs.ModeStepLaws.{steps_keep_modes, moves_keep_modes, new_has_modes}
 use Rattle.file_views.proofs.HolderLaws.{flat_holders}
 use Rattle.file_views.proofs.AskingMoveLaws.{steps_keep_asking, moves_keep_asking, new_has_asking}
+use Rattle.file_views.proofs.ContentPartLaws.{steps_keep_contents, moves_keep_contents, new_has_contents}
+use Rattle.file_views.proofs.LimitLaws.{steps_keep_limits, moves_keep_limits, new_has_limits}
+use Rattle.file_views.proofs.SizeMoveLaws.{steps_keep_sizes, moves_keep_sizes, new_has_sizes}
+use Rattle.file_views.proofs.WritingMoveLaws.{steps_keep_writing, moves_keep_writing, new_has_writing}
 use Rattle.file_views.proofs.HolderStepLaws.{steps_keep_holders, moves_keep_holders, new_has_holders}
 
 -- no callback is out where no kernel was given On and the file isn't uncached
@@ -70,6 +76,8 @@ layers_moved z v other e n l = record {
   modes = moves_keep_modes z v other e l.shapes l.stamps l.modes;
   holders = moves_keep_holders z v other e l.shapes l.streams l.stamps l.decisions l.modes l.holders;
   asking = moves_keep_asking z v other e l.shapes l.asking;
+  write_backs = moves_keep_writing z v other e l.shapes l.stamps l.modes l.holders l.write_backs;
+  sizes = moves_keep_sizes z v other e l.shapes l.streams l.stamps l.decisions l.modes l.holders l.asking l.write_backs l.sizes;
 }
 
 layers_move : (z : Setting) (v : View) (other : ClientMove) → may_move z v other ≡ true → Layers z v → Layers z (after_move z v other)
@@ -91,6 +99,8 @@ layers_happened z v (Step step) l = record {
   modes = steps_keep_modes z v step l.shapes l.streams l.stamps l.decisions l.modes;
   holders = steps_keep_holders z v step l.shapes l.streams l.stamps l.decisions l.modes l.holders;
   asking = steps_keep_asking z v step l.shapes l.stamps l.asking;
+  write_backs = steps_keep_writing z v step l.shapes l.stamps l.modes l.holders l.write_backs;
+  sizes = steps_keep_sizes z v step l.shapes l.streams l.stamps l.decisions l.modes l.holders l.asking l.write_backs l.sizes;
 }
 layers_happened z v (Move other) l = choose_by (Layers z) (may_move z v other) (after_move z v other) v (λ e. layers_move z v other e l) (λ e. l)
 
@@ -107,7 +117,33 @@ layers_stay z count bytes happenings low high = layers_all z happenings (new_vie
   modes = new_has_modes count bytes;
   holders = new_has_holders count bytes;
   asking = new_has_asking z count bytes;
+  write_backs = new_has_writing z count bytes;
+  sizes = new_has_sizes z count bytes;
 })
+
+-- the limit
+limits_happened : (z : Setting) (v : View) (one : Happening) → Layers z v → EachLimited z v → EachLimited z (happened z v one)
+limits_happened z v (Step step) l f = steps_keep_limits z v step l.shapes l.streams l.stamps l.decisions l.modes l.holders l.asking l.write_backs f
+limits_happened z v (Move other) l f = choose_by (EachLimited z) (may_move z v other) (after_move z v other) v (λ e. moves_keep_limits z v other e l.shapes l.streams l.stamps l.decisions l.modes l.holders l.asking l.write_backs f) (λ e. f)
+
+limits_all : (z : Setting) (happenings : List Happening) (v : View) → Layers z v → EachLimited z v → EachLimited z (all_happened z v happenings)
+limits_all z [] v l f = f
+limits_all z (one ∷ rest) v l f = limits_all z rest (happened z v one) (layers_happened z v one l) (limits_happened z v one l f)
+
+pub limits_stay : (z : Setting) (count : ℕ) (bytes : List ℕ) (happenings : List Happening) → 1 ≤ count → count ≤ 15 → length bytes ≤ z.most → EachLimited z (all_happened z (new_view count bytes) happenings)
+limits_stay z count bytes happenings low high l = limits_all z happenings (new_view count bytes) (layers_stay z count bytes [] low high) (new_has_limits z count bytes l)
+
+-- what blocks contain
+contents_happened : (z : Setting) (v : View) (one : Happening) → 0 < z.block → Layers z v → StandsFor z v → StandsFor z (happened z v one)
+contents_happened z v (Step step) p l f = steps_keep_contents z v step p l.shapes l.streams l.stamps l.decisions l.modes l.holders l.asking l.write_backs l.sizes f
+contents_happened z v (Move other) p l f = choose_by (StandsFor z) (may_move z v other) (after_move z v other) v (λ e. moves_keep_contents z v other e p l.shapes l.streams l.stamps l.decisions l.modes l.holders l.asking l.write_backs l.sizes f) (λ e. f)
+
+contents_all : (z : Setting) (happenings : List Happening) (v : View) → 0 < z.block → Layers z v → StandsFor z v → StandsFor z (all_happened z v happenings)
+contents_all z [] v p l f = f
+contents_all z (one ∷ rest) v p l f = contents_all z rest (happened z v one) p (layers_happened z v one l) (contents_happened z v one p l f)
+
+pub contents_together : (z : Setting) (count : ℕ) (bytes : List ℕ) (happenings : List Happening) → 1 ≤ count → count ≤ 15 → 0 < z.block → StandsFor z (all_happened z (new_view count bytes) happenings)
+contents_together z count bytes happenings low high p = contents_all z happenings (new_view count bytes) p (layers_stay z count bytes [] low high) (new_has_contents z count bytes)
 
 -- while callbacks are out what asked waits
 waits_so : (z : Setting) (v : View) → Layers z v → (b : Bool) → busy v ≡ b → asking_waits v ≡ true

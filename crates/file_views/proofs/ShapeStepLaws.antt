@@ -305,7 +305,7 @@ flat_operated : (z : Setting) (v : View) (kernel : ℕ) (step : FileStep) (reply
 flat_operated z v kernel step (Some (form.Again grant)) f i d = flat_start z _ kernel step (flat_grant v kernel grant f i) (still_client v kernel kernel _ i) d
 flat_operated z v kernel step reply f i d = f
 
-data_step : (pid number kernel : ℕ) (stream : StreamNo) (way : Access) → is_data (step_of pid number kernel stream way) ≡ true
+pub data_step : (pid number kernel : ℕ) (stream : StreamNo) (way : Access) → is_data (step_of pid number kernel stream way) ≡ true
 data_step pid number kernel stream (access.Read from many) = refl
 data_step pid number kernel stream (access.Write from bytes) = refl
 data_step pid number kernel stream (access.Append bytes) = refl

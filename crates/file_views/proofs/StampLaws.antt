@@ -168,7 +168,7 @@ goes_client v f one m grant a = by_place (in_things v one m)
     by_place (inl r) = subst (λ (x : FileCall). IsClient (length v.clients) (goes_to x)) (sym r.makes) (f.carried r.x r.there).client
     by_place (inr n) = let h : Shaped (length v.clients) one = f.calls one n in let r = reply_of_arrival one.reply grant a in goes_answered (length v.clients) one.from one.to one.body r.0 grant h.ends (h.fits r.0 r.1) (sym (ap arrival r.1) ∙ a)
 
-callback_target : (count source to : ℕ) (body : FileBody) → Ends count source to body → is_callback body ≡ true → IsClient count to
+pub callback_target : (count source to : ℕ) (body : FileBody) → Ends count source to body → is_callback body ≡ true → IsClient count to
 callback_target count source to (form.Callback stamp kind) e c = e.1
 callback_target count source to body e c = absurd (cc (c))
 

@@ -52,7 +52,7 @@ pub record FlatStreams (v : View) : Type 0 where
   pub counts : Counted none_more v
 
 -- the two ways to say it
-way_stream : (pid number kernel : ℕ) (stream : StreamNo) (way : Access) → works_on stream (step_of pid number kernel stream way) ≡ true
+pub way_stream : (pid number kernel : ℕ) (stream : StreamNo) (way : Access) → works_on stream (step_of pid number kernel stream way) ≡ true
 way_stream pid number kernel stream (access.Read from many) = same_self stream
 way_stream pid number kernel stream (access.Write from bytes) = same_self stream
 way_stream pid number kernel stream (access.Append bytes) = same_self stream

@@ -1,5 +1,5 @@
--- The first six layers of soundness, and of the seventh what is on fetches and operations, hold after any steps and moves of clients, from a new file on.
-use Rattle.std.specs.Prelude.{◌≡◌, ◌≤◌, ℕ, true, if◌then◌else◌, List, [], ◌∷◌}
+-- The first eight layers of soundness hold after any steps and moves of clients, from a new file on.
+use Rattle.std.specs.Prelude.{◌≡◌, ◌≤◌, ◌<◌, ℕ, true, if◌then◌else◌, List, [], ◌∷◌, length}
 use Rattle.file_views.specs.declared.step.FileStep.{FileStep}
 use Rattle.file_views.specs.declared.moves.ClientMove.{ClientMove}
 use Rattle.file_views.specs.declared.view.View.{View}
@@ -7,14 +7,18 @@ use Rattle.file_views.specs.Setting.{Setting}
 use Rattle.file_views.specs.Views.{new_view}
 use Rattle.file_views.specs.Possible.{stepped}
 use Rattle.file_views.specs.Moves.{may_move, after_move}
-use Rattle.file_views.specs.Coherent.{part_3, part_4, part_6, asking_waits}
+use Rattle.file_views.specs.Coherent.{part_2, part_3, part_4, part_5, part_6, asking_waits}
 use Rattle.file_views.specs.SoundShapes.{Shapes}
 use Rattle.file_views.specs.SoundStreams.{Streams}
 use Rattle.file_views.specs.SoundStamps.{Stamps}
 use Rattle.file_views.specs.SoundDecisions.{Decisions}
 use Rattle.file_views.specs.SoundModes.{Modes}
 use Rattle.file_views.specs.SoundHolders.{Holders}
+use Rattle.file_views.specs.SoundContents.{GoodContents, StandsFor, present_bytes}
 use Rattle.file_views.specs.AskingLaw.{EachAsks}
+use Rattle.file_views.specs.WritingLaw.{EachWritesBack}
+use Rattle.file_views.specs.SizeLaw.{EachSize}
+use Rattle.file_views.specs.LimitLaw.{EachLimited}
 
 -- what happens to a file: a step, or a move of a client
 pub data Happening : Type 0 where
@@ -38,13 +42,21 @@ pub record Layers (z : Setting) (v : View) : Type 0 where
   pub modes : Modes v
   pub holders : Holders v
   pub asking : EachAsks z v
+  pub write_backs : EachWritesBack z v
+  pub sizes : EachSize z v
 
 pub record LayersStay : Type 0 where
   pub layers : (z : Setting) (count : ℕ) (bytes : List ℕ) (happenings : List Happening) → 1 ≤ count → count ≤ 15 → Layers z (all_happened z (new_view count bytes) happenings)
+  pub limits : (z : Setting) (count : ℕ) (bytes : List ℕ) (happenings : List Happening) → 1 ≤ count → count ≤ 15 → length bytes ≤ z.most → EachLimited z (all_happened z (new_view count bytes) happenings)
+  pub contents : (z : Setting) (count : ℕ) (bytes : List ℕ) (happenings : List Happening) → 1 ≤ count → count ≤ 15 → 0 < z.block → StandsFor z (all_happened z (new_view count bytes) happenings)
+  pub present : (z : Setting) (count : ℕ) (bytes : List ℕ) (happenings : List Happening) → 1 ≤ count → count ≤ 15 → 0 < z.block → (f : StandsFor z (all_happened z (new_view count bytes) happenings)) → present_bytes z (all_happened z (new_view count bytes) happenings) ≡ f.stood
+  pub good : (z : Setting) (count : ℕ) (bytes : List ℕ) (happenings : List Happening) → 1 ≤ count → count ≤ 15 → 0 < z.block → GoodContents z (all_happened z (new_view count bytes) happenings)
 
--- what of coherence follows: the third, the fourth, the sixth and the seventh part
+-- what of coherence follows: the third, the fourth, the sixth and the seventh part; and the second and the fifth, with any bytes that the view stands for
 pub record PartsStay : Type 0 where
   pub alone : (z : Setting) (count : ℕ) (bytes : List ℕ) (happenings : List Happening) → 1 ≤ count → count ≤ 15 → part_3 z (all_happened z (new_view count bytes) happenings) ≡ true
   pub stamps : (z : Setting) (count : ℕ) (bytes : List ℕ) (happenings : List Happening) → 1 ≤ count → count ≤ 15 → part_4 (all_happened z (new_view count bytes) happenings) ≡ true
   pub nobody : (z : Setting) (count : ℕ) (bytes : List ℕ) (happenings : List Happening) → 1 ≤ count → count ≤ 15 → part_6 z (all_happened z (new_view count bytes) happenings) ≡ true
   pub waits : (z : Setting) (count : ℕ) (bytes : List ℕ) (happenings : List Happening) → 1 ≤ count → count ≤ 15 → asking_waits (all_happened z (new_view count bytes) happenings) ≡ true
+  pub cached : (z : Setting) (count : ℕ) (bytes : List ℕ) (happenings : List Happening) → 1 ≤ count → count ≤ 15 → (f : StandsFor z (all_happened z (new_view count bytes) happenings)) → part_2 z (all_happened z (new_view count bytes) happenings) f.stood ≡ true
+  pub on_the_way : (z : Setting) (count : ℕ) (bytes : List ℕ) (happenings : List Happening) → 1 ≤ count → count ≤ 15 → (f : StandsFor z (all_happened z (new_view count bytes) happenings)) → part_5 z (all_happened z (new_view count bytes) happenings) f.stood ≡ true

@@ -32,3 +32,7 @@ pub mod ModeLaw
 pub mod HolderLaw
 pub mod LayerLaw
 pub mod AskingLaw
+pub mod WritingLaw
+pub mod SizeLaw
+pub mod LimitLaw
+pub mod ContentLaw

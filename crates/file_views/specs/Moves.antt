@@ -45,9 +45,9 @@ has_fetch v kernel = list_any (λ one. (one.from == kernel) && is_fetch one.body
 abbrev pub may_fetch : Setting → Client → ℕ → Bool
 may_fetch z c number = is_on c.mode && (is_any c.waiting && (nat_lt (number * z.block) c.size && is_none (held c.blocks number)))
 
--- whether the block is past the client's end, and isn't held
+-- whether the block is past the client's end, but where a file may reach, and isn't held
 abbrev pub is_past : Setting → Client → ℕ → Bool
-is_past z c number = is_on c.mode && (is_any c.streams && (nat_le c.size (number * z.block) && is_none (held c.blocks number)))
+is_past z c number = is_on c.mode && (is_any c.streams && (nat_lt (number * z.block) z.most && (nat_le c.size (number * z.block) && is_none (held c.blocks number))))
 
 -- whether no kernel was given On last
 abbrev pub none_on : View → Bool

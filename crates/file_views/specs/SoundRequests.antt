@@ -14,7 +14,7 @@ use Rattle.file_views.specs.declared.step.FileStep.{FileStep}
 use Rattle.file_views.specs.declared.step.FileStep.TheVariants as act
 use Rattle.file_views.specs.declared.view.View.{View}
 use Rattle.file_views.specs.Setting.{Setting}
-use Rattle.file_views.specs.Contents.{whole, part, put_block}
+use Rattle.file_views.specs.Contents.{cut}
 use Rattle.file_views.specs.Streams.{is_any}
 use Rattle.file_views.specs.Clients.{is_on, held, same_number}
 use Rattle.file_views.specs.Moves.{is_fetch}
@@ -49,32 +49,30 @@ pub record Present (blocks : List Held) (number : ℕ) (dirty : Option ℕ) (one
   pub same : same_number one.dirty dirty ≡ true
 
 -- write-backs: one per block with the client's own stamp at most. A dirty block begins before the client's size. One with the current
--- stamp and the block's present number carries the block; while it isn't served the block is held dirty, its bytes stand before its
--- size, which is at most the client's, and the server would have the block once it is stored. That of the last block carries the
--- client's size. Once it is done, the server has the block, and of the last block the size
-pub record WritingBacks (z : Setting) (kernel current : ℕ) (c : Client) (bytes : List ℕ) (calls : List FileCall) : Type 0 where
+-- stamp and the block's present number carries what of the block stood before the size that it carries; while it isn't served the block
+-- is held dirty, its bytes stand before its size, and that is at most the client's. That of the last block carries the client's size
+pub record WritingBacks (z : Setting) (kernel current : ℕ) (c : Client) (calls : List FileCall) : Type 0 where
   pub one_each : Pairs (λ one other. (block another : BlockNo) (size more : ℕ) (piece rest : List ℕ) → WritesBack kernel c.stamp one block size piece → WritesBack kernel c.stamp other another more rest → block.0 ≡ another.0 → one.number ≡ other.number) calls
   pub dirty_within : (one : Held) → In one c.blocks → is_some one.dirty ≡ true → one.block.0 * z.block < c.size
-  pub carries : (one : FileCall) → In one calls → (block : BlockNo) (size : ℕ) (piece : List ℕ) → WritesBack kernel current one block size piece → (there : Held) → Present c.blocks block.0 one.dirty there → whole z piece ≡ there.bytes
+  pub carries : (one : FileCall) → In one calls → (block : BlockNo) (size : ℕ) (piece : List ℕ) → WritesBack kernel current one block size piece → (there : Held) → Present c.blocks block.0 one.dirty there → piece ≡ cut z there.bytes block.0 size
   pub held_dirty : (one : FileCall) → In one calls → (block : BlockNo) (size : ℕ) (piece : List ℕ) → WritesBack kernel current one block size piece → one.reply ≡ None → is_dirty_in (held c.blocks block.0) ≡ true
   pub under_size : (one : FileCall) → In one calls → (block : BlockNo) (size : ℕ) (piece : List ℕ) → WritesBack kernel current one block size piece → one.reply ≡ None → block.0 * z.block + length piece ≤ size
   pub size_under : (one : FileCall) → In one calls → (block : BlockNo) (size : ℕ) (piece : List ℕ) → WritesBack kernel current one block size piece → one.reply ≡ None → size ≤ c.size
-  pub stores : (one : FileCall) → In one calls → (block : BlockNo) (size : ℕ) (piece : List ℕ) → WritesBack kernel current one block size piece → one.reply ≡ None → (there : Held) → Present c.blocks block.0 one.dirty there → part z (put_block z bytes block.0 size piece) block.0 ≡ there.bytes
   pub last_size : (one : FileCall) → In one calls → (block : BlockNo) (size : ℕ) (piece : List ℕ) → WritesBack kernel current one block size piece → one.reply ≡ None → (there : Held) → Present c.blocks block.0 one.dirty there → block.0 ≡ (c.size - 1) / z.block → size ≡ c.size
-  pub done : (one : FileCall) → In one calls → (block : BlockNo) (size : ℕ) (piece : List ℕ) → WritesBack kernel c.stamp one block size piece → one.reply ≡ Some form.Done → (there : Held) → Present c.blocks block.0 one.dirty there → part z bytes block.0 ≡ there.bytes
-  pub done_size : (one : FileCall) → In one calls → (block : BlockNo) (size : ℕ) (piece : List ℕ) → WritesBack kernel c.stamp one block size piece → one.reply ≡ Some form.Done → (there : Held) → Present c.blocks block.0 one.dirty there → block.0 ≡ (c.size - 1) / z.block → length bytes ≡ c.size
 
 -- the holder's size is at least the server's; where it is more, the last block is dirty
 pub record HolderSize (z : Setting) (c : Client) (bytes : List ℕ) : Type 0 where
   pub covers : length bytes ≤ c.size
   pub dirty : length bytes < c.size → is_dirty_in (held c.blocks ((c.size - 1) / z.block)) ≡ true
 
--- sizes: a newer grant On, and an Again On that is newer, has the size of the server's bytes. An answer to a callback that has blocks is
--- the holder's, its bytes stand before its size, and that isn't under the server's
+-- sizes: a newer grant On, and an Again On that is newer, has the size of the server's bytes. Once the write-back of the last block is
+-- done, the server has the client's size. An answer to a callback that has blocks is the holder's, its bytes stand before its size, and
+-- that isn't under the server's
 pub record Sizes (z : Setting) (kernel version : ℕ) (c : Client) (holds : Bool) (bytes : List ℕ) (calls : List FileCall) : Type 0 where
   pub granted : EachNewer kernel c.stamp calls (λ one grant. grant.on ≡ true → grant.size ≡ length bytes)
   pub again : (one : FileCall) → In one calls → one.from ≡ kernel → (grant : FileGrant) → one.reply ≡ Some (form.Again grant) → c.stamp < grant.stamp → grant.on ≡ true → grant.size ≡ length bytes
   pub holder : Ready kernel c.stamp c.version version holds c.mode calls → (Answered kernel calls → ⊥) → HolderSize z c bytes
+  pub done_size : (one : FileCall) → In one calls → (block : BlockNo) (size : ℕ) (piece : List ℕ) → WritesBack kernel c.stamp one block size piece → one.reply ≡ Some form.Done → (there : Held) → Present c.blocks block.0 one.dirty there → block.0 ≡ (c.size - 1) / z.block → length bytes ≡ c.size
   pub flushed_holder : (one : FileCall) → In one calls → one.to ≡ kernel → (size : ℕ) (blocks : List (BlockNo × List ℕ)) → one.reply ≡ Some (form.Flushed size blocks) → is_any blocks ≡ true → holds ≡ true
   pub flushed_covers : (one : FileCall) → In one calls → one.to ≡ kernel → (size : ℕ) (blocks : List (BlockNo × List ℕ)) → one.reply ≡ Some (form.Flushed size blocks) → is_any blocks ≡ true → length bytes ≤ size
   pub flushed_within : (one : FileCall) → In one calls → one.to ≡ kernel → (size : ℕ) (blocks : List (BlockNo × List ℕ)) → one.reply ≡ Some (form.Flushed size blocks) → (piece : BlockNo × List ℕ) → In piece blocks → piece.0.0 * z.block + length piece.1 ≤ size
@@ -109,7 +107,7 @@ pub record Limited (z : Setting) (kernel : ℕ) (c : Client) (calls : List FileC
 
 pub record LocalRequests (z : Setting) (here : Here) : Type 0 where
   pub asking : Asking z here.kernel here.client here.calls
-  pub write_backs : WritingBacks z here.kernel here.current here.client here.bytes here.calls
+  pub write_backs : WritingBacks z here.kernel here.current here.client here.calls
   pub sizes : Sizes z here.kernel here.version here.client here.holds here.bytes here.calls
   pub limits : Limited z here.kernel here.client here.calls
 

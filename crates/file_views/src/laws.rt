@@ -1,11 +1,15 @@
 ghost use Rattle.file_views.specs.AskingLaw.{AskingStay};
+ghost use Rattle.file_views.specs.ContentLaw.{ContentsStay};
 ghost use Rattle.file_views.specs.DecisionLaw.{DecisionsStay};
 ghost use Rattle.file_views.specs.HolderLaw.{HoldersStay};
 ghost use Rattle.file_views.specs.LayerLaw.{LayersStay, PartsStay};
+ghost use Rattle.file_views.specs.LimitLaw.{LimitsStay};
 ghost use Rattle.file_views.specs.ModeLaw.{ModesStay};
 ghost use Rattle.file_views.specs.ShapeLaw.{ShapesStay};
+ghost use Rattle.file_views.specs.SizeLaw.{SizesStay};
 ghost use Rattle.file_views.specs.StampLaw.{StampsStay};
 ghost use Rattle.file_views.specs.StreamLaw.{StreamsStay};
+ghost use Rattle.file_views.specs.WritingLaw.{WritingBacksStay};
 
 /// A law: in a new file and after any steps and moves of clients, each call has its request's kind of reply and goes between a
 /// client and the server, the numbers of calls, of a client's blocks and of dirty blocks tell them apart, and what waits at a
@@ -56,16 +60,21 @@ pub fn holders_stay()
 {}
 
 /// A law: after any list of steps and of moves of clients, from a new file with one to fifteen clients on, the first six layers of
-/// soundness and the seventh's facts on fetches and operations hold together. (No step and no move has a premise beyond its being
-/// possible.)
+/// soundness and the seventh's facts on fetches, operations, write-backs and sizes hold together; and where the new file isn't longer than
+/// a file may be, what the layer says of that limit; and where a block has at least one byte, the eighth, of what blocks contain,
+/// with the bytes that the view presents: an answer to a callback that has blocks, or else the holder's dirty blocks, over the server's
+/// bytes, or else the server's bytes; no others are those that it stands for. (No step and no move has a premise beyond its being possible.)
 pub fn layers_stay()
     ensures { LayersStay }
 {}
 
-/// A law: after any list of steps and of moves of clients, from a new file with one to fifteen clients on, four of the seven parts of
+/// A law: after any list of steps and of moves of clients, from a new file with one to fifteen clients on, six of the seven parts of
 /// coherence hold. While the holder has dirty blocks that count, no other client with a stream uses its cache. A client's stamp is
 /// at most its current one, and less only while that is on its way to it, and with equal stamps the modes agree. While the file is
 /// uncached and no callback is out, nobody is trusted with cached blocks. While callbacks are out, what asked waits, first of all.
+/// And with the bytes that the view stands for, the blocks of who is trusted once what is due has come, and of who uses its cache and has
+/// a stream, are their parts, and the latter's size is theirs; and what is on its way is right: a fetch with the current stamp has, or will have, its part
+/// of them, a write-back carries its block and once it is done the server has it, and what is older changes nothing.
 pub fn parts_stay()
     ensures { PartsStay }
 {}
@@ -75,4 +84,36 @@ pub fn parts_stay()
 /// and with an unfinished operation of its own stamp it doesn't use it. (This is the first part of the seventh layer.)
 pub fn asking_stays()
     ensures { AskingStay }
+{}
+
+/// A law: in a new file and after any steps and moves of clients, a client has one unfinished write-back of a block with its own
+/// stamp at most, and a dirty block begins before its size. A write-back with the current stamp and the block's present number
+/// carries what of the block stood before the size that it carries; while it isn't served its block is held dirty, its bytes stand
+/// before its size, and that is at most the client's; that of the last block carries the client's size. (This is the second part of
+/// the seventh layer.)
+pub fn write_backs_stay()
+    ensures { WritingBacksStay }
+{}
+
+/// A law: in a new file and after any steps and moves of clients, a newer grant On, and what a client is told to begin again with, has
+/// the size of the server's bytes; the size of a client that may write is at least theirs, and where it is more its last block is
+/// dirty; once the write-back of the last block is done the server has the client's size; and an answer to a callback that has blocks
+/// is the holder's, its size is at least the server's, and its blocks stand before it. (This is the third part of the seventh layer.)
+pub fn sizes_stay()
+    ensures { SizesStay }
+{}
+
+/// A law: in a new file that isn't longer than a file may be, and after any steps and moves of clients, no size, no block that is held, no
+/// end of a write and no end of a block on its way passes the most that a file may have. (This is the last part of the seventh layer.)
+pub fn limits_stay()
+    ensures { LimitsStay }
+{}
+
+/// A law: in a new file and after any steps and moves of clients, where a block has at least one byte, there are bytes that the view
+/// stands for. Who has a dirty block, and an answer to a callback that has blocks, has their size, and that answer's blocks are theirs;
+/// each other block is the server's. Who uses its cache and has a stream to work with has their size and their blocks, and so has a
+/// block that comes with the client's stamp, and a client whose blocks newer grants keep. What a write-back carries is the whole block,
+/// which the server has once it is stored. (This is the eighth layer of soundness.)
+pub fn contents_stay()
+    ensures { ContentsStay }
 {}

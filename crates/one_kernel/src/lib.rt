@@ -11,5 +11,6 @@ mod verdict;
 
 pub use checking::check;
 pub use laws::{legal_is_legal, not_legal_is_first, steps_are_behind_legal};
+pub use reach::{Reach, go_to_call};
 pub use replaying::{Replayed, replay};
 pub use verdict::Verdict;

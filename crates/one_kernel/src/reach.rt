@@ -3,9 +3,9 @@ ghost use Rattle.one_kernel.specs.Ways.{Reaches, stopped_at};
 
 use process_machine::{BurstEnd, Image, Program, burst};
 
-/// What a run to the next call came to.
+/// What a run to the next call came to (this project).
 #[derive(Clone, Copy, Debug, PartialEq, Eq)]
-pub(crate) enum Reach {
+pub enum Reach {
     /// The image stands at its next call after so many instructions.
     Call(u64),
     /// The image stands at a bad step after so many instructions.
@@ -16,8 +16,10 @@ pub(crate) enum Reach {
     NoCall,
 }
 
-/// Runs the image to its next call, which may take at most `most` instructions.
-pub(crate) fn go_to_call(program: &Program, image: &mut Image, most: u64) -> Reach
+/// Runs the image to its next call, or a bad step, which may take at most `most` instructions (this project).
+///
+/// `TooFar` comes exactly where the way is longer, and `NoCall` where a page is away before a call; the image is then somewhere on its way.
+pub fn go_to_call(program: &Program, image: &mut Image, most: u64) -> Reach
     requires { most ≤ 40000000000 }
     ensures { Reaches program.now image.old most result image.new }
 {

@@ -1,0 +1,3 @@
+mod WaitLaws
+mod HaltLaws
+mod EndLaws

@@ -1,0 +1,4 @@
+pub mod Waiting
+pub mod Halts
+pub mod Ends
+pub mod Judged

@@ -1,0 +1,93 @@
+ghost use Rattle.std.specs.Prelude.{◌≡◌, ◌≤◌, IfOk};
+ghost use Rattle.unix_calls.specs.Lawful.{Lawful};
+ghost use Rattle.unix_world.specs.Worlds.{unix_of};
+ghost use Rattle.call_journal.specs.Once.{Once};
+ghost use Rattle.run_judge.specs.Judged.{IsLegal, JudgesTo};
+
+use crate::ending::{Stop, end_of};
+use crate::judged::{JudgedRun, Refutation};
+use call_journal::Trace;
+use calls_once::calls_are_once;
+use one_kernel::{Replayed, replay};
+use report_print::output;
+use sprite_ids::{Bytes, Finish, NoMemory};
+use std::alloc::Global;
+use unix_calls::{Description, Process};
+use unix_world::World;
+
+/// Judges a run of a described cluster that came to that end by its trace (this project).
+///
+/// It is `Judged` where all of these hold, and else `Refuted` by the first that doesn't: one Unix kernel gives the journal; each call is
+/// issued, entered and returned once, in this order; by the state of the journal each process has ended where the run ended so, and one
+/// lives where the budget was spent or it stalled; and where it stalled each process that lives is blocked. The processes may do at most
+/// `most` instructions in all up to the calls of the entries, and as many from there up to their next calls where the run stalled; past
+/// that the answer is `Steps`. The one error is want of memory, which is also the answer where the entries would be more than 2^32.
+pub fn judge_run(
+    alloc: Global,
+    c: &Description,
+    trace: &Trace,
+    finish: Finish,
+    most: u64,
+) -> Result<JudgedRun, NoMemory>
+    requires lawful { Lawful c.now }
+    requires bound { most ≤ 40000000000 }
+    ensures { IfOk result (JudgesTo c.now most trace.now finish) }
+{
+    let journal = trace.journal(alloc)?;
+    match replay(alloc, c, journal.as_slice(), most)? {
+        Replayed::NotLegal(place) => Ok(JudgedRun::Refuted(Refutation::Legal(place))),
+        Replayed::Steps(place) => Ok(JudgedRun::Steps(place)),
+        Replayed::Legal(world, ps) => {
+            judge_legal(alloc, c, trace, finish, most, &world, ps.as_slice())
+        }
+    }
+}
+
+// A run whose journal leads to that state.
+fn judge_legal(
+    alloc: Global,
+    c: &Description,
+    trace: &Trace,
+    finish: Finish,
+    most: u64,
+    world: &World,
+    ps: &[Process],
+) -> Result<JudgedRun, NoMemory>
+    requires bound { most ≤ 40000000000 }
+    requires legal { IsLegal c.now most trace.now (unix_of c.now world.now ps.now) }
+    ensures { IfOk result (JudgesTo c.now most trace.now finish) }
+{
+    if !calls_are_once(alloc, trace.records())? {
+        return Ok(JudgedRun::Refuted(Refutation::Once));
+    }
+    judge_end(alloc, c, trace, finish, most, world, ps)
+}
+
+// A run whose calls are once besides.
+fn judge_end(
+    alloc: Global,
+    c: &Description,
+    trace: &Trace,
+    finish: Finish,
+    most: u64,
+    world: &World,
+    ps: &[Process],
+) -> Result<JudgedRun, NoMemory>
+    requires bound { most ≤ 40000000000 }
+    requires legal { IsLegal c.now most trace.now (unix_of c.now world.now ps.now) }
+    requires once { Once trace.now }
+    ensures { IfOk result (JudgesTo c.now most trace.now finish) }
+{
+    match end_of(alloc, c, world, ps, finish, most)? {
+        Stop::Good => {
+            let output = Bytes::of_vec(output(alloc, c, ps, finish)?);
+            Ok(JudgedRun::Judged { output })
+        }
+        Stop::Wrong => Ok(JudgedRun::Refuted(Refutation::End)),
+        Stop::Free => Ok(JudgedRun::Refuted(Refutation::Stall)),
+        Stop::Far => {
+            let place = world.entries.checked_add(1).ok_or(NoMemory)?;
+            Ok(JudgedRun::Steps(place))
+        }
+    }
+}
