@@ -11,7 +11,7 @@ ghost use Rattle.kernel_rpc.specs.States.{state_of};
 ghost use Rattle.kernel_rpc.specs.Ports.{AreUsed};
 
 use crate::bodies::{kept_reply, message_of};
-use crate::call::{Arrival, Call, CallState, Part, Receiver};
+use crate::call::{Arrival, Call, CallState, PacketCopy, Part, Receiver};
 use crate::calls::{find_call, is_last, place_of};
 use crate::copies::{find_copy, land};
 use crate::ports::least_port;
@@ -159,8 +159,8 @@ impl<M: Message + Drop, L: Link> Wire<M, L> {
         place_of(self.table.unfinished.as_slice(), tx)
     }
 
-    // The unfinished call of that number.
-    fn call(&self, tx: TxNo) -> Option<&Call>
+    /// The unfinished call of that number, lent; None exactly where no unfinished call has it.
+    pub fn call(&self, tx: TxNo) -> Option<&Call>
         ensures { option_map (λ call. call.now) result ≡ call_of self.now.machine tx }
     {
         find_call(self.table.unfinished.as_slice(), tx)
@@ -211,6 +211,13 @@ impl<M: Message + Drop, L: Link> Wire<M, L> {
         let sent = begin(&mut self.table, alloc, &mut self.link, call)?;
         note_fates(&mut fates, sent.as_slice());
         Ok((tx, Items::of_vec(fates)))
+    }
+
+    /// The copy of that number; None exactly where it isn't in flight.
+    pub fn packet(&self, copy: CopyNo) -> Option<PacketCopy>
+        ensures { result ≡ copy_of self.now.machine copy }
+    {
+        find_copy(self.table.copies.as_slice(), copy)
     }
 
     /// The copy's call, its sender, and whether it is one of the reply.
