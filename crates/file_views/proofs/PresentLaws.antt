@@ -9,7 +9,7 @@ use Rattle.file_views.specs.declared.view.View.{View}
 use Rattle.file_views.specs.Setting.{Setting}
 use Rattle.file_views.specs.Contents.{part, zeros, cut, put_block, grown, overlay}
 use Rattle.file_views.specs.Clients.{dirty_blocks}
-use Rattle.file_views.specs.Views.{client, things, is_callback}
+use Rattle.file_views.specs.Views.{client, things, is_callback, busy, current_stamp}
 use Rattle.file_views.specs.Settled.{over_blocks, sized, with_dirty, bytes_held, bytes_of_settled}
 use Rattle.file_views.specs.Here.{Answered, In, IsClient, at_kernel}
 use Rattle.file_views.specs.SoundContents.{GoodContents, StandsFor, DirtyBlock, FlushedBlock, LocalContents, SomeFlushed, flushed_bytes, or_else, first_flushed, or_bytes, present_bytes}
@@ -22,7 +22,7 @@ use Rattle.file_views.specs.Streams.{is_any}
 use Rattle.file_views.proofs.MemberLaws.{filter_in, in_map, Made, map_in, in_filter}
 use Rattle.file_views.specs.Serving.{store_blocks}
 use Rattle.file_views.proofs.EffectLaws.{call_in_things, same_thing}
-use Rattle.file_views.proofs.SizeServeLaws.{flush_called}
+use Rattle.file_views.proofs.SizeServeLaws.{flush_called, op_uncached, idle_off}
 use Rattle.file_views.proofs.HolderSettleLaws.{holder_is}
 use Rattle.file_views.proofs.SizeLaws.{length_put, length_grown}
 use Rattle.file_views.proofs.BytesLaws.{part_same, grown_byte, part_byte}
@@ -30,6 +30,10 @@ use Rattle.file_views.proofs.ContentGrantLaws.{PieceAt, stored_part, length_stor
 use Rattle.file_views.proofs.ContentMoveLaws.{leans_of}
 use Rattle.std.proofs.lemmas.List.{take_all, ext_get_or}
 use Rattle.std.proofs.lemmas.Nat.{mod_below, div-add-mod'}
+use Rattle.file_views.specs.declared.body.Access.{Access}
+use Rattle.file_views.proofs.StampChangeLaws.{NoCall, no_call_thing}
+use Rattle.file_views.proofs.StampServeLaws.{idle}
+use Rattle.sprite_ids.specs.declared.StreamNo.{StreamNo}
 
 -- bytes of one length with the same blocks are the same
 by_parts : (z : Setting) (xs ys : List ℕ) → 0 < z.block → length xs ≡ length ys → ((number : ℕ) → part z xs number ≡ part z ys number) → xs ≡ ys
@@ -231,3 +235,30 @@ present_by z v l p f = present_is z f.stood v p t (con_of z v t.standing.stamps 
 
 pub good_contents_by : (z : Setting) (v : View) → Layers z v → 0 < z.block → StandsFor z v → GoodContents z v
 good_contents_by z v l p f kernel i = subst (λ xs. LocalContents z xs (at_kernel v kernel)) (sym (present_by z v l p f)) (f.each kernel i)
+
+-- an operation that the server takes up finds those bytes there
+pub served_by : (z : Setting) (v : View) → Layers z v → 0 < z.block → StandsFor z v → busy v ≡ false → (one : FileCall) → In one v.calls → one.reply ≡ None → (pid number : ℕ) (stream : StreamNo) (way : Access) → one.body ≡ form.Op pid number (current_stamp v one.from) stream way → v.bytes ≡ present_bytes z v
+served_by z v l p f q one m r pid number stream way e = by_parts z v.bytes f.stood p size (λ n. part_here n (f.stands.rest n)) ∙ sym (present_by z v l p f)
+  where
+    t : Full z v
+    t = full_of z v l.shapes l.streams l.stamps l.decisions l.modes l.holders l.asking l.write_backs l.sizes
+
+    none : NoCall v
+    none = idle v q
+
+    uncached : v.uncached ≡ true
+    uncached = op_uncached z v one pid number stream way (record { both = record { flat = t.standing.flat; streams = t.standing.streams }; stamps = t.standing.stamps; ruled = t.standing.decided.ruled; modes = t.standing.modes; holders = t.holders; there = m; unanswered = r; none = none }) e t.asking
+
+    clean : (kernel : ℕ) → IsClient (length v.clients) kernel → (held_one : Held) → In held_one (client v kernel).blocks → is_some held_one.dirty ≡ true → ⊥
+    clean kernel i held_one n d = idle_off v t.standing.modes t.standing.decided.ruled none uncached kernel i ((t.holders.each kernel i).dirty_ready held_one n d).on
+
+    unflushed : (x : FileCall) → In x (things v) → (many : ℕ) (blocks : List (BlockNo × List ℕ)) → x.reply ≡ Some (form.Flushed many blocks) → ⊥
+    unflushed x n many blocks y = no_call_thing v none x n (flush_called v t.standing.flat x n many blocks y)
+
+    size : length v.bytes ≡ length f.stood
+    size = elim f.stands.size [ inl d ↦ absurd (clean d.kernel d.is_client d.one d.there d.dirty) | inr o ↦ elim o [ inl s ↦ absurd (unflushed s.call s.there s.size s.blocks s.replied) | inr e ↦ e ] ]
+
+    part_here : (n : ℕ) → DirtyBlock v n ⊎ (FlushedBlock v n ⊎ (part z v.bytes n ≡ part z f.stood n)) → part z v.bytes n ≡ part z f.stood n
+    part_here n (inl d) = absurd (clean d.kernel d.is_client d.one d.there d.dirty)
+    part_here n (inr (inl g)) = absurd (unflushed g.call g.there g.size g.blocks g.replied)
+    part_here n (inr (inr e)) = e

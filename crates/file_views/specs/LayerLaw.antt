@@ -1,10 +1,15 @@
 -- The first eight layers of soundness hold after any steps and moves of clients, from a new file on.
-use Rattle.std.specs.Prelude.{◌≡◌, ◌≤◌, ◌<◌, ℕ, true, if◌then◌else◌, List, [], ◌∷◌, length}
+use Rattle.std.specs.Prelude.{◌≡◌, ◌≤◌, ◌<◌, ℕ, true, false, if◌then◌else◌, List, [], ◌∷◌, length, None}
+use Rattle.sprite_ids.specs.declared.StreamNo.{StreamNo}
+use Rattle.file_views.specs.declared.body.Access.{Access}
+use Rattle.file_views.specs.declared.body.FileBody.TheVariants as form
+use Rattle.file_views.specs.declared.call.FileCall.{FileCall}
 use Rattle.file_views.specs.declared.step.FileStep.{FileStep}
 use Rattle.file_views.specs.declared.moves.ClientMove.{ClientMove}
 use Rattle.file_views.specs.declared.view.View.{View}
 use Rattle.file_views.specs.Setting.{Setting}
-use Rattle.file_views.specs.Views.{new_view}
+use Rattle.file_views.specs.Views.{new_view, busy, current_stamp}
+use Rattle.file_views.specs.Here.{In}
 use Rattle.file_views.specs.Possible.{stepped}
 use Rattle.file_views.specs.Moves.{may_move, after_move}
 use Rattle.file_views.specs.Coherent.{part_2, part_3, part_4, part_5, part_6, asking_waits}
@@ -51,6 +56,7 @@ pub record LayersStay : Type 0 where
   pub contents : (z : Setting) (count : ℕ) (bytes : List ℕ) (happenings : List Happening) → 1 ≤ count → count ≤ 15 → 0 < z.block → StandsFor z (all_happened z (new_view count bytes) happenings)
   pub present : (z : Setting) (count : ℕ) (bytes : List ℕ) (happenings : List Happening) → 1 ≤ count → count ≤ 15 → 0 < z.block → (f : StandsFor z (all_happened z (new_view count bytes) happenings)) → present_bytes z (all_happened z (new_view count bytes) happenings) ≡ f.stood
   pub good : (z : Setting) (count : ℕ) (bytes : List ℕ) (happenings : List Happening) → 1 ≤ count → count ≤ 15 → 0 < z.block → GoodContents z (all_happened z (new_view count bytes) happenings)
+  pub served : (z : Setting) (count : ℕ) (bytes : List ℕ) (happenings : List Happening) → 1 ≤ count → count ≤ 15 → 0 < z.block → busy (all_happened z (new_view count bytes) happenings) ≡ false → (one : FileCall) → In one (all_happened z (new_view count bytes) happenings).calls → one.reply ≡ None → (pid number : ℕ) (stream : StreamNo) (way : Access) → one.body ≡ form.Op pid number (current_stamp (all_happened z (new_view count bytes) happenings) one.from) stream way → (all_happened z (new_view count bytes) happenings).bytes ≡ present_bytes z (all_happened z (new_view count bytes) happenings)
 
 -- what of coherence follows: the third, the fourth, the sixth and the seventh part; and the second and the fifth, with any bytes that the view stands for
 pub record PartsStay : Type 0 where

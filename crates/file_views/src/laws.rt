@@ -63,7 +63,8 @@ pub fn holders_stay()
 /// soundness and the seventh's facts on fetches, operations, write-backs and sizes hold together; and where the new file isn't longer than
 /// a file may be, what the layer says of that limit; and where a block has at least one byte, the eighth, of what blocks contain,
 /// with the bytes that the view presents: an answer to a callback that has blocks, or else the holder's dirty blocks, over the server's
-/// bytes, or else the server's bytes; no others are those that it stands for. (No step and no move has a premise beyond its being possible.)
+/// bytes, or else the server's bytes; no others are those that it stands for,
+/// and an operation that the server takes up finds them there. (No step and no move has a premise beyond its being possible.)
 pub fn layers_stay()
     ensures { LayersStay }
 {}
