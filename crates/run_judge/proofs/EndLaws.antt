@@ -106,8 +106,8 @@ ends_as c most u finish.Budget e = one_lives (list_any lives u.processes) e
 ends_as c most u finish.Stalled e =
     let both = stalled_by (list_any lives u.processes) (stop_from c most 0 u u.processes) e in
     (both.0, none_is_free c most 0 u u.processes both.1)
-ends_as c most u finish.OutOfMemory e = tt
-ends_as c most u finish.Running e = tt
+ends_as c most u finish.OutOfMemory e = absurd (cc (e))
+ends_as c most u finish.Running e = absurd (cc (e))
 
 not_free_if : (b : Bool) → stop_if b ≡ stop.Free → ⊥
 not_free_if true e = absurd (cc (e))

@@ -33,16 +33,16 @@ abbrev pub stop_if : Bool → Stop
 stop_if true = stop.Good
 stop_if false = stop.Wrong
 
--- how a run stands that came to that end
+-- how a run stands that came to that end; one that hasn't come to an end stands wrong
 abbrev pub end_of : Description → ℕ → Unix → Finish → Stop
 end_of c most u finish.AllEnded = stop_if (not (list_any lives u.processes))
 end_of c most u finish.Budget = stop_if (list_any lives u.processes)
 end_of c most u finish.Stalled = if list_any lives u.processes then stop_from c most 0 u u.processes else stop.Wrong
-end_of c most u _ = stop.Good
+end_of c most u _ = stop.Wrong
 
--- each process has ended, or one lives; where it stalled none is free
+-- each process has ended, or one lives; where it stalled none is free; it has come to an end
 abbrev pub EndsAs : Description → Unix → Finish → Type 0
 EndsAs c u finish.AllEnded = list_all (λ (p : Process). is_some p.ending) u.processes ≡ true
 EndsAs c u finish.Budget = list_any lives u.processes ≡ true
 EndsAs c u finish.Stalled = (list_any lives u.processes ≡ true) × (list_any (is_free c u) u.processes ≡ false)
-EndsAs c u _ = Unit {0}
+EndsAs c u _ = ⊥

@@ -14,7 +14,7 @@ use unix_world::World;
 pub(crate) enum Stop {
     /// As it says.
     Good,
-    /// Each process is to have ended, and one lives; or one is to live, and none does.
+    /// Each process is to have ended, and one lives; or one is to live, and none does; or it hasn't come to an end.
     Wrong,
     /// It is to have stalled, and a process that lives isn't blocked.
     Free,
@@ -43,7 +43,7 @@ pub(crate) fn end_of(
             }
             stop_of(alloc, c, world, ps, most)
         }
-        Finish::OutOfMemory | Finish::Running => Ok(Stop::Good),
+        Finish::OutOfMemory | Finish::Running => Ok(Stop::Wrong),
     }
 }
 

@@ -1,14 +1,1 @@
-pub mod AnswerLaws
-pub mod BootLaws
-pub mod BuiltLaws
-pub mod BurstLaws
-pub mod EndLaws
-pub mod EntryLaws
-pub mod FitLaws
-pub mod HistoryLaws
-pub mod KeptLaws
-pub mod LocalLaws
-pub mod MoveLaws
-pub mod RuleLaws
-pub mod StandLaws
-pub mod WorthLaws
+pub mod ServerLaws

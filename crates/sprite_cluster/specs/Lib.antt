@@ -1,8 +1,7 @@
-pub mod Answers
-pub mod Booted
+pub mod Kernels
+pub mod States
+pub mod Noted
+pub mod Acts
 pub mod Bursts
-pub mod Carried
-pub mod Histories
-pub mod Local
-pub mod Today
-pub mod Turns
+pub mod Finishing
+pub mod Moments

@@ -1,19 +1,26 @@
-//! The cluster: its processes, run in turns until every one has ended or the budget is spent, and the trace of all that they
-//! do. So far programs that call print, exit, getpid, getppid, host and tick, each at its home kernel.
+//! The cluster: its kernels, the packets between them and the trace of all that they do, one kernel's step at a time.
 #![tactic(auto)]
 
-mod advance;
-mod answers;
+mod act;
 mod boot;
-mod kept;
-mod ring;
-mod running;
-mod today;
-mod turns;
+mod bursts;
+mod calls;
+mod choice;
+mod choosing;
+mod cluster;
+mod delivery;
+mod finishing;
+mod jobs;
+mod kernel_state;
+mod noting;
+mod rounds;
+mod seeds;
+mod servers;
+mod state;
+mod taking;
 
-pub use kept::Kept;
-pub use today::is_run_today;
-pub use turns::{Outcome, run};
-
-#[cfg(test)]
-mod tests;
+pub use choice::{Burst, Choice, EndBurst, Job};
+pub use cluster::Cluster;
+pub use jobs::run_job;
+pub use rounds::run_rounds;
+pub use seeds::run_seeded;

@@ -9,7 +9,7 @@ use Rattle.history_check.specs.declared.judgement.Judgement.TheVariants as judge
 use Rattle.history_check.specs.Judged.{ComesTo}
 use Rattle.sprite_top.specs.declared.top.Status.{Status}
 use Rattle.sprite_top.specs.declared.top.Status.TheVariants as status
-use Rattle.sprite_top.specs.Refused.{refusal_line}
+use Rattle.report_print.specs.Refused.{refusal_line}
 
 -- a line that ends with a number
 abbrev pub numbered_line : List ℕ → ℕ → List ℕ
@@ -32,7 +32,7 @@ judgement_line (judgement.Judged verdict) = verdict_line verdict
 abbrev pub verdict_status : Verdict → Status
 verdict_status verdict.Legal = status.Legal
 verdict_status (verdict.NotLegal number) = status.NotLegal
-verdict_status (verdict.Steps number) = status.TooLong
+verdict_status (verdict.Steps number) = status.Steps
 
 abbrev pub judgement_status : Judgement → Status
 judgement_status (judgement.Judged verdict) = verdict_status verdict

@@ -1,5 +1,5 @@
 -- What the top call promises for each status.
-use Rattle.std.specs.Prelude.{codes, IsTrue, false, ◌≡◌, ℕ, ◌<◌, ◌≤◌, ◌⊎◌, List, [], ◌∷◌, ◌++◌, Option, Some, None, length, map, take, String, string_bytes}
+use Rattle.std.specs.Prelude.{codes, IsTrue, ◌≡◌, ℕ, ◌<◌, ◌≤◌, ◌⊎◌, List, [], ◌∷◌, ◌++◌, Option, Some, None, length, map, take, String, string_bytes}
 use Rattle.std.specs.Io.KnownBytes.{Consumes, Appends, IsAtEnd}
 use Rattle.std.specs.declared.alloc.Global.{Global}
 use Rattle.sprite_ids.specs.declared.running.Finish.{Finish}
@@ -11,17 +11,19 @@ use Rattle.sprite_top.specs.declared.top.Status.TheVariants as status
 use Rattle.unix_calls.specs.declared.description.Description.{Description}
 use Rattle.cluster_file.specs.declared.Refusal.{Refusal}
 use Rattle.cluster_file.specs.Clusters.{Describes, Refuses}
-use Rattle.sprite_top.specs.Refused.{refusal_line}
+use Rattle.report_print.specs.Refused.{refusal_line}
 use Rattle.sprite_top.specs.Judged.{TextCauses}
 use Rattle.call_journal.specs.Journal.{journal_of}
-use Rattle.unix_calls.specs.After.{legal}
+use Rattle.unix_calls.specs.After.{legal, state_of}
 use Rattle.call_journal.specs.Once.{Once}
-use Rattle.call_journal.specs.Formed.{formed}
-use Rattle.call_journal.specs.Unreachable.{unreachable_for_cause}
-use Rattle.call_journal.specs.Rules.{KeepsRules}
-use Rattle.call_journal.specs.Worth.{Worth}
-use Rattle.sprite_cluster.specs.Today.{is_run_today}
-use Rattle.sprite_cluster.specs.Histories.{IsFinished}
+use Rattle.run_judge.specs.declared.JudgedRun.{JudgedRun}
+use Rattle.run_judge.specs.declared.JudgedRun.TheVariants as judged
+use Rattle.run_judge.specs.declared.Refutation.TheVariants as refuted
+use Rattle.run_judge.specs.Ends.{EndsAs}
+use Rattle.run_judge.specs.Judged.{JudgesTo}
+use Rattle.sprite_cluster.specs.Finishing.{IsSpent}
+use Rattle.sprite_top.specs.Judged.{numbered_line}
+use Rattle.unix_calls.specs.State.{Unix}
 use Rattle.unix_calls.specs.declared.entry.Entry.{Entry}
 use Rattle.unix_calls.specs.Output.{output_of, last_line}
 use Rattle.history_text.specs.Histories.{history_of}
@@ -59,18 +61,15 @@ printed printing.History c journal end = history_of journal ++ last_line end
 abbrev pub usage_line : List ℕ
 usage_line = codes "usage: sprite run | run --seed N | run --stats | history | load N | check\n"
 
-abbrev pub later_line : List ℕ
-later_line = codes "refused: 13\n"
-
 abbrev pub too_long_line : List ℕ
 too_long_line = codes "refused: 1\n"
 
 abbrev pub fault_line : List ℕ
 fault_line = codes "read fault\n"
 
--- a run of the cluster that came to that end: its journal is a history of one Unix kernel, each finished call stands in it
--- once, its records are written as they should be, call no server unreachable without cause, keep the rules and are worth
--- their units, it ended so, and what is due is what is printed of the journal
+-- a run of the cluster that came to that end: its journal is a history that one Unix kernel gives for the description, each finished
+-- call stands in it once, in the state that it leads to the processes stand as the end says, the budget is spent where it says so,
+-- and what is due is what is printed of the journal
 pub record IsRunOf (print : Printing) (c : Description) (end : Finish) (closed : Option Closed) (due : List ℕ) : Type 0 where
   pub run : Closed
   pub kept : closed ≡ Some run
@@ -78,12 +77,40 @@ pub record IsRunOf (print : Printing) (c : Description) (end : Finish) (closed :
   pub ends : run.finish ≡ end
   pub legal : IsTrue (legal c (journal_of run.trace))
   pub once : Once run.trace
-  pub formed : IsTrue (formed c run.trace)
-  pub reached : IsTrue (unreachable_for_cause c run.trace)
-  pub rules : KeepsRules c run.trace
-  pub worth : Worth c run.trace
-  pub finished : IsFinished c run.trace end
+  pub state : Unix
+  pub leads : state_of c (journal_of run.trace) ≡ Some state
+  pub finished : EndsAs c state end
+  pub spent : IsSpent c run.trace end
   pub output : due ≡ printed print c (journal_of run.trace) end
+
+-- the line about a run that isn't what was promised of it
+abbrev pub refuted_line : JudgedRun → List ℕ
+refuted_line (judged.Judged output) = []
+refuted_line (judged.Refuted (refuted.Legal number)) = numbered_line (codes "refuted legal ") number
+refuted_line (judged.Refuted refuted.Once) = codes "refuted once\n"
+refuted_line (judged.Refuted refuted.End) = codes "refuted end\n"
+refuted_line (judged.Refuted refuted.Stall) = codes "refuted stall\n"
+refuted_line (judged.Steps number) = numbered_line (codes "refuted steps ") number
+
+-- a run comes to something else than what was promised of it
+abbrev pub IsBroken : JudgedRun → Type 0
+IsBroken (judged.Judged output) = ⊥
+IsBroken other = Unit {0}
+
+-- a run of the cluster isn't what was promised of it, by the judge, and its line is due
+pub record IsRefutedRun (c : Description) (closed : Option Closed) (due : List ℕ) : Type 0 where
+  pub run : Closed
+  pub kept : closed ≡ Some run
+  pub same : run.description ≡ c
+  pub verdict : JudgedRun
+  pub judges : JudgesTo c 40000000000 run.trace run.finish verdict
+  pub broken : IsBroken verdict
+  pub line_is : due ≡ refuted_line verdict
+
+-- what the run of a cluster comes to is the cluster's, and its budget is spent where it says so
+pub record IsRun (c : Description) (run : Closed) : Type 0 where
+  pub same : run.description ≡ c
+  pub spent : IsSpent c run.trace run.finish
 
 -- nothing was run, and that line is due
 pub record IsLine (closed : Option Closed) (due line : List ℕ) : Type 0 where
@@ -106,6 +133,22 @@ pub record IsEnded (end : Finish) (words : List (List ℕ)) (left left_after : O
   pub short : length came ≤ 1048576
   pub run_of : IsFileRun print came end closed due
 
+-- the bytes are a cluster file, and its run isn't what was promised of it
+pub record IsFileRefuted (bytes : List ℕ) (closed : Option Closed) (due : List ℕ) : Type 0 where
+  pub cluster : Description
+  pub describes : Describes bytes cluster
+  pub run_of : IsRefutedRun cluster closed due
+
+-- the words are `run` or `history`, the source was read to its end, and the run of its bytes isn't what was promised of it
+pub record IsRefuted (words : List (List ℕ)) (left left_after : Option (List ℕ)) (closed : Option Closed) (due : List ℕ) : Type 0 where
+  pub print : Printing
+  pub words_are : words ≡ words_of print
+  pub came : List ℕ
+  pub read : Consumes left left_after came
+  pub at_end : IsAtEnd left_after
+  pub short : length came ≤ 1048576
+  pub run_of : IsFileRefuted came closed due
+
 -- the words are `check`, the source was read to its end, and what came is a text that comes to something of that status
 pub record IsChecked (state : Status) (words : List (List ℕ)) (left left_after : Option (List ℕ)) (closed : Option Closed) (due : List ℕ) : Type 0 where
   pub words_are : words ≡ check_words
@@ -121,17 +164,10 @@ pub record IsRefusal (bytes due : List ℕ) : Type 0 where
   pub refuses : Refuses bytes refusal
   pub line_is : due ≡ refusal_line refusal
 
--- the bytes describe a cluster that isn't run so far
-pub record IsLater (bytes due : List ℕ) : Type 0 where
-  pub cluster : Description
-  pub describes : Describes bytes cluster
-  pub not_today : is_run_today cluster ≡ false
-  pub line_is : due ≡ later_line
-
--- bytes that are read to their end, which have a refusal or describe a cluster that isn't run so far; or too many bytes
+-- bytes that are read to their end and have a refusal, or too many bytes
 abbrev pub AreRefused : Option (List ℕ) → List ℕ → List ℕ → Type 0
 AreRefused left_after came due =
-    (IsAtEnd left_after × (length came ≤ 1048576) × (IsRefusal came due ⊎ IsLater came due)) ⊎ ((1048576 < length came) × (due ≡ too_long_line))
+    (IsAtEnd left_after × (length came ≤ 1048576) × IsRefusal came due) ⊎ ((1048576 < length came) × (due ≡ too_long_line))
 
 -- the words are `run` or `history`, and what was read is refused
 pub record IsRunRefused (words : List (List ℕ)) (left left_after : Option (List ℕ)) (closed : Option Closed) (due : List ℕ) : Type 0 where
@@ -172,9 +208,11 @@ pub record IsReadFault (words : List (List ℕ)) (faults faults_after : ℕ) (cl
 abbrev pub Causes : Status → List (List ℕ) → Option (List ℕ) → Option (List ℕ) → ℕ → ℕ → Option Closed → List ℕ → Type 0
 Causes status.Ended words left left_after faults faults_after closed due = IsEnded finish.AllEnded words left left_after closed due
 Causes status.Budget words left left_after faults faults_after closed due = IsEnded finish.Budget words left left_after closed due
+Causes status.Stalled words left left_after faults faults_after closed due = IsEnded finish.Stalled words left left_after closed due
+Causes status.Refuted words left left_after faults faults_after closed due = IsRefuted words left left_after closed due
 Causes status.Legal words left left_after faults faults_after closed due = IsChecked status.Legal words left left_after closed due
 Causes status.NotLegal words left left_after faults faults_after closed due = IsChecked status.NotLegal words left left_after closed due
-Causes status.TooLong words left left_after faults faults_after closed due = IsChecked status.TooLong words left left_after closed due
+Causes status.Steps words left left_after faults faults_after closed due = IsChecked status.Steps words left left_after closed due
 Causes status.Refused words left left_after faults faults_after closed due = IsRefused words left left_after closed due
 Causes status.Usage words left left_after faults faults_after closed due = IsUsage words left left_after faults faults_after closed due
 Causes status.ReadFault words left left_after faults faults_after closed due = IsReadFault words faults faults_after closed due
@@ -185,14 +223,17 @@ Causes status.WriteFault words left left_after faults faults_after closed due = 
 abbrev pub FileCauses : Printing → Status → List ℕ → Option Closed → List ℕ → Type 0
 FileCauses print status.Ended bytes closed due = IsFileRun print bytes finish.AllEnded closed due
 FileCauses print status.Budget bytes closed due = IsFileRun print bytes finish.Budget closed due
-FileCauses print status.Refused bytes closed due = (closed ≡ None) × (IsRefusal bytes due ⊎ IsLater bytes due)
+FileCauses print status.Stalled bytes closed due = IsFileRun print bytes finish.Stalled closed due
+FileCauses print status.Refuted bytes closed due = IsFileRefuted bytes closed due
+FileCauses print status.Refused bytes closed due = (closed ≡ None) × IsRefusal bytes due
 FileCauses print _ bytes closed due = ⊥
 
 -- what is due for a described cluster
 abbrev pub ClusterCauses : Printing → Status → Description → Option Closed → List ℕ → Type 0
 ClusterCauses print status.Ended c closed due = IsRunOf print c finish.AllEnded closed due
 ClusterCauses print status.Budget c closed due = IsRunOf print c finish.Budget closed due
-ClusterCauses print status.Refused c closed due = (is_run_today c ≡ false) × IsLine closed due later_line
+ClusterCauses print status.Stalled c closed due = IsRunOf print c finish.Stalled closed due
+ClusterCauses print status.Refuted c closed due = IsRefutedRun c closed due
 ClusterCauses print _ c closed due = ⊥
 
 -- what was due was written behind what the sink held
@@ -213,8 +254,10 @@ pub record Broke (held held_after : Option (List ℕ)) (faults faults_after : �
 
 -- the status of a run that came to its end so
 abbrev pub status_of : Finish → Status
+status_of finish.AllEnded = status.Ended
 status_of finish.Budget = status.Budget
-status_of _ = status.Ended
+status_of finish.Stalled = status.Stalled
+status_of _ = status.Refuted
 
 -- the exit status of the program
 abbrev pub status_number : Status → ℕ
@@ -224,7 +267,9 @@ status_number status.Refused = 1
 status_number status.Usage = 2
 status_number status.ReadFault = 3
 status_number status.Budget = 4
+status_number status.Stalled = 5
 status_number status.NoMemory = 6
 status_number status.WriteFault = 7
 status_number status.NotLegal = 8
-status_number status.TooLong = 9
+status_number status.Steps = 9
+status_number status.Refuted = 10

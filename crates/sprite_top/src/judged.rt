@@ -1,10 +1,13 @@
 ghost use Rattle.std.specs.Prelude.{codes, ◌≡◌, ◌++◌, IfOk};
 ghost use Rattle.std.specs.Fmt.{decimal};
+ghost use Rattle.run_judge.specs.declared.JudgedRun.TheVariants.{Refuted};
 ghost use Rattle.sprite_top.specs.Judged.{judgement_line, numbered_line, verdict_line};
+ghost use Rattle.sprite_top.specs.Top.{refuted_line};
 
-use crate::report::refusal_line;
 use history_check::Judgement;
 use one_kernel::Verdict;
+use report_print::refusal_line;
+use run_judge::{JudgedRun, Refutation};
 use sprite_ids::NoMemory;
 use std::alloc::Global;
 
@@ -30,6 +33,29 @@ fn verdict_line(alloc: Global, verdict: Verdict) -> Result<Vec<u8>, NoMemory>
             numbered_line(alloc, b"not legal at line ", u64::from(number))
         }
         Verdict::Steps(number) => numbered_line(alloc, b"steps at line ", u64::from(number)),
+    }
+}
+
+/// The line about a run that isn't what was promised of it.
+pub(crate) fn refuted_line(alloc: Global, judged: &JudgedRun) -> Result<Vec<u8>, NoMemory>
+    ensures { IfOk result (λ line. line.items ≡ refuted_line judged.now) }
+{
+    match judged {
+        JudgedRun::Judged { .. } => Ok(Vec::new(alloc)),
+        JudgedRun::Refuted(refutation) => refutation_line(alloc, *refutation),
+        JudgedRun::Steps(number) => numbered_line(alloc, b"refuted steps ", u64::from(*number)),
+    }
+}
+
+// The line about the promise that a run breaks.
+fn refutation_line(alloc: Global, refutation: Refutation) -> Result<Vec<u8>, NoMemory>
+    ensures { IfOk result (λ line. line.items ≡ refuted_line (Refuted refutation)) }
+{
+    match refutation {
+        Refutation::Legal(number) => numbered_line(alloc, b"refuted legal ", u64::from(number)),
+        Refutation::Once => Ok(Vec::from_slice(alloc, b"refuted once\n")?),
+        Refutation::End => Ok(Vec::from_slice(alloc, b"refuted end\n")?),
+        Refutation::Stall => Ok(Vec::from_slice(alloc, b"refuted stall\n")?),
     }
 }
 

@@ -1,22 +1,18 @@
 ghost use Rattle.std.specs.Prelude.{◌≡◌, ◌↔◌, ◌∷◌, [], None, IsTrue, IfOk};
-ghost use Rattle.sprite_ids.specs.declared.running.Finish.TheVariants.{AllEnded, Budget as Spent};
-ghost use Rattle.unix_calls.specs.Lawful.{Lawful};
+ghost use Rattle.sprite_ids.specs.declared.running.Finish.TheVariants.{AllEnded, Budget as Spent, Stalled as Stopped};
 ghost use Rattle.sprite_top.specs.Judged.{TextCauses, judgement_status, verdict_status};
-ghost use Rattle.call_journal.specs.Journal.{journal_of};
-ghost use Rattle.sprite_cluster.specs.Histories.{IsHistory};
-ghost use Rattle.sprite_top.specs.Top.{spelled, words_of, check_words, IsEnded, IsChecked, IsRefused, IsUsage, IsReadFault, Causes, FileCauses, ClusterCauses, Wrote, Broke, printed, status_of, status_number};
+ghost use Rattle.sprite_top.specs.Top.{spelled, words_of, check_words, IsEnded, IsChecked, IsRefuted, IsRefused, IsUsage, IsReadFault, Causes, FileCauses, Wrote, Broke, status_number};
 
+use crate::clusters::answer_cluster;
 use crate::judged::judgement_line;
-use crate::report::{history, output, refusal_line};
 use call_journal::Closed;
 use cluster_file::{FileEnd, read_description};
 use history_check::{Judgement, judge};
 use one_kernel::Verdict;
+use report_print::refusal_line;
 use sprite_bytes::{ReadEnd, Sink, Source, read_all, write_all};
-use sprite_cluster::{Outcome, is_run_today, run};
-use sprite_ids::{Bytes, Finish, NoMemory};
+use sprite_ids::{Bytes, NoMemory};
 use std::alloc::Global;
-use unix_calls::Description;
 
 /// How many bytes a cluster file may have.
 const FILE_BYTES: usize = 1_048_576;
@@ -27,9 +23,6 @@ const TEXT_BYTES: usize = 67_108_864;
 /// What is written where the words are no command.
 const USAGE_LINE: &[u8] =
     b"usage: sprite run | run --seed N | run --stats | history | load N | check\n";
-
-/// What is written for a cluster that isn't run so far.
-const REFUSED_LINE: &[u8] = b"refused: 13\n";
 
 /// What is written for more bytes than the command may read.
 const TOO_LONG_LINE: &[u8] = b"refused: 1\n";
@@ -44,7 +37,7 @@ pub enum Status {
     Ended,
     /// 0: a history was checked, and one Unix kernel gives it.
     Legal,
-    /// 1: the bytes read are not of the command's form, or they describe a cluster that isn't run so far.
+    /// 1: the bytes read are not of the command's form.
     Refused,
     /// 2: the words are no command.
     Usage,
@@ -52,6 +45,8 @@ pub enum Status {
     ReadFault,
     /// 4: the budget is spent and a process lives; the output was written.
     Budget,
+    /// 5: a process lives and nothing can happen any more; the output was written.
+    Stalled,
     /// 6: memory was wanting; nothing was written.
     NoMemory,
     /// 7: the sink failed; a prefix of what was due was written.
@@ -59,7 +54,10 @@ pub enum Status {
     /// 8: a history was checked, and one Unix kernel doesn't give it.
     NotLegal,
     /// 9: a history was checked, and its processes do too many instructions to find out.
-    TooLong,
+    Steps,
+    /// 10: a cluster was run, and the run isn't what was promised of it; a line that says why was written. It would be a fault of
+    /// this program.
+    Refuted,
 }
 
 /// What a command prints of the cluster that it ran (this project).
@@ -101,9 +99,11 @@ pub fn sprite<S: Source, K: Sink>(
 ) -> Ended
     ensures ended { result.status ≡ Status.Ended → Wrote (K.held sink.old) (K.held sink.new) (IsEnded AllEnded (spelled words.now) (S.left source.old) (S.left source.new) result.closed) }
     ensures budget { result.status ≡ Status.Budget → Wrote (K.held sink.old) (K.held sink.new) (IsEnded Spent (spelled words.now) (S.left source.old) (S.left source.new) result.closed) }
+    ensures stalled { result.status ≡ Status.Stalled → Wrote (K.held sink.old) (K.held sink.new) (IsEnded Stopped (spelled words.now) (S.left source.old) (S.left source.new) result.closed) }
+    ensures refuted { result.status ≡ Status.Refuted → Wrote (K.held sink.old) (K.held sink.new) (IsRefuted (spelled words.now) (S.left source.old) (S.left source.new) result.closed) }
     ensures legal { result.status ≡ Status.Legal → Wrote (K.held sink.old) (K.held sink.new) (IsChecked Status.Legal (spelled words.now) (S.left source.old) (S.left source.new) result.closed) }
     ensures not_legal { result.status ≡ Status.NotLegal → Wrote (K.held sink.old) (K.held sink.new) (IsChecked Status.NotLegal (spelled words.now) (S.left source.old) (S.left source.new) result.closed) }
-    ensures too_long { result.status ≡ Status.TooLong → Wrote (K.held sink.old) (K.held sink.new) (IsChecked Status.TooLong (spelled words.now) (S.left source.old) (S.left source.new) result.closed) }
+    ensures steps { result.status ≡ Status.Steps → Wrote (K.held sink.old) (K.held sink.new) (IsChecked Status.Steps (spelled words.now) (S.left source.old) (S.left source.new) result.closed) }
     ensures refused { result.status ≡ Status.Refused → Wrote (K.held sink.old) (K.held sink.new) (IsRefused (spelled words.now) (S.left source.old) (S.left source.new) result.closed) }
     ensures usage { result.status ≡ Status.Usage → Wrote (K.held sink.old) (K.held sink.new) (IsUsage (spelled words.now) (S.left source.old) (S.left source.new) (S.faults source.old) (S.faults source.new) result.closed) }
     ensures read_fault { result.status ≡ Status.ReadFault → Wrote (K.held sink.old) (K.held sink.new) (IsReadFault (spelled words.now) (S.faults source.old) (S.faults source.new) result.closed) }
@@ -206,7 +206,7 @@ fn verdict_status(verdict: Verdict) -> Status
     match verdict {
         Verdict::Legal => Status::Legal,
         Verdict::NotLegal(_) => Status::NotLegal,
-        Verdict::Steps(_) => Status::TooLong,
+        Verdict::Steps(_) => Status::Steps,
     }
 }
 
@@ -235,59 +235,8 @@ fn answer_file(alloc: Global, bytes: &[u8], print: Printing) -> Result<Answer, N
     }
 }
 
-/// What is due for a described cluster, which is lawful. The one error is want of memory.
-fn answer_cluster(
-    alloc: Global,
-    description: Description,
-    print: Printing,
-) -> Result<Answer, NoMemory>
-    requires { Lawful description }
-    ensures { IfOk result (λ a. ClusterCauses print a.status description a.closed a.due) }
-{
-    if !is_run_today(&description) {
-        return refuse(alloc, Status::Refused, REFUSED_LINE);
-    }
-    let outcome = run(alloc, &description)?;
-    let due = printed(alloc, &description, &outcome, print)?;
-    Ok(Answer {
-        status: status_of(outcome.finish),
-        due: Bytes::of_vec(due),
-        closed: Some(Closed {
-            description,
-            trace: outcome.trace,
-            finish: outcome.finish,
-        }),
-    })
-}
-
-/// What is printed of a run. The one error is want of memory.
-fn printed(
-    alloc: Global,
-    description: &Description,
-    outcome: &Outcome,
-    print: Printing,
-) -> Result<Vec<u8>, NoMemory>
-    requires { IsHistory description.now outcome.now }
-    ensures { IfOk result (λ text. text.items ≡ printed print description.now (journal_of outcome.now.trace) outcome.now.finish) }
-{
-    match print {
-        Printing::Output => output(alloc, description, outcome),
-        Printing::History => history(alloc, outcome),
-    }
-}
-
-/// The status of a run that came to its end so.
-fn status_of(finish: Finish) -> Status
-    ensures { result ≡ status_of finish }
-{
-    match finish {
-        Finish::Budget => Status::Budget,
-        _ => Status::Ended,
-    }
-}
-
 impl Status {
-    /// The exit status of the program, 0 to 9.
+    /// The exit status of the program, 0 to 10.
     pub fn number(self) -> u8
         ensures { result ≡ status_number self }
     {
@@ -298,10 +247,12 @@ impl Status {
             Status::Usage => 2,
             Status::ReadFault => 3,
             Status::Budget => 4,
+            Status::Stalled => 5,
             Status::NoMemory => 6,
             Status::WriteFault => 7,
             Status::NotLegal => 8,
-            Status::TooLong => 9,
+            Status::Steps => 9,
+            Status::Refuted => 10,
         }
     }
 }

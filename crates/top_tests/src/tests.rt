@@ -355,11 +355,21 @@ const PROGRAMS: [(&[u8], &[u8]); 33] = [
         b"pid 1001 p c1 exit 30\n",
     ),
     (b"set r1 1\ndiv r1 r2\nsys exit 0", b"pid 1001 p c1 bad\n"),
-    // calls that aren't built so far
-    (b"sys open 0 1 1\nsys exit 0", b"refused: 13\n"),
-    (b"sys exit 0\nsys fork", b"refused: 13\n"),
-    (b"sys wait\nsys exit 0", b"refused: 13\n"),
-    (b"sys migrate 0 2\nsys exit 0", b"refused: 13\n"),
+    // no such file, no child, no such client: NoEntry, NoChild, BadHost
+    (
+        b"text 0 \"/f\"\nsys open 0 2 1\nsys exit r0",
+        b"pid 1001 p c1 exit 1\n",
+    ),
+    (b"sys wait\nsys exit r0", b"pid 1001 p c1 exit 13\n"),
+    (
+        b"text 0 \"s1\"\nsys migrate 0 2\nsys exit r0",
+        b"pid 1001 p c1 exit 18\n",
+    ),
+    // 1002 modulo 256, and 0 for the child
+    (
+        b"sys fork\nsys exit r1",
+        b"pid 1001 p c1 exit 234\npid 1002 p c1 exit 0\n",
+    ),
     (
         b"text 0 \"a\\tb\"\nsys exit 0",
         b"refused: 11 program 1 line 1\n",
@@ -388,7 +398,7 @@ fn wrong_program(alloc: Global) -> Result<Option<usize>, NoMemory> {
 }
 
 #[test]
-fn programs_are_run_and_others_refused(rt: HostRuntime) -> Result<(), Fail> {
+fn programs_are_run_and_bad_ones_refused(rt: HostRuntime) -> Result<(), Fail> {
     assert_eq!(rt; wrong_program(rt.alloc())?, None);
     Ok(())
 }

@@ -1,0 +1,84 @@
+-- What happens at a choice of a kernel.
+use Rattle.std.specs.Prelude.{◌≡◌, ℕ, ◌+◌, ◌==◌, true, false, List, Option, Some, None}
+use Rattle.std.specs.List.{list_any}
+use Rattle.sprite_ids.specs.declared.TxNo.{TxNo}
+use Rattle.kernel_rpc.specs.Machine.{Machine}
+use Rattle.kernel_rpc.specs.Servers.{AreApart}
+use Rattle.kernel_rpc.specs.declared.PacketCopy.{PacketCopy}
+use Rattle.kernel_steps.specs.declared.Input.{Input}
+use Rattle.kernel_steps.specs.declared.Input.TheVariants as inputs
+use Rattle.kernel_steps.specs.declared.Out.{Out}
+use Rattle.unix_calls.specs.declared.About.{About}
+use Rattle.unix_calls.specs.declared.Event.{Event}
+use Rattle.unix_calls.specs.declared.Event.TheVariants.{Deliver, Expire}
+use Rattle.sprite_cluster.specs.declared.state.State.{State}
+use Rattle.sprite_cluster.specs.declared.act.Act.{Act}
+use Rattle.sprite_cluster.specs.declared.act.Act.TheVariants as acts
+use Rattle.sprite_cluster.specs.declared.act.Given.{Given}
+use Rattle.sprite_cluster.specs.declared.act.Given.TheVariants as given
+use Rattle.sprite_cluster.specs.declared.act.Said.{Said}
+use Rattle.packet_bodies.specs.declared.Body.{Body}
+use Rattle.packet_bodies.specs.declared.Body.TheVariants as bodies
+use Rattle.wire_format.specs.declared.Packet.{Packet}
+use Rattle.sprite_cluster.specs.States.{stepped}
+use Rattle.sprite_cluster.specs.Noted.{faulted, faulted_all, noted_all, noted_step}
+
+-- the number of the next remote call
+abbrev pub next_of : Machine → TxNo
+next_of machine = record { 0 = machine.begun + 1 }
+
+-- a broadcast may go to these servers: no one stands twice, the owner is one of them and the caller isn't
+pub record MayGoTo (servers : List ℕ) (from owner : ℕ) : Type 0 where
+  pub owner_there : list_any (λ server. server == owner) servers ≡ true
+  pub caller_apart : list_any (λ server. server == from) servers ≡ false
+  pub apart : AreApart servers
+
+-- what a step said is recorded: all that the kernel did, with the faults of its requests, and then the faults of its answers
+abbrev pub says : ℕ → Said → State × Out → State
+says kernel said made = faulted_all kernel said.answered (noted_all kernel made.1.events said.sent made.0)
+
+-- the kernel takes an input: one step of it, and what that said
+abbrev pub took : ℕ → Input → Said → State → State
+took kernel input said s = says kernel said (stepped kernel input said.next s)
+
+-- the call of a process that a packet names
+abbrev pub named : Option (ℕ × ℕ) → Option About
+named None = None
+named (Some call) = Some (record { pid = call.0; number = call.1 })
+
+-- the record that a copy came
+abbrev pub delivery : PacketCopy → Event
+delivery copy = Deliver copy.tx copy.from copy.reply (named copy.about)
+
+-- what the kernel takes of a message that came: a request or a reply, from the kernel that the message names
+abbrev pub input_by : TxNo → ℕ → Body → Input
+input_by tx from (bodies.Request request) = inputs.Request tx from request
+input_by tx from (bodies.Reply reply) = inputs.Replied tx from reply
+
+abbrev pub input_of : PacketCopy → Packet → Input
+input_of copy message = input_by copy.tx message.from message.body
+
+-- what a message was to the kernel to which it came: it was taken, or nothing happened
+abbrev pub MessageGiven : ℕ → PacketCopy → Packet → Given → State → State → Type 0
+MessageGiven kernel copy message (given.Taken said) s after = after ≡ took kernel (input_of copy message) said s
+MessageGiven kernel copy message (given.Again fate) s after = ⊥
+MessageGiven kernel copy message given.Past s after = after ≡ s
+
+-- some message was taken
+pub record TookMessage (kernel : ℕ) (copy : PacketCopy) (said : Said) (s after : State) : Type 0 where
+  pub message : Packet
+  pub is : after ≡ took kernel (input_of copy message) said s
+
+-- what a copy was to the kernel to which it came
+abbrev pub GivenBy : ℕ → PacketCopy → Given → State → State → Type 0
+GivenBy kernel copy (given.Taken said) s after = TookMessage kernel copy said s after
+GivenBy kernel copy (given.Again fate) s after = after ≡ faulted kernel copy.from fate s
+GivenBy kernel copy given.Past s after = after ≡ s
+
+-- what happened at a choice of the kernel leads from one state to the other
+abbrev pub Done : ℕ → Act → State → State → Type 0
+Done kernel (acts.Came copy what) s after = GivenBy kernel copy what (noted_step kernel (delivery copy) s) after
+Done kernel (acts.Resent tx fates) s after = after ≡ faulted_all kernel fates (noted_step kernel (Expire tx false) s)
+Done kernel (acts.GaveUp tx said) s after = after ≡ took kernel (inputs.GaveUp tx) said (noted_step kernel (Expire tx true) s)
+Done kernel (acts.WroteBack file block said) s after = after ≡ took kernel (inputs.Due file block) said s
+Done kernel acts.Nothing s after = after ≡ s

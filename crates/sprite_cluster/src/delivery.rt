@@ -1,0 +1,263 @@
+ghost use Rattle.std.specs.Prelude.{◌≡◌, IfOk, IfSome, IsTrue};
+ghost use Rattle.unix_calls.specs.Lawful.{Lawful};
+ghost use Rattle.kernel_rpc.specs.Machine.{copy_of, may_expire};
+ghost use Rattle.sprite_cluster.specs.Acts.{delivery, named, Done, GivenBy, MessageGiven};
+
+use crate::act::{Act, Given};
+use crate::choice::Choice;
+use crate::state::State;
+use crate::taking::take;
+use kernel_rpc::{Delivered, Expired, PacketCopy, Wire};
+use kernel_steps::Input;
+use link_plan::Link;
+use packet_bodies::{Body, Request};
+use sprite_ids::{BlockNo, CopyNo, FileId, Kernel, NoMemory, Pid, TxNo};
+use std::alloc::Global;
+use unix_calls::{About, Description, Event};
+use wire_format::Packet;
+
+/// The choice happens at the kernel, and what happened is told to nobody. The one error is want of memory.
+pub(crate) fn happen<L: Link>(
+    alloc: Global,
+    c: &Description,
+    state: &mut State,
+    wire: &mut Wire<Packet, L>,
+    kernel: Kernel,
+    choice: Choice,
+) -> Result<(), NoMemory>
+    requires lawful { Lawful c.now }
+{
+    let _act = step(alloc, c, state, wire, kernel, choice)?;
+    Ok(())
+}
+
+/// The choice happens at the kernel. Where it isn't one of the kernel's, nothing does. The one error is want of memory.
+pub(crate) fn step<L: Link>(
+    alloc: Global,
+    c: &Description,
+    state: &mut State,
+    wire: &mut Wire<Packet, L>,
+    kernel: Kernel,
+    choice: Choice,
+) -> Result<Act, NoMemory>
+    requires lawful { Lawful c.now }
+    ensures { IfOk result (λ act. Done kernel act state.old state.new) }
+{
+    match choice {
+        Choice::Deliver(copy) => deliver(alloc, c, state, wire, kernel, copy),
+        Choice::Expire(tx) => expire(alloc, c, state, wire, kernel, tx),
+        Choice::WriteBack(file, block) => {
+            write_back(alloc, c, state, wire, kernel, &file, block)
+        }
+    }
+}
+
+// The block is due.
+fn write_back<L: Link>(
+    alloc: Global,
+    c: &Description,
+    state: &mut State,
+    wire: &mut Wire<Packet, L>,
+    kernel: Kernel,
+    file: &FileId,
+    block: BlockNo,
+) -> Result<Act, NoMemory>
+    requires lawful { Lawful c.now }
+    ensures { IfOk result (λ act. Done kernel act state.old state.new) }
+{
+    let input = Input::Due { file: *file, block };
+    let said = take(alloc, c, state, wire, kernel, input)?;
+    Ok(Act::WroteBack(*file, block, said))
+}
+
+// The copy comes, where it is in flight to the kernel.
+fn deliver<L: Link>(
+    alloc: Global,
+    c: &Description,
+    state: &mut State,
+    wire: &mut Wire<Packet, L>,
+    kernel: Kernel,
+    copy: CopyNo,
+) -> Result<Act, NoMemory>
+    requires lawful { Lawful c.now }
+    ensures { IfOk result (λ act. Done kernel act state.old state.new) }
+{
+    match copy_to(wire, kernel, copy) {
+        Some(packet) => {
+            state.note_step(kernel, delivery(&packet))?;
+            let given = give(alloc, c, state, wire, kernel, copy, &packet)?;
+            Ok(Act::Came(packet, given))
+        }
+        None => Ok(Act::Nothing),
+    }
+}
+
+// The copy of that number, where it is in flight to the kernel.
+fn copy_to<L: Link>(wire: &Wire<Packet, L>, kernel: Kernel, copy: CopyNo) -> Option<PacketCopy>
+    ensures { IfSome result (λ packet. copy_of wire.now.machine copy ≡ Some packet) }
+{
+    match wire.packet(copy) {
+        Some(packet) if packet.to == kernel => Some(packet),
+        _ => None,
+    }
+}
+
+// The record that the copy came.
+fn delivery(packet: &PacketCopy) -> Event
+    ensures { result ≡ delivery packet.now }
+{
+    Event::Deliver {
+        tx: packet.tx,
+        from: packet.from,
+        reply: packet.reply,
+        about: named(packet.about),
+    }
+}
+
+// The call of a process that a packet names.
+fn named(about: Option<(Pid, u32)>) -> Option<About>
+    ensures { result ≡ named about }
+{
+    match about {
+        Some((pid, number)) => Some(About { pid, number }),
+        None => None,
+    }
+}
+
+// What the copy is to the kernel.
+fn give<L: Link>(
+    alloc: Global,
+    c: &Description,
+    state: &mut State,
+    wire: &mut Wire<Packet, L>,
+    kernel: Kernel,
+    copy: CopyNo,
+    packet: &PacketCopy,
+) -> Result<Given, NoMemory>
+    requires lawful { Lawful c.now }
+    requires flying { copy_of wire.old.machine copy ≡ Some packet.now }
+    ensures { IfOk result (λ given. GivenBy kernel packet.now given state.old state.new) }
+{
+    match wire.deliver(alloc, copy)? {
+        Delivered::Request(_tx, request) => serve(alloc, c, state, wire, kernel, packet, request),
+        Delivered::Reply(_tx, reply) => hear(alloc, c, state, wire, kernel, packet, reply),
+        Delivered::Repeated(_tx, fate) => {
+            state.note_fault(kernel, packet.from, fate)?;
+            Ok(Given::Again(fate))
+        }
+        Delivered::Old => Ok(Given::Past),
+    }
+}
+
+// A request comes for the first time; a server that can't answer a broadcast says nothing.
+fn serve<L: Link>(
+    alloc: Global,
+    c: &Description,
+    state: &mut State,
+    wire: &mut Wire<Packet, L>,
+    kernel: Kernel,
+    copy: &PacketCopy,
+    packet: Packet,
+) -> Result<Given, NoMemory>
+    requires lawful { Lawful c.now }
+    ensures { IfOk result (λ given. MessageGiven kernel copy.now packet given state.old state.new) }
+{
+    let tx = copy.tx;
+    let Packet {
+        from,
+        to: _to,
+        tx: _tx,
+        body,
+    } = packet;
+    match body {
+        Body::Request(body) => {
+            let asks_prefix = is_prefix(&body);
+            let input = Input::Request { tx, from, body };
+            let said = take(alloc, c, state, wire, kernel, input)?;
+            end_serving(wire, kernel, tx, asks_prefix);
+            Ok(Given::Taken(said))
+        }
+        Body::Reply(_) => Ok(Given::Past),
+    }
+}
+
+// A server that was asked for a prefix and has not answered goes silent.
+fn end_serving<L: Link>(wire: &mut Wire<Packet, L>, kernel: Kernel, tx: TxNo, asks_prefix: bool) {
+    if asks_prefix && wire.may_be_silent(tx, kernel) {
+        wire.silent(tx, kernel);
+    }
+}
+
+// The reply to a call of the kernel comes for the first time.
+fn hear<L: Link>(
+    alloc: Global,
+    c: &Description,
+    state: &mut State,
+    wire: &mut Wire<Packet, L>,
+    kernel: Kernel,
+    copy: &PacketCopy,
+    packet: Packet,
+) -> Result<Given, NoMemory>
+    requires lawful { Lawful c.now }
+    ensures { IfOk result (λ given. MessageGiven kernel copy.now packet given state.old state.new) }
+{
+    let tx = copy.tx;
+    let Packet {
+        from,
+        to: _to,
+        tx: _tx,
+        body,
+    } = packet;
+    match body {
+        Body::Reply(body) => {
+            let input = Input::Replied { tx, from, body };
+            let said = take(alloc, c, state, wire, kernel, input)?;
+            Ok(Given::Taken(said))
+        }
+        Body::Request(_) => Ok(Given::Past),
+    }
+}
+
+// Whether a request asks for the server of a prefix.
+fn is_prefix(body: &Request) -> bool {
+    matches!(body, Request::Prefix { .. })
+}
+
+// The timer of a call fires, where the call is the kernel's and its timer may.
+fn expire<L: Link>(
+    alloc: Global,
+    c: &Description,
+    state: &mut State,
+    wire: &mut Wire<Packet, L>,
+    kernel: Kernel,
+    tx: TxNo,
+) -> Result<Act, NoMemory>
+    requires lawful { Lawful c.now }
+    ensures { IfOk result (λ act. Done kernel act state.old state.new) }
+{
+    if !may_expire(wire, kernel, tx) {
+        return Ok(Act::Nothing);
+    }
+    match wire.expire(alloc, tx)? {
+        Expired::GivenUp { .. } => {
+            state.note_step(kernel, Event::Expire { tx, last: true })?;
+            let said = take(alloc, c, state, wire, kernel, Input::GaveUp { tx })?;
+            Ok(Act::GaveUp(tx, said))
+        }
+        Expired::Resent(fates) => {
+            state.note_step(kernel, Event::Expire { tx, last: false })?;
+            state.note_faults(kernel, fates.as_slice())?;
+            Ok(Act::Resent(tx, fates))
+        }
+    }
+}
+
+// Whether the call is the kernel's and its timer may fire.
+fn may_expire<L: Link>(wire: &Wire<Packet, L>, kernel: Kernel, tx: TxNo) -> bool
+    ensures { IsTrue result → IsTrue (may_expire wire.now.machine tx) }
+{
+    match wire.call(tx) {
+        Some(call) => call.from == kernel && wire.may_expire(tx),
+        None => false,
+    }
+}

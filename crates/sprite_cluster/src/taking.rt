@@ -1,0 +1,73 @@
+ghost use Rattle.std.specs.Prelude.{◌≡◌, IfOk};
+ghost use Rattle.unix_calls.specs.Lawful.{Lawful};
+ghost use Rattle.sprite_cluster.specs.Acts.{next_of, says, took};
+
+use crate::act::Said;
+use crate::calls::{answer_all, begin_all, next_call};
+use crate::state::State;
+use kernel_rpc::Wire;
+use kernel_steps::{Input, Out};
+use link_plan::Link;
+use sprite_ids::{Kernel, NoMemory, TxNo};
+use std::alloc::Global;
+use unix_calls::Description;
+use wire_format::Packet;
+
+/// The kernel does one step with that, and all that it says goes out and is recorded. The one error is want of memory.
+pub(crate) fn take<L: Link>(
+    alloc: Global,
+    c: &Description,
+    state: &mut State,
+    wire: &mut Wire<Packet, L>,
+    kernel: Kernel,
+    input: Input,
+) -> Result<Said, NoMemory>
+    requires lawful { Lawful c.now }
+    ensures state { IfOk result (λ said. state.new ≡ took kernel input said state.old) }
+    ensures next { IfOk result (λ said. said.next ≡ next_of wire.old.machine) }
+{
+    take_in(alloc, c, state, wire, kernel, &input)
+}
+
+// The same with an input that is lent.
+fn take_in<L: Link>(
+    alloc: Global,
+    c: &Description,
+    state: &mut State,
+    wire: &mut Wire<Packet, L>,
+    kernel: Kernel,
+    input: &Input,
+) -> Result<Said, NoMemory>
+    requires lawful { Lawful c.now }
+    ensures state { IfOk result (λ said. state.new ≡ took kernel input.now said state.old) }
+    ensures next { IfOk result (λ said. said.next ≡ next_of wire.old.machine) }
+{
+    let next = next_call(wire)?;
+    let mut out = state.step(alloc, kernel, input, next)?;
+    say(alloc, c, state, wire, kernel, next, &mut out)
+}
+
+// What a step says: its remote calls begin, its answers go out, and its records are written. The one error is want of memory.
+fn say<L: Link>(
+    alloc: Global,
+    c: &Description,
+    state: &mut State,
+    wire: &mut Wire<Packet, L>,
+    kernel: Kernel,
+    next: TxNo,
+    out: &mut Out,
+) -> Result<Said, NoMemory>
+    requires lawful { Lawful c.now }
+    ensures state { IfOk result (λ said. state.new ≡ says kernel said (state.old, out.old)) }
+    ensures next { IfOk result (λ said. said.next ≡ next) }
+{
+    let sent = begin_all(alloc, c, wire, kernel, &mut out.sends)?;
+    let answered = answer_all(alloc, wire, kernel, &mut out.answers)?;
+    state.note_all(kernel, &mut out.events, sent.as_slice())?;
+    state.note_faults(kernel, answered.as_slice())?;
+    Ok(Said {
+        next,
+        sent,
+        answered,
+    })
+}
