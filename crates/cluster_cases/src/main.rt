@@ -2,6 +2,7 @@
 //! name, the word, the exit status and what is written. That was worked out by hand or by an independent design (this project).
 #![tactic(auto)]
 
+use link_plan::PlanLink;
 use sprite_bytes::{MemSink, MemSource};
 use sprite_ids::NoMemory;
 use sprite_top::sprite;
@@ -123,7 +124,8 @@ fn run(rt: &HostRuntime, command: &str, file: Vec<u8>) -> Result<(u8, String), N
     words.push(String::from_str(rt.alloc(), command)?)?;
     let mut source = MemSource::in_pieces(file, PIECE, Vec::new(rt.alloc()));
     let mut sink = MemSink::new(rt.alloc(), MOST, PIECE, Vec::new(rt.alloc()))?;
-    let status = sprite(rt.alloc(), words.as_slice(), &mut source, &mut sink)
+    let link = PlanLink::new(rt.alloc());
+    let status = sprite(rt.alloc(), words.as_slice(), &mut source, &mut sink, link)
         .status
         .number();
     Ok((

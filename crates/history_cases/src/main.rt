@@ -2,6 +2,7 @@
 //! the exit status and the line that is written. Their verdicts come from an independent reading of the rules (this project).
 #![tactic(auto)]
 
+use link_plan::PlanLink;
 use sprite_bytes::{MemSink, MemSource};
 use sprite_ids::NoMemory;
 use sprite_top::sprite;
@@ -94,7 +95,8 @@ fn judged(rt: &HostRuntime, text: Vec<u8>) -> Result<(u8, String), NoMemory> {
     words.push(String::from_str(rt.alloc(), "check")?)?;
     let mut source = MemSource::in_pieces(text, PIECE, Vec::new(rt.alloc()));
     let mut sink = MemSink::new(rt.alloc(), 100, PIECE, Vec::new(rt.alloc()))?;
-    let status = sprite(rt.alloc(), words.as_slice(), &mut source, &mut sink)
+    let link = PlanLink::new(rt.alloc());
+    let status = sprite(rt.alloc(), words.as_slice(), &mut source, &mut sink, link)
         .status
         .number();
     Ok((

@@ -1,6 +1,7 @@
 //! The program `sprite`: it runs a described cluster of Sprite kernels.
 #![tactic(auto)]
 
+use link_plan::PlanLink;
 use sprite_bytes::{StdSink, StdSource};
 use sprite_top::{Status, sprite};
 use std::process::ExitCode;
@@ -17,7 +18,8 @@ fn status(rt: &HostRuntime) -> Status {
     };
     let mut source = StdSource::new(rt.reader());
     let mut sink = StdSink::new(io::writer(rt));
-    sprite(rt.alloc(), words.as_slice(), &mut source, &mut sink).status
+    let link = PlanLink::new(rt.alloc());
+    sprite(rt.alloc(), words.as_slice(), &mut source, &mut sink, link).status
 }
 
 /// The words after the program's name.

@@ -1,1 +1,5 @@
 pub mod ServerLaws
+pub mod LinkLaws
+pub mod FaultLaws
+pub mod ActLaws
+pub mod OpenLaws

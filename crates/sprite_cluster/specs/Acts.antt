@@ -1,9 +1,11 @@
 -- What happens at a choice of a kernel.
-use Rattle.std.specs.Prelude.{◌≡◌, ℕ, ◌+◌, ◌==◌, true, false, List, Option, Some, None}
+use Rattle.std.specs.Prelude.{◌≡◌, ℕ, ◌+◌, ◌==◌, Bool, true, false, if◌then◌else◌, List, Option, Some, None}
 use Rattle.std.specs.List.{list_any}
 use Rattle.sprite_ids.specs.declared.TxNo.{TxNo}
-use Rattle.kernel_rpc.specs.Machine.{Machine}
+use Rattle.kernel_rpc.specs.Bodies.{IsMessage, body_of, reply_of}
+use Rattle.kernel_rpc.specs.Machine.{Machine, call_of}
 use Rattle.kernel_rpc.specs.Servers.{AreApart}
+use Rattle.kernel_rpc.specs.declared.call.Call.{Call}
 use Rattle.kernel_rpc.specs.declared.PacketCopy.{PacketCopy}
 use Rattle.kernel_steps.specs.declared.Input.{Input}
 use Rattle.kernel_steps.specs.declared.Input.TheVariants as inputs
@@ -20,6 +22,7 @@ use Rattle.sprite_cluster.specs.declared.act.Said.{Said}
 use Rattle.packet_bodies.specs.declared.Body.{Body}
 use Rattle.packet_bodies.specs.declared.Body.TheVariants as bodies
 use Rattle.wire_format.specs.declared.Packet.{Packet}
+use Rattle.wire_format.specs.Packets.{reading}
 use Rattle.sprite_cluster.specs.States.{stepped}
 use Rattle.sprite_cluster.specs.Noted.{faulted, faulted_all, noted_all, noted_step}
 
@@ -61,24 +64,34 @@ input_of copy message = input_by copy.tx message.from message.body
 -- what a message was to the kernel to which it came: it was taken, or nothing happened
 abbrev pub MessageGiven : ℕ → PacketCopy → Packet → Given → State → State → Type 0
 MessageGiven kernel copy message (given.Taken said) s after = after ≡ took kernel (input_of copy message) said s
-MessageGiven kernel copy message (given.Again fate) s after = ⊥
+MessageGiven kernel copy message (given.Again from to what) s after = ⊥
 MessageGiven kernel copy message given.Past s after = after ≡ s
 
--- some message was taken
-pub record TookMessage (kernel : ℕ) (copy : PacketCopy) (said : Said) (s after : State) : Type 0 where
+-- the message that a copy brings: the request of its call, or the reply to it
+abbrev pub carried : Machine → PacketCopy → Option (List ℕ)
+carried machine copy = if copy.reply then reply_of (call_of machine copy.tx) else body_of (call_of machine copy.tx)
+
+-- the message that the copy brings was taken
+pub record TookMessage (kernel : ℕ) (copy : PacketCopy) (said : Said) (machine : Machine) (s after : State) : Type 0 where
   pub message : Packet
+  pub came : IsMessage reading (carried machine copy) message
   pub is : after ≡ took kernel (input_of copy message) said s
 
 -- what a copy was to the kernel to which it came
-abbrev pub GivenBy : ℕ → PacketCopy → Given → State → State → Type 0
-GivenBy kernel copy (given.Taken said) s after = TookMessage kernel copy said s after
-GivenBy kernel copy (given.Again fate) s after = after ≡ faulted kernel copy.from fate s
-GivenBy kernel copy given.Past s after = after ≡ s
+abbrev pub GivenBy : ℕ → PacketCopy → Given → Machine → State → State → Type 0
+GivenBy kernel copy (given.Taken said) machine s after = TookMessage kernel copy said machine s after
+GivenBy kernel copy (given.Again from to what) machine s after = after ≡ faulted kernel from to what s
+GivenBy kernel copy given.Past machine s after = after ≡ s
 
--- what happened at a choice of the kernel leads from one state to the other
-abbrev pub Done : ℕ → Act → State → State → Type 0
-Done kernel (acts.Came copy what) s after = GivenBy kernel copy what (noted_step kernel (delivery copy) s) after
-Done kernel (acts.Resent tx fates) s after = after ≡ faulted_all kernel fates (noted_step kernel (Expire tx false) s)
-Done kernel (acts.GaveUp tx said) s after = after ≡ took kernel (inputs.GaveUp tx) said (noted_step kernel (Expire tx true) s)
-Done kernel (acts.WroteBack file block said) s after = after ≡ took kernel (inputs.Due file block) said s
-Done kernel acts.Nothing s after = after ≡ s
+-- whether a looked-up call is that kernel's
+abbrev pub is_from : ℕ → Option Call → Bool
+is_from kernel None = false
+is_from kernel (Some call) = call.from == kernel
+
+-- what happened at a choice of the kernel leads from one state to the other, over a wire that stood so
+abbrev pub Done : ℕ → Act → Machine → State → State → Type 0
+Done kernel (acts.Came copy what) machine s after = GivenBy kernel copy what machine (noted_step kernel (delivery copy) s) after
+Done kernel (acts.Resent tx fates) machine s after = after ≡ faulted_all kernel fates (noted_step kernel (Expire tx false) s)
+Done kernel (acts.GaveUp tx said) machine s after = after ≡ took kernel (inputs.GaveUp tx) said (noted_step kernel (Expire tx true) s)
+Done kernel (acts.WroteBack file block said) machine s after = after ≡ took kernel (inputs.Due file block) said s
+Done kernel acts.Nothing machine s after = after ≡ s

@@ -1,7 +1,10 @@
 pub mod Kernels
 pub mod States
 pub mod Noted
+pub mod Links
+pub mod Faults
 pub mod Acts
+pub mod Choosing
 pub mod Bursts
 pub mod Finishing
 pub mod Moments

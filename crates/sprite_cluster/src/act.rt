@@ -26,8 +26,12 @@ pub struct Said {
 pub enum Given {
     /// A request or a reply, for the first time: the kernel took it.
     Taken(Said),
-    /// A request that it has answered: the reply went out again, with that fate.
-    Again(Fate),
+    /// A request that it has answered: the reply went out again, from the kernel that answered to the one that called, with that fate.
+    Again {
+        from: Kernel,
+        to: Kernel,
+        fate: Fate,
+    },
     /// A copy that its call is past.
     Past,
 }

@@ -1,8 +1,10 @@
-ghost use Rattle.std.specs.Prelude.{◌≡◌, IfOk, Some, nat_lt, option_map, slice_get};
+ghost use Rattle.std.specs.Prelude.{◌≡◌, IfOk, OnOk, Some, nat_lt, option_map, slice_get};
 ghost use Rattle.std.specs.List.{filter, position};
 ghost use Rattle.unix_calls.specs.Answers.{program_at};
 ghost use Rattle.unix_calls.specs.Lawful.{Lawful};
 ghost use Rattle.sprite_cluster.specs.Bursts.{begun_by, came_to, is_as_it_was, is_image, is_runnable, issued, job_at, job_by, job_with, next_after, runnable_at, EndsAs, EndsSo, GoesOn, same_image};
+ghost use Rattle.sprite_cluster.specs.Faults.{FaultsTold};
+ghost use Rattle.sprite_cluster.specs.Links.{AskedThen};
 ghost use Rattle.sprite_cluster.specs.States.{image_at, put_image};
 ghost use Rattle.unix_calls.specs.declared.Event.TheVariants.{Burst as Ran};
 
@@ -177,6 +179,7 @@ pub(crate) fn finish_burst<L: Link>(
 ) -> Result<EndBurst, NoMemory>
     requires lawful { Lawful c.now }
     requires ends { EndsSo burst }
+    ensures told { OnOk result (FaultsTold L.faults wire.old.link wire.new.link state.old.trace state.new.trace) }
 {
     let ended = end_burst(alloc, c, state, wire, kernel, burst)?;
     Ok(told(&ended))
@@ -203,7 +206,8 @@ pub(crate) fn end_burst<L: Link>(
 ) -> Result<Ended, NoMemory>
     requires lawful { Lawful c.now }
     requires ends { EndsSo burst }
-    ensures { IfOk result (λ ended. EndsAs kernel burst ended state.old state.new) }
+    ensures ended { IfOk result (λ ended. EndsAs kernel burst ended state.old state.new) }
+    ensures asked { IfOk result (AskedThen L.faults L.asked kernel wire.old.link wire.new.link) }
 {
     let was_out = state.out.take_row(&kernel, &burst.pid);
     let stays = is_as_it_was(state, kernel, burst.pid, &burst.from);
@@ -236,7 +240,8 @@ fn go_on<L: Link>(
     input: Option<Input>,
 ) -> Result<Ended, NoMemory>
     requires lawful { Lawful c.now }
-    ensures { IfOk result (λ ended. GoesOn kernel input ended state.old state.new) }
+    ensures went { IfOk result (λ ended. GoesOn kernel input ended state.old state.new) }
+    ensures asked { IfOk result (AskedThen L.faults L.asked kernel wire.old.link wire.new.link) }
 {
     match input {
         Some(input) => {

@@ -1,7 +1,10 @@
-ghost use Rattle.std.specs.Prelude.{◌≡◌, ◌<◌, ◌==◌, true, IfOk, IfSome};
+ghost use Rattle.std.specs.Prelude.{◌≡◌, ◌<◌, ◌==◌, ◌++◌, true, IfOk, IfSome, OnOk, Some};
 ghost use Rattle.unix_calls.specs.Lawful.{Lawful};
-ghost use Rattle.kernel_rpc.specs.Machine.{is_free, may_answer};
+ghost use Rattle.kernel_rpc.specs.Machine.{call_of, is_free, may_answer};
+ghost use Rattle.kernel_rpc.specs.Servers.{pairs};
+ghost use Rattle.link_plan.specs.Counts.{Asks};
 ghost use Rattle.sprite_cluster.specs.Acts.{next_of, MayGoTo};
+ghost use Rattle.sprite_cluster.specs.Links.{ends_of, packets, AskedMore};
 
 use crate::act::Sent;
 use crate::servers::{are_apart, has, least_of};
@@ -36,6 +39,7 @@ pub(crate) fn begin_all<L: Link>(
     sends: &mut Items<Sending>,
 ) -> Result<Items<Sent>, NoMemory>
     requires lawful { Lawful c.now }
+    ensures asked { IfOk result (λ sent. Asks L.faults L.asked kernel wire.old.link wire.new.link (packets sent)) }
 {
     let mut sent = Items::new(alloc);
     'sends: while !sends.is_empty() {
@@ -61,6 +65,7 @@ fn begin<L: Link>(
     requires lawful { Lawful c.now }
     requires free { is_free wire.old.machine kernel port ≡ true }
     requires left { wire.old.machine.begun < 4294967295 }
+    ensures asked { OnOk result (AskedMore L.faults L.asked kernel wire.old.link wire.new.link (packets sent.old) (packets sent.new)) }
 {
     match owner_of(c, &sending.body) {
         Some(owner) => broadcast(alloc, wire, kernel, tx, port, owner, sending, sent),
@@ -97,6 +102,7 @@ fn call<L: Link>(
 ) -> Result<(), NoMemory>
     requires free { is_free wire.old.machine kernel port ≡ true }
     requires left { wire.old.machine.begun < 4294967295 }
+    ensures asked { OnOk result (AskedMore L.faults L.asked kernel wire.old.link wire.new.link (packets sent.old) (packets sent.new)) }
 {
     let Sending {
         to,
@@ -141,6 +147,7 @@ fn broadcast<L: Link>(
 ) -> Result<(), NoMemory>
     requires free { is_free wire.old.machine kernel port ≡ true }
     requires left { wire.old.machine.begun < 4294967295 }
+    ensures asked { OnOk result (AskedMore L.faults L.asked kernel wire.old.link wire.new.link (packets sent.old) (packets sent.new)) }
 {
     let Sending {
         to,
@@ -171,20 +178,27 @@ fn may_go_to(servers: &[Kernel], from: Kernel, owner: Kernel) -> bool
 }
 
 // Notes the packets of a broadcast.
+#[tactic(auto, using(crate::proofs::LinkLaws::packets_first))]
 fn put_all(
     sent: &mut Items<Sent>,
     tx: TxNo,
     servers: &[Kernel],
     fates: &[Fate],
-) -> Result<(), NoMemory> {
-    for (to, fate) in servers.iter().zip(fates.iter()) {
-        sent.push(Sent {
-            tx,
-            to: *to,
-            fate: *fate,
-        })?;
-    }
-    Ok(())
+) -> Result<(), NoMemory>
+    ensures { OnOk result (packets sent.new ≡ packets sent.old ++ pairs servers.now fates.now) }
+{
+    let [to, servers @ ..] = servers else {
+        return Ok(());
+    };
+    let [fate, fates @ ..] = fates else {
+        return Ok(());
+    };
+    sent.push(Sent {
+        tx,
+        to: *to,
+        fate: *fate,
+    })?;
+    put_all(sent, tx, servers, fates)
 }
 
 /// Answers in their order, which takes the answers out of the list, and tells of each reply where it goes and what the link made of
@@ -194,7 +208,9 @@ pub(crate) fn answer_all<L: Link>(
     wire: &mut Wire<Packet, L>,
     kernel: Kernel,
     answers: &mut Items<(TxNo, ReplyBody)>,
-) -> Result<Items<(Kernel, Fate)>, NoMemory> {
+) -> Result<Items<(Kernel, Fate)>, NoMemory>
+    ensures asked { IfOk result (λ answered. Asks L.faults L.asked kernel wire.old.link wire.new.link answered) }
+{
     let mut answered = Items::new(alloc);
     'answers: while !answers.is_empty() {
         let (tx, body) = answers.remove(0);
@@ -203,6 +219,7 @@ pub(crate) fn answer_all<L: Link>(
     Ok(answered)
 }
 
+#[tactic(auto, using(crate::proofs::LinkLaws::back_by, crate::proofs::LinkLaws::one_more))]
 // Answers a remote call that the kernel was asked and has not answered; another one it can't answer.
 fn answer<L: Link>(
     alloc: Global,
@@ -211,7 +228,9 @@ fn answer<L: Link>(
     tx: TxNo,
     body: ReplyBody,
     answered: &mut Items<(Kernel, Fate)>,
-) -> Result<(), NoMemory> {
+) -> Result<(), NoMemory>
+    ensures asked { OnOk result (AskedMore L.faults L.asked kernel wire.old.link wire.new.link answered.old answered.new) }
+{
     let Some(to) = asker(wire, kernel, tx) else {
         return Ok(());
     };
@@ -227,7 +246,8 @@ fn answer<L: Link>(
 
 // Who waits for the kernel's answer to the call; None exactly where the kernel has no such call to answer.
 fn asker<L: Link>(wire: &Wire<Packet, L>, kernel: Kernel, tx: TxNo) -> Option<Kernel>
-    ensures { IfSome result (λ _. may_answer wire.now.machine tx ≡ true) }
+    ensures may { IfSome result (λ _. may_answer wire.now.machine tx ≡ true) }
+    ensures ends { IfSome result (λ to. ends_of (call_of wire.now.machine tx) ≡ Some (kernel, to)) }
 {
     if !wire.may_answer(tx) {
         return None;

@@ -1,8 +1,13 @@
+ghost use Rattle.std.specs.Prelude.{◌≡◌, ◌++◌, IfOk, OnOk, map};
+ghost use Rattle.kernel_rpc.specs.Machine.{due_of, offered};
+ghost use Rattle.sprite_cluster.specs.Choosing.{choices_at};
+ghost use Rattle.sprite_cluster.specs.declared.choice.Choice.TheVariants.{Deliver, Expire};
+
 use crate::choice::Choice;
 use crate::state::State;
 use kernel_rpc::Wire;
 use link_plan::Link;
-use sprite_ids::{Items, Kernel, NoMemory};
+use sprite_ids::{CopyNo, Items, Kernel, NoMemory, TxNo};
 use std::alloc::Global;
 use wire_format::Packet;
 
@@ -13,10 +18,12 @@ pub(crate) fn choices<L: Link>(
     state: &State,
     wire: &Wire<Packet, L>,
     kernel: Kernel,
-) -> Result<Items<Choice>, NoMemory> {
+) -> Result<Items<Choice>, NoMemory>
+    ensures { IfOk result (λ choices. choices ≡ choices_at kernel state.now wire.now.machine) }
+{
     let mut choices = Items::new(alloc);
-    put_copies(alloc, wire, kernel, &mut choices)?;
-    put_timers(alloc, wire, kernel, &mut choices)?;
+    put_copies(&mut choices, wire.copies_for(alloc, kernel)?.as_slice())?;
+    put_timers(&mut choices, wire.expired_of(alloc, kernel)?.as_slice())?;
     if let Some((file, block)) = state.due(kernel) {
         choices.push(Choice::WriteBack(file, block))?;
     }
@@ -24,28 +31,20 @@ pub(crate) fn choices<L: Link>(
 }
 
 // Puts the copies that may come.
-fn put_copies<L: Link>(
-    alloc: Global,
-    wire: &Wire<Packet, L>,
-    kernel: Kernel,
-    choices: &mut Items<Choice>,
-) -> Result<(), NoMemory> {
-    let copies = wire.copies_for(alloc, kernel)?;
-    for copy in copies.as_slice() {
+fn put_copies(choices: &mut Items<Choice>, copies: &[CopyNo]) -> Result<(), NoMemory>
+    ensures { OnOk result (choices.new ≡ choices.old ++ map Deliver copies.now) }
+{
+    for copy in copies {
         choices.push(Choice::Deliver(*copy))?;
     }
     Ok(())
 }
 
 // Puts the timers that may fire.
-fn put_timers<L: Link>(
-    alloc: Global,
-    wire: &Wire<Packet, L>,
-    kernel: Kernel,
-    choices: &mut Items<Choice>,
-) -> Result<(), NoMemory> {
-    let calls = wire.expired_of(alloc, kernel)?;
-    for tx in calls.as_slice() {
+fn put_timers(choices: &mut Items<Choice>, calls: &[TxNo]) -> Result<(), NoMemory>
+    ensures { OnOk result (choices.new ≡ choices.old ++ map Expire calls.now) }
+{
+    for tx in calls {
         choices.push(Choice::Expire(*tx))?;
     }
     Ok(())

@@ -1,7 +1,11 @@
-ghost use Rattle.std.specs.Prelude.{◌≡◌, ◌<◌, ◌==◌, IfOk, length, not};
+ghost use Rattle.std.specs.Prelude.{◌≡◌, ◌<◌, ◌==◌, [], false, IfErr, IfOk, length, not};
 ghost use Rattle.unix_calls.specs.Lawful.{Lawful};
 ghost use Rattle.call_journal.specs.Units.{units_of};
-ghost use Rattle.sprite_cluster.specs.Bursts.{EndsSo, runnable_at};
+ghost use Rattle.kernel_rpc.specs.Machine.{idle};
+ghost use Rattle.link_plan.specs.Counts.{Stay};
+ghost use Rattle.sprite_cluster.specs.Bursts.{begun_by, job_at, EndsSo, runnable_at};
+ghost use Rattle.sprite_cluster.specs.Choosing.{choices_at};
+ghost use Rattle.sprite_cluster.specs.Faults.{ToldWhileOpen};
 ghost use Rattle.sprite_cluster.specs.Finishing.{IsSpent};
 ghost use Rattle.sprite_cluster.specs.Moments.{StandsSo};
 
@@ -39,7 +43,12 @@ impl<L: Link> Cluster<L> {
     /// The described cluster at its start, over that link, which makes the description's faults from now on. The one error is want
     /// of memory, and hands the link back.
     pub fn boot(alloc: Global, description: Description, link: L) -> Result<Cluster<L>, L>
-        ensures { IfOk result (λ cluster. cluster.description ≡ description) }
+        ensures described { IfOk result (λ cluster. cluster.description ≡ description) }
+        ensures open { IfOk result (λ cluster. cluster.closed ≡ false) }
+        ensures nothing_told { IfOk result (λ cluster. cluster.state.trace ≡ []) }
+        ensures idle { IfOk result (λ cluster. cluster.wire.machine ≡ idle) }
+        ensures counts { IfOk result (λ cluster. Stay (L.faults link) (L.asked link) (L.faults cluster.wire.link) (L.asked cluster.wire.link)) }
+        ensures given_back { IfErr result (λ back. Stay (L.faults link) (L.asked link) (L.faults back) (L.asked back)) }
     {
         let mut link = link;
         let Ok(()) = link.load(alloc, &description.plan) else {
@@ -61,7 +70,11 @@ impl<L: Link> Cluster<L> {
     /// sending, the timers of its remote calls that may fire, and the block that is due to be written back. The one error is want
     /// of memory.
     pub fn choices(&mut self, alloc: Global, kernel: Kernel) -> Result<Items<Choice>, NoMemory>
-        ensures { self.new.description ≡ self.old.description }
+        ensures choices { IfOk result (λ choices. choices ≡ choices_at kernel self.old.state self.old.wire.machine) }
+        ensures same { self.new.description ≡ self.old.description }
+        ensures state { self.new.state ≡ self.old.state }
+        ensures wire { self.new.wire ≡ self.old.wire }
+        ensures told { ToldWhileOpen L.faults self.old.closed self.new.closed self.old.wire.link self.new.wire.link self.old.state.trace self.new.state.trace }
     {
         match choices(alloc, &self.state, &self.wire, kernel) {
             Ok(choices) => Ok(choices),
@@ -76,6 +89,7 @@ impl<L: Link> Cluster<L> {
     pub fn step(&mut self, alloc: Global, kernel: Kernel, choice: Choice) -> Result<(), NoMemory>
         requires lawful { Lawful self.old.description }
         ensures same { self.new.description ≡ self.old.description }
+        ensures told { ToldWhileOpen L.faults self.old.closed self.new.closed self.old.wire.link self.new.wire.link self.old.state.trace self.new.state.trace }
     {
         let done = happen(
             alloc,
@@ -97,7 +111,11 @@ impl<L: Link> Cluster<L> {
     /// The process of the kernel whose turn it is, with its program and two copies of its image; None exactly where none can run.
     /// From now on its burst is out. The one error is want of memory.
     pub fn begin_burst(&mut self, alloc: Global, kernel: Kernel) -> Result<Option<Job>, NoMemory>
-        ensures { self.new.description ≡ self.old.description }
+        ensures job { IfOk result (λ job. job ≡ job_at self.old.description kernel self.old.state) }
+        ensures state { IfOk result (λ job. self.new.state ≡ begun_by kernel job self.old.state) }
+        ensures same { self.new.description ≡ self.old.description }
+        ensures wire { self.new.wire ≡ self.old.wire }
+        ensures told { ToldWhileOpen L.faults self.old.closed self.new.closed self.old.wire.link self.new.wire.link self.old.state.trace self.new.state.trace }
     {
         match begin_burst(alloc, &self.description, &mut self.state, kernel) {
             Ok(job) => Ok(job),
@@ -118,6 +136,7 @@ impl<L: Link> Cluster<L> {
         requires lawful { Lawful self.old.description }
         requires ends { EndsSo burst }
         ensures same { self.new.description ≡ self.old.description }
+        ensures told { ToldWhileOpen L.faults self.old.closed self.new.closed self.old.wire.link self.new.wire.link self.old.state.trace self.new.state.trace }
     {
         let ended = finish_burst(
             alloc,
@@ -169,7 +188,8 @@ impl<L: Link> Cluster<L> {
 
     /// The run as it stands, with that finish, and the link.
     pub fn close(self, finish: Finish) -> (Closed, L)
-        ensures { result.0 ≡ record { description = self.description; trace = self.state.trace; finish = finish } }
+        ensures closed { result.0 ≡ record { description = self.description; trace = self.state.trace; finish = finish } }
+        ensures link { result.1 ≡ self.wire.link }
     {
         let Cluster {
             description,

@@ -1,7 +1,9 @@
-ghost use Rattle.std.specs.Prelude.{◌≡◌, IfOk, IfSome, IsTrue};
+ghost use Rattle.std.specs.Prelude.{◌≡◌, IfOk, IfSome, IsTrue, OnOk, Some, option_map};
 ghost use Rattle.unix_calls.specs.Lawful.{Lawful};
-ghost use Rattle.kernel_rpc.specs.Machine.{copy_of, may_expire};
-ghost use Rattle.sprite_cluster.specs.Acts.{delivery, named, Done, GivenBy, MessageGiven};
+ghost use Rattle.kernel_rpc.specs.Machine.{call_of, copy_of, may_expire};
+ghost use Rattle.sprite_cluster.specs.Acts.{delivery, is_from, named, Done, GivenBy, MessageGiven};
+ghost use Rattle.sprite_cluster.specs.Faults.{FaultsTold};
+ghost use Rattle.sprite_cluster.specs.Links.{ends_of, AskedAt, AskedIn};
 
 use crate::act::{Act, Given};
 use crate::choice::Choice;
@@ -26,6 +28,7 @@ pub(crate) fn happen<L: Link>(
     choice: Choice,
 ) -> Result<(), NoMemory>
     requires lawful { Lawful c.now }
+    ensures told { OnOk result (FaultsTold L.faults wire.old.link wire.new.link state.old.trace state.new.trace) }
 {
     let _act = step(alloc, c, state, wire, kernel, choice)?;
     Ok(())
@@ -41,7 +44,8 @@ pub(crate) fn step<L: Link>(
     choice: Choice,
 ) -> Result<Act, NoMemory>
     requires lawful { Lawful c.now }
-    ensures { IfOk result (λ act. Done kernel act state.old state.new) }
+    ensures done { IfOk result (λ act. Done kernel act wire.old.machine state.old state.new) }
+    ensures asked { IfOk result (AskedIn L.faults L.asked kernel wire.old.link wire.new.link) }
 {
     match choice {
         Choice::Deliver(copy) => deliver(alloc, c, state, wire, kernel, copy),
@@ -63,7 +67,8 @@ fn write_back<L: Link>(
     block: BlockNo,
 ) -> Result<Act, NoMemory>
     requires lawful { Lawful c.now }
-    ensures { IfOk result (λ act. Done kernel act state.old state.new) }
+    ensures done { IfOk result (λ act. Done kernel act wire.old.machine state.old state.new) }
+    ensures asked { IfOk result (AskedIn L.faults L.asked kernel wire.old.link wire.new.link) }
 {
     let input = Input::Due { file: *file, block };
     let said = take(alloc, c, state, wire, kernel, input)?;
@@ -80,7 +85,8 @@ fn deliver<L: Link>(
     copy: CopyNo,
 ) -> Result<Act, NoMemory>
     requires lawful { Lawful c.now }
-    ensures { IfOk result (λ act. Done kernel act state.old state.new) }
+    ensures done { IfOk result (λ act. Done kernel act wire.old.machine state.old state.new) }
+    ensures asked { IfOk result (AskedIn L.faults L.asked kernel wire.old.link wire.new.link) }
 {
     match copy_to(wire, kernel, copy) {
         Some(packet) => {
@@ -125,6 +131,7 @@ fn named(about: Option<(Pid, u32)>) -> Option<About>
 }
 
 // What the copy is to the kernel.
+#[tactic(auto, using(crate::proofs::LinkLaws::back_by, crate::proofs::LinkLaws::reply_is_carried))]
 fn give<L: Link>(
     alloc: Global,
     c: &Description,
@@ -136,16 +143,31 @@ fn give<L: Link>(
 ) -> Result<Given, NoMemory>
     requires lawful { Lawful c.now }
     requires flying { copy_of wire.old.machine copy ≡ Some packet.now }
-    ensures { IfOk result (λ given. GivenBy kernel packet.now given state.old state.new) }
+    ensures given { IfOk result (λ given. GivenBy kernel packet.now given wire.old.machine state.old state.new) }
+    ensures asked { IfOk result (AskedAt L.faults L.asked kernel wire.old.link wire.new.link) }
 {
+    let ends = ends_of(wire, packet.tx);
     match wire.deliver(alloc, copy)? {
         Delivered::Request(_tx, request) => serve(alloc, c, state, wire, kernel, packet, request),
         Delivered::Reply(_tx, reply) => hear(alloc, c, state, wire, kernel, packet, reply),
         Delivered::Repeated(_tx, fate) => {
-            state.note_fault(kernel, packet.from, fate)?;
-            Ok(Given::Again(fate))
+            let Some((from, to)) = ends else {
+                unreachable!();
+            };
+            state.note_fault(kernel, from, to, fate)?;
+            Ok(Given::Again { from, to, fate })
         }
         Delivered::Old => Ok(Given::Past),
+    }
+}
+
+// From which kernel the reply of the call goes, and to which; None where the call is finished.
+fn ends_of<L: Link>(wire: &Wire<Packet, L>, tx: TxNo) -> Option<(Kernel, Kernel)>
+    ensures { result ≡ ends_of (call_of wire.now.machine tx) }
+{
+    match wire.call(tx) {
+        Some(call) => Some((call.owner, call.from)),
+        None => None,
     }
 }
 
@@ -160,7 +182,8 @@ fn serve<L: Link>(
     packet: Packet,
 ) -> Result<Given, NoMemory>
     requires lawful { Lawful c.now }
-    ensures { IfOk result (λ given. MessageGiven kernel copy.now packet given state.old state.new) }
+    ensures given { IfOk result (λ given. MessageGiven kernel copy.now packet given state.old state.new) }
+    ensures asked { IfOk result (AskedAt L.faults L.asked kernel wire.old.link wire.new.link) }
 {
     let tx = copy.tx;
     let Packet {
@@ -182,7 +205,9 @@ fn serve<L: Link>(
 }
 
 // A server that was asked for a prefix and has not answered goes silent.
-fn end_serving<L: Link>(wire: &mut Wire<Packet, L>, kernel: Kernel, tx: TxNo, asks_prefix: bool) {
+fn end_serving<L: Link>(wire: &mut Wire<Packet, L>, kernel: Kernel, tx: TxNo, asks_prefix: bool)
+    ensures { wire.new.link ≡ wire.old.link }
+{
     if asks_prefix && wire.may_be_silent(tx, kernel) {
         wire.silent(tx, kernel);
     }
@@ -199,7 +224,8 @@ fn hear<L: Link>(
     packet: Packet,
 ) -> Result<Given, NoMemory>
     requires lawful { Lawful c.now }
-    ensures { IfOk result (λ given. MessageGiven kernel copy.now packet given state.old state.new) }
+    ensures given { IfOk result (λ given. MessageGiven kernel copy.now packet given state.old state.new) }
+    ensures asked { IfOk result (AskedAt L.faults L.asked kernel wire.old.link wire.new.link) }
 {
     let tx = copy.tx;
     let Packet {
@@ -233,7 +259,8 @@ fn expire<L: Link>(
     tx: TxNo,
 ) -> Result<Act, NoMemory>
     requires lawful { Lawful c.now }
-    ensures { IfOk result (λ act. Done kernel act state.old state.new) }
+    ensures done { IfOk result (λ act. Done kernel act wire.old.machine state.old state.new) }
+    ensures asked { IfOk result (AskedIn L.faults L.asked kernel wire.old.link wire.new.link) }
 {
     if !may_expire(wire, kernel, tx) {
         return Ok(Act::Nothing);
@@ -254,7 +281,8 @@ fn expire<L: Link>(
 
 // Whether the call is the kernel's and its timer may fire.
 fn may_expire<L: Link>(wire: &Wire<Packet, L>, kernel: Kernel, tx: TxNo) -> bool
-    ensures { IsTrue result → IsTrue (may_expire wire.now.machine tx) }
+    ensures may { IsTrue result → IsTrue (may_expire wire.now.machine tx) }
+    ensures own { IsTrue result → IsTrue (is_from kernel (call_of wire.now.machine tx)) }
 {
     match wire.call(tx) {
         Some(call) => call.from == kernel && wire.may_expire(tx),

@@ -1,12 +1,10 @@
-ghost use Rattle.std.specs.Prelude.{◌≡◌, OnOk};
-ghost use Rattle.sprite_cluster.specs.Noted.{faulted, faulted_all, noted, noted_all, noted_step, packet_of, place_of, sent_at};
-ghost use Rattle.std.specs.List.{position};
-ghost use Rattle.sprite_cluster.specs.Noted.{is_sent};
+ghost use Rattle.std.specs.Prelude.{◌≡◌, None, OnOk};
+ghost use Rattle.sprite_cluster.specs.Noted.{faulted, faulted_all, is_of, is_own, left_after, noted, noted_all, noted_one, noted_step, packet_of};
 
 use crate::act::Sent;
 use crate::state::State;
 use link_plan::Fate;
-use sprite_ids::{Items, Kernel, NoMemory, TxNo};
+use sprite_ids::{Items, Kernel, NoMemory};
 use unix_calls::{Event, Rec};
 
 impl State {
@@ -25,20 +23,21 @@ impl State {
         self.note(kernel, event)
     }
 
-    /// Records the fault of a packet of the kernel, where the link made one. The one error is want of memory.
+    /// Records at the kernel the fault of a packet from one kernel to another, where the link made one. The one error is want of memory.
     pub(crate) fn note_fault(
         &mut self,
         kernel: Kernel,
+        from: Kernel,
         to: Kernel,
         fate: Fate,
     ) -> Result<(), NoMemory>
-        ensures { OnOk result (self.new ≡ faulted kernel to fate self.old) }
+        ensures { OnOk result (self.new ≡ faulted kernel from to fate self.old) }
     {
         if fate == Fate::Once {
             return Ok(());
         }
         let fault = Event::Fault {
-            a: kernel,
+            a: from,
             b: to,
             fate,
         };
@@ -54,13 +53,16 @@ impl State {
         ensures { OnOk result (self.new ≡ faulted_all kernel fates.now self.old) }
     {
         for packet in fates {
-            self.note_fault(kernel, packet.0, packet.1)?;
+            self.note_fault(kernel, kernel, packet.0, packet.1)?;
         }
         Ok(())
     }
 
-    /// Records what the kernel did, each sending followed by its fault, where the link made one, and takes it out of the list. The one
-    /// error is want of memory.
+    /// Records what the kernel did, which takes it out of the list, beside the packets that went out: a sending is recorded exactly
+    /// where its packet went out, directly followed by the packet's fault, where the link made one. The one error is want of memory.
+    ///
+    /// The kernel tells its sendings in the order in which its packets go out, so none is left out; and of bursts, timers, packets that
+    /// come and faults no kernel tells.
     pub(crate) fn note_all(
         &mut self,
         kernel: Kernel,
@@ -69,50 +71,80 @@ impl State {
     ) -> Result<(), NoMemory>
         ensures { OnOk result (self.new ≡ noted_all kernel events.old sent.now self.old) }
     {
+        let mut left = sent;
         'events: while !events.is_empty() {
             let event = events.remove(0);
-            self.note_sent(kernel, event, sent)?;
+            let rest = left_after(&event, left);
+            self.note_one(kernel, event, left)?;
+            left = rest;
         }
         Ok(())
     }
 
-    // Records one thing that the kernel did, and its fault.
-    fn note_sent(&mut self, kernel: Kernel, event: Event, sent: &[Sent]) -> Result<(), NoMemory>
-        ensures { OnOk result (self.new ≡ sent_at kernel (packet_of event sent.now) (noted kernel event self.old)) }
+    // Records one thing that the kernel did.
+    fn note_one(&mut self, kernel: Kernel, event: Event, sent: &[Sent]) -> Result<(), NoMemory>
+        ensures { OnOk result (self.new ≡ noted_one kernel event (packet_of event sent.now) self.old) }
     {
-        let packet = packet_of(&event, sent);
-        self.note(kernel, event)?;
-        match packet {
-            Some(packet) => self.note_fault(kernel, packet.to, packet.fate),
-            None => Ok(()),
+        match packet_of(&event, sent) {
+            Some(packet) => {
+                self.note(kernel, event)?;
+                self.note_fault(kernel, kernel, packet.to, packet.fate)
+            }
+            None => self.note_own(kernel, event),
         }
+    }
+
+    // Records what the kernel alone tells, and else nothing.
+    fn note_own(&mut self, kernel: Kernel, event: Event) -> Result<(), NoMemory>
+        ensures { OnOk result (self.new ≡ noted_one kernel event None self.old) }
+    {
+        if is_own(&event) {
+            return self.note(kernel, event);
+        }
+        Ok(())
     }
 }
 
-// The packet of which the event tells that it went out.
+// Whether the kernel alone tells that.
+fn is_own(event: &Event) -> bool
+    ensures { result ≡ is_own event.now }
+{
+    match event {
+        Event::Burst { .. }
+        | Event::Send { .. }
+        | Event::Deliver { .. }
+        | Event::Expire { .. }
+        | Event::Fault { .. } => false,
+        _ => true,
+    }
+}
+
+// Whether the event tells that this packet went out.
+fn is_of(event: &Event, packet: Sent) -> bool
+    ensures { result ≡ is_of event.now packet }
+{
+    match event {
+        Event::Send { tx, to, .. } => packet.tx == *tx && packet.to == *to,
+        _ => false,
+    }
+}
+
+// The packet that went out next, where the event tells of it.
 fn packet_of(event: &Event, sent: &[Sent]) -> Option<Sent>
     ensures { result ≡ packet_of event.now sent.now }
 {
-    match event {
-        Event::Send { tx, to, .. } => find(*tx, *to, sent),
+    match sent {
+        [packet, ..] if is_of(event, *packet) => Some(*packet),
         _ => None,
     }
 }
 
-// The packet of that call to that kernel.
-fn find(tx: TxNo, to: Kernel, sent: &[Sent]) -> Option<Sent>
-    ensures { result ≡ place_of (position (is_sent tx to) sent.now) sent.now }
+// The packets that are left behind the event.
+fn left_after<'a>(event: &Event, sent: &'a [Sent]) -> &'a [Sent]
+    ensures { result.now ≡ left_after event.now sent.now }
 {
-    match place(tx, to, sent) {
-        Some(at) => Some(sent[at]),
-        None => None,
+    match sent {
+        [packet, rest @ ..] if is_of(event, *packet) => rest,
+        _ => sent,
     }
-}
-
-// Where it stands.
-fn place(tx: TxNo, to: Kernel, sent: &[Sent]) -> Option<usize>
-    ensures { result ≡ position (is_sent tx to) sent.now }
-{
-    sent.iter()
-        .position(|packet| packet.tx == tx && packet.to == to)
 }

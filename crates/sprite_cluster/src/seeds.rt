@@ -1,5 +1,6 @@
 ghost use Rattle.std.specs.Prelude.{◌≡◌};
 ghost use Rattle.unix_calls.specs.Lawful.{Lawful};
+ghost use Rattle.sprite_cluster.specs.Faults.{ToldWhileOpen};
 ghost use Rattle.sprite_cluster.specs.Finishing.{IsSpent};
 ghost use Rattle.sprite_cluster.specs.Moments.{StandsSo};
 
@@ -28,6 +29,7 @@ struct Turn {
 pub fn run_seeded<L: Link>(alloc: Global, cluster: &mut Cluster<L>, seed: u64) -> Finish
     requires lawful { Lawful cluster.old.description }
     ensures same { cluster.new.description ≡ cluster.old.description }
+    ensures told { ToldWhileOpen L.faults cluster.old.closed cluster.new.closed cluster.old.wire.link cluster.new.wire.link cluster.old.state.trace cluster.new.state.trace }
     ensures stands { StandsSo cluster.new.closed cluster.new.description cluster.new.state cluster.new.wire.machine result }
     ensures spent { IsSpent cluster.new.description cluster.new.state.trace result }
 {
@@ -49,6 +51,7 @@ pub fn run_seeded<L: Link>(alloc: Global, cluster: &mut Cluster<L>, seed: u64) -
 fn take_turn<L: Link>(alloc: Global, cluster: &mut Cluster<L>, word: u32) -> Result<(), NoMemory>
     requires lawful { Lawful cluster.old.description }
     ensures same { cluster.new.description ≡ cluster.old.description }
+    ensures told { ToldWhileOpen L.faults cluster.old.closed cluster.new.closed cluster.old.wire.link cluster.new.wire.link cluster.old.state.trace cluster.new.state.trace }
 {
     let turns = turns(alloc, cluster)?;
     if turns.is_empty() {
@@ -65,14 +68,30 @@ fn take_turn<L: Link>(alloc: Global, cluster: &mut Cluster<L>, word: u32) -> Res
 fn turns<L: Link>(alloc: Global, cluster: &mut Cluster<L>) -> Result<Items<Turn>, NoMemory>
     requires lawful { Lawful cluster.old.description }
     ensures same { cluster.new.description ≡ cluster.old.description }
+    ensures told { ToldWhileOpen L.faults cluster.old.closed cluster.new.closed cluster.old.wire.link cluster.new.wire.link cluster.old.state.trace cluster.new.state.trace }
 {
     let mut turns = Items::new(alloc);
     for number in 1..17 {
-        if let Some(kernel) = Kernel::new(number) {
-            put_turns(alloc, cluster, kernel, &mut turns)?;
-        }
+        put_turns_of(alloc, cluster, number, &mut turns)?;
     }
     Ok(turns)
+}
+
+// Puts what may happen next at the kernel of that number, where there is one.
+fn put_turns_of<L: Link>(
+    alloc: Global,
+    cluster: &mut Cluster<L>,
+    number: u8,
+    turns: &mut Items<Turn>,
+) -> Result<(), NoMemory>
+    requires lawful { Lawful cluster.old.description }
+    ensures same { cluster.new.description ≡ cluster.old.description }
+    ensures told { ToldWhileOpen L.faults cluster.old.closed cluster.new.closed cluster.old.wire.link cluster.new.wire.link cluster.old.state.trace cluster.new.state.trace }
+{
+    match Kernel::new(number) {
+        Some(kernel) => put_turns(alloc, cluster, kernel, turns),
+        None => Ok(()),
+    }
 }
 
 // Puts what may happen next at the kernel.
@@ -84,6 +103,7 @@ fn put_turns<L: Link>(
 ) -> Result<(), NoMemory>
     requires lawful { Lawful cluster.old.description }
     ensures same { cluster.new.description ≡ cluster.old.description }
+    ensures told { ToldWhileOpen L.faults cluster.old.closed cluster.new.closed cluster.old.wire.link cluster.new.wire.link cluster.old.state.trace cluster.new.state.trace }
 {
     let choices = cluster.choices(alloc, kernel)?;
     for choice in choices.as_slice() {

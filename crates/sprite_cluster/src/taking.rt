@@ -1,6 +1,7 @@
 ghost use Rattle.std.specs.Prelude.{◌≡◌, IfOk};
 ghost use Rattle.unix_calls.specs.Lawful.{Lawful};
 ghost use Rattle.sprite_cluster.specs.Acts.{next_of, says, took};
+ghost use Rattle.sprite_cluster.specs.Links.{AskedFor};
 
 use crate::act::Said;
 use crate::calls::{answer_all, begin_all, next_call};
@@ -25,6 +26,7 @@ pub(crate) fn take<L: Link>(
     requires lawful { Lawful c.now }
     ensures state { IfOk result (λ said. state.new ≡ took kernel input said state.old) }
     ensures next { IfOk result (λ said. said.next ≡ next_of wire.old.machine) }
+    ensures asked { IfOk result (AskedFor L.faults L.asked kernel wire.old.link wire.new.link) }
 {
     take_in(alloc, c, state, wire, kernel, &input)
 }
@@ -41,6 +43,7 @@ fn take_in<L: Link>(
     requires lawful { Lawful c.now }
     ensures state { IfOk result (λ said. state.new ≡ took kernel input.now said state.old) }
     ensures next { IfOk result (λ said. said.next ≡ next_of wire.old.machine) }
+    ensures asked { IfOk result (AskedFor L.faults L.asked kernel wire.old.link wire.new.link) }
 {
     let next = next_call(wire)?;
     let mut out = state.step(alloc, kernel, input, next)?;
@@ -60,6 +63,7 @@ fn say<L: Link>(
     requires lawful { Lawful c.now }
     ensures state { IfOk result (λ said. state.new ≡ says kernel said (state.old, out.old)) }
     ensures next { IfOk result (λ said. said.next ≡ next) }
+    ensures asked { IfOk result (AskedFor L.faults L.asked kernel wire.old.link wire.new.link) }
 {
     let sent = begin_all(alloc, c, wire, kernel, &mut out.sends)?;
     let answered = answer_all(alloc, wire, kernel, &mut out.answers)?;

@@ -84,10 +84,10 @@ from_cluster print bytes c (Ok a) describes why = of_cluster print a.status byte
 from_cluster print bytes c (Err e) describes why = why
 
 -- the line of a refusal is due for a file that has it
-pub from_refusal : (print : Printing) (bytes line : List ℕ) (refusal : Refusal) (r : Result Answer NoMemory) → Refuses bytes refusal → line ≡ refusal_line refusal → IfOk r (λ a. a ≡ record { status = status.Refused; due = line; closed = None }) → IfOk r (λ a. FileCauses print a.status bytes a.closed a.due)
-from_refusal print bytes line refusal (Ok a) refuses is made =
-    subst (λ (b : Answer). FileCauses print b.status bytes b.closed b.due) (sym made) (refl, record { refusal = refusal; refuses = refuses; line_is = is })
-from_refusal print bytes line refusal (Err e) refuses is made = made
+pub from_refusal : (print : Printing) (bytes : List ℕ) (refusal : Refusal) (r : Result Answer NoMemory) → Refuses bytes refusal → IfOk r (λ a. a ≡ record { status = status.Refused; due = refusal_line refusal; closed = None }) → IfOk r (λ a. FileCauses print a.status bytes a.closed a.due)
+from_refusal print bytes refusal (Ok a) refuses made =
+    subst (λ (b : Answer). FileCauses print b.status bytes b.closed b.due) (sym made) (refl, record { refusal = refusal; refuses = refuses; line_is = refl })
+from_refusal print bytes refusal (Err e) refuses made = made
 
 -- a text's status is one of four
 no_other : (j : Judgement) → status.Ended ≡ judgement_status j → ⊥
@@ -180,11 +180,11 @@ from_text words left left_after faults faults_after came (Err e) are read end sh
 -- a run that is what was promised of it has the causes of its end
 accepted_at : (print : Printing) (c : Description) (run : Closed) (output due : List ℕ) (end : Finish) → run.description ≡ c → run.finish ≡ end → IsSpent c run.trace end → IsJudged c 40000000000 run.trace end output → due ≡ printed print c (journal_of run.trace) end → ClusterCauses print (status_of end) c (Some run) due
 accepted_at print c run output due finish.AllEnded same ends spent j is =
-    record { run = run; kept = refl; same = same; ends = ends; legal = j.is_legal.is_legal; once = j.once; state = j.state; leads = j.is_legal.leads; finished = j.ends; spent = spent; output = is }
+    record { run = run; kept = refl; same = same; ends = ends; legal = j.is_legal.is_legal; once = j.once; for_cause = j.for_cause; state = j.state; leads = j.is_legal.leads; finished = j.ends; spent = spent; output = is }
 accepted_at print c run output due finish.Budget same ends spent j is =
-    record { run = run; kept = refl; same = same; ends = ends; legal = j.is_legal.is_legal; once = j.once; state = j.state; leads = j.is_legal.leads; finished = j.ends; spent = spent; output = is }
+    record { run = run; kept = refl; same = same; ends = ends; legal = j.is_legal.is_legal; once = j.once; for_cause = j.for_cause; state = j.state; leads = j.is_legal.leads; finished = j.ends; spent = spent; output = is }
 accepted_at print c run output due finish.Stalled same ends spent j is =
-    record { run = run; kept = refl; same = same; ends = ends; legal = j.is_legal.is_legal; once = j.once; state = j.state; leads = j.is_legal.leads; finished = j.ends; spent = spent; output = is }
+    record { run = run; kept = refl; same = same; ends = ends; legal = j.is_legal.is_legal; once = j.once; for_cause = j.for_cause; state = j.state; leads = j.is_legal.leads; finished = j.ends; spent = spent; output = is }
 accepted_at print c run output due finish.OutOfMemory same ends spent j is = absurd j.ends
 accepted_at print c run output due finish.Running same ends spent j is = absurd j.ends
 

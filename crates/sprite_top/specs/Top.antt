@@ -1,5 +1,5 @@
 -- What the top call promises for each status.
-use Rattle.std.specs.Prelude.{codes, IsTrue, ◌≡◌, ℕ, ◌<◌, ◌≤◌, ◌⊎◌, List, [], ◌∷◌, ◌++◌, Option, Some, None, length, map, take, String, string_bytes}
+use Rattle.std.specs.Prelude.{codes, IsTrue, ◌≡◌, ℕ, ◌+◌, ◌<◌, ◌≤◌, true, ◌⊎◌, List, [], ◌∷◌, ◌++◌, Option, Some, None, length, map, take, String, string_bytes}
 use Rattle.std.specs.Io.KnownBytes.{Consumes, Appends, IsAtEnd}
 use Rattle.std.specs.declared.alloc.Global.{Global}
 use Rattle.sprite_ids.specs.declared.running.Finish.{Finish}
@@ -16,11 +16,13 @@ use Rattle.sprite_top.specs.Judged.{TextCauses}
 use Rattle.call_journal.specs.Journal.{journal_of}
 use Rattle.unix_calls.specs.After.{legal, state_of}
 use Rattle.call_journal.specs.Once.{Once}
+use Rattle.call_journal.specs.Unreachable.{unreachable_for_cause}
 use Rattle.run_judge.specs.declared.JudgedRun.{JudgedRun}
 use Rattle.run_judge.specs.declared.JudgedRun.TheVariants as judged
 use Rattle.run_judge.specs.declared.Refutation.TheVariants as refuted
 use Rattle.run_judge.specs.Ends.{EndsAs}
 use Rattle.run_judge.specs.Judged.{JudgesTo}
+use Rattle.sprite_cluster.specs.Faults.{faults_between}
 use Rattle.sprite_cluster.specs.Finishing.{IsSpent}
 use Rattle.sprite_top.specs.Judged.{numbered_line}
 use Rattle.unix_calls.specs.State.{Unix}
@@ -68,7 +70,7 @@ abbrev pub fault_line : List ℕ
 fault_line = codes "read fault\n"
 
 -- a run of the cluster that came to that end: its journal is a history that one Unix kernel gives for the description, each finished
--- call stands in it once, in the state that it leads to the processes stand as the end says, the budget is spent where it says so,
+-- call stands in it once, a server is called unreachable only after eight lost packets of that call, in the state that it leads to the processes stand as the end says, the budget is spent where it says so,
 -- and what is due is what is printed of the journal
 pub record IsRunOf (print : Printing) (c : Description) (end : Finish) (closed : Option Closed) (due : List ℕ) : Type 0 where
   pub run : Closed
@@ -77,6 +79,7 @@ pub record IsRunOf (print : Printing) (c : Description) (end : Finish) (closed :
   pub ends : run.finish ≡ end
   pub legal : IsTrue (legal c (journal_of run.trace))
   pub once : Once run.trace
+  pub for_cause : unreachable_for_cause c run.trace ≡ true
   pub state : Unix
   pub leads : state_of c (journal_of run.trace) ≡ Some state
   pub finished : EndsAs c state end
@@ -88,6 +91,7 @@ abbrev pub refuted_line : JudgedRun → List ℕ
 refuted_line (judged.Judged output) = []
 refuted_line (judged.Refuted (refuted.Legal number)) = numbered_line (codes "refuted legal ") number
 refuted_line (judged.Refuted refuted.Once) = codes "refuted once\n"
+refuted_line (judged.Refuted refuted.Unreachable) = codes "refuted unreachable\n"
 refuted_line (judged.Refuted refuted.End) = codes "refuted end\n"
 refuted_line (judged.Refuted refuted.Stall) = codes "refuted stall\n"
 refuted_line (judged.Steps number) = numbered_line (codes "refuted steps ") number
@@ -106,6 +110,11 @@ pub record IsRefutedRun (c : Description) (closed : Option Closed) (due : List �
   pub judges : JudgesTo c 40000000000 run.trace run.finish verdict
   pub broken : IsBroken verdict
   pub line_is : due ≡ refuted_line verdict
+
+-- of a run that was made: between any two kernels its trace tells of no more faults than by how many the link's count of these rose
+abbrev pub TellsFaults : {L : Type 0} → (L → ℕ → ℕ → ℕ) → L → L → Option Closed → Type 0
+TellsFaults faults before after None = Unit {0}
+TellsFaults faults before after (Some run) = (a b : ℕ) → faults before a b + faults_between a b run.trace ≤ faults after a b
 
 -- what the run of a cluster comes to is the cluster's, and its budget is spent where it says so
 pub record IsRun (c : Description) (run : Closed) : Type 0 where

@@ -1,13 +1,13 @@
-ghost use Rattle.std.specs.Prelude.{◌≡◌, IfOk};
+ghost use Rattle.std.specs.Prelude.{◌≡◌, [], IfOk, Some, false};
 ghost use Rattle.unix_calls.specs.Lawful.{Lawful};
 ghost use Rattle.call_journal.specs.Journal.{journal_of};
 ghost use Rattle.run_judge.specs.Judged.{IsJudged, JudgesTo};
-ghost use Rattle.sprite_top.specs.Top.{ClusterCauses, IsBroken, IsRun, printed, status_of};
+ghost use Rattle.sprite_top.specs.Top.{ClusterCauses, IsBroken, IsRun, TellsFaults, printed, status_of};
 
 use crate::judged::refuted_line;
 use crate::top::{Answer, Printing, Status};
 use call_journal::Closed;
-use link_plan::PlanLink;
+use link_plan::Link;
 use report_print::history;
 use run_judge::{JudgedRun, judge_run};
 use sprite_cluster::{Cluster, run_rounds};
@@ -18,17 +18,66 @@ use unix_calls::Description;
 /// How many instructions the processes of a run may do when it is judged: as many as the largest budget lets them do.
 const MOST: u64 = 40_000_000_000;
 
-/// What is due for a described cluster, which is lawful: it is run, its run is judged, and then printed. The one error is want of
-/// memory.
-pub(crate) fn answer_cluster(
+/// What is due for a described cluster, which is lawful: it is run over the link, which is handed back, its run is judged, and then
+/// printed. The one error is want of memory.
+pub(crate) fn answer_cluster<L: Link>(
     alloc: Global,
     description: Description,
     print: Printing,
-) -> Result<Answer, NoMemory>
+    link: L,
+) -> (Result<Answer, NoMemory>, L)
     requires { Lawful description }
-    ensures { IfOk result (λ a. ClusterCauses print a.status description a.closed a.due) }
+    ensures causes { IfOk result.0 (λ a. ClusterCauses print a.status description a.closed a.due) }
+    ensures faults { IfOk result.0 (λ a. TellsFaults L.faults link result.1 a.closed) }
 {
-    let closed = run_cluster(alloc, description)?;
+    let (closed, link) = run_cluster(alloc, description, link);
+    let answer = match closed {
+        Ok(closed) => judge_closed(alloc, closed, print),
+        Err(NoMemory) => Err(NoMemory),
+    };
+    (answer, link)
+}
+
+// Runs the cluster over the link. The one error is want of memory.
+fn run_cluster<L: Link>(
+    alloc: Global,
+    description: Description,
+    link: L,
+) -> (Result<Closed, NoMemory>, L)
+    requires { Lawful description }
+    ensures run { IfOk result.0 (IsRun description) }
+    ensures faults { IfOk result.0 (λ run. TellsFaults L.faults link result.1 (Some run)) }
+{
+    match Cluster::boot(alloc, description, link) {
+        Ok(cluster) => run_booted(alloc, cluster),
+        Err(link) => (Err(NoMemory), link),
+    }
+}
+
+// Runs a cluster that was booted. The one error is want of memory.
+fn run_booted<L: Link>(alloc: Global, cluster: Cluster<L>) -> (Result<Closed, NoMemory>, L)
+    requires lawful { Lawful cluster.description }
+    requires open { cluster.closed ≡ false }
+    requires nothing_told { cluster.state.trace ≡ [] }
+    ensures run { IfOk result.0 (IsRun cluster.description) }
+    ensures faults { IfOk result.0 (λ run. TellsFaults L.faults cluster.wire.link result.1 (Some run)) }
+{
+    let mut cluster = cluster;
+    let finish = run_rounds(alloc, &mut cluster);
+    let (closed, link) = cluster.close(finish);
+    if finish == Finish::OutOfMemory {
+        return (Err(NoMemory), link);
+    }
+    (Ok(closed), link)
+}
+
+// What is due for a run, which is judged first. The one error is want of memory.
+fn judge_closed(alloc: Global, closed: Closed, print: Printing) -> Result<Answer, NoMemory>
+    requires lawful { Lawful closed.description }
+    requires run { IsRun closed.description closed }
+    ensures causes { IfOk result (λ a. ClusterCauses print a.status closed.description a.closed a.due) }
+    ensures kept { IfOk result (λ a. a.closed ≡ Some closed) }
+{
     match judge_run(
         alloc,
         &closed.description,
@@ -47,30 +96,13 @@ pub(crate) fn answer_cluster(
     }
 }
 
-// Runs the cluster over a link that follows its plan. The one error is want of memory.
-fn run_cluster(alloc: Global, description: Description) -> Result<Closed, NoMemory>
-    requires { Lawful description }
-    ensures { IfOk result (IsRun description) }
-{
-    let link = PlanLink::new(alloc);
-    let Ok(cluster) = Cluster::boot(alloc, description, link) else {
-        return Err(NoMemory);
-    };
-    let mut cluster = cluster;
-    let finish = run_rounds(alloc, &mut cluster);
-    if finish == Finish::OutOfMemory {
-        return Err(NoMemory);
-    }
-    let (closed, _link) = cluster.close(finish);
-    Ok(closed)
-}
-
 // What is due for a run that is what was promised of it.
 fn accept(alloc: Global, closed: Closed, output: Bytes, print: Printing) -> Result<Answer, NoMemory>
     requires lawful { Lawful closed.description }
     requires run { IsRun closed.description closed }
     requires judged { IsJudged closed.description 40000000000 closed.trace closed.finish output }
-    ensures { IfOk result (λ a. ClusterCauses print a.status closed.description a.closed a.due) }
+    ensures causes { IfOk result (λ a. ClusterCauses print a.status closed.description a.closed a.due) }
+    ensures kept { IfOk result (λ a. a.closed ≡ Some closed) }
 {
     let due = printed(alloc, &closed, output, print)?;
     Ok(Answer {
@@ -108,7 +140,8 @@ fn refute(
 ) -> Result<Answer, NoMemory>
     requires judged { JudgesTo closed.description 40000000000 closed.trace closed.finish judged.now }
     requires broken { IsBroken judged.now }
-    ensures { IfOk result (λ a. ClusterCauses print a.status closed.description a.closed a.due) }
+    ensures causes { IfOk result (λ a. ClusterCauses print a.status closed.description a.closed a.due) }
+    ensures kept { IfOk result (λ a. a.closed ≡ Some closed) }
 {
     let due = Bytes::of_vec(refuted_line(alloc, judged)?);
     Ok(Answer {

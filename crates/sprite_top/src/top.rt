@@ -1,13 +1,15 @@
 ghost use Rattle.std.specs.Prelude.{◌≡◌, ◌↔◌, ◌∷◌, [], None, IsTrue, IfOk};
 ghost use Rattle.sprite_ids.specs.declared.running.Finish.TheVariants.{AllEnded, Budget as Spent, Stalled as Stopped};
+ghost use Rattle.report_print.specs.Refused.{refusal_line};
 ghost use Rattle.sprite_top.specs.Judged.{TextCauses, judgement_status, verdict_status};
-ghost use Rattle.sprite_top.specs.Top.{spelled, words_of, check_words, IsEnded, IsChecked, IsRefuted, IsRefused, IsUsage, IsReadFault, Causes, FileCauses, Wrote, Broke, status_number};
+ghost use Rattle.sprite_top.specs.Top.{TellsFaults, spelled, words_of, check_words, IsEnded, IsChecked, IsRefuted, IsRefused, IsUsage, IsReadFault, Causes, FileCauses, Wrote, Broke, status_number};
 
 use crate::clusters::answer_cluster;
 use crate::judged::judgement_line;
 use call_journal::Closed;
-use cluster_file::{FileEnd, read_description};
+use cluster_file::{FileEnd, Refusal, read_description};
 use history_check::{Judgement, judge};
+use link_plan::Link;
 use one_kernel::Verdict;
 use report_print::refusal_line;
 use sprite_bytes::{ReadEnd, Sink, Source, read_all, write_all};
@@ -70,9 +72,11 @@ pub enum Printing {
 }
 
 /// What the top call gives back.
-#[derive(Debug, Drop)]
-pub struct Ended {
+#[derive(Drop)]
+pub struct Ended<L: Link> {
     pub status: Status,
+    /// The link that it was given.
+    pub link: L,
     /// The run that was made; None exactly where none was.
     pub closed: Option<Closed>,
 }
@@ -91,12 +95,13 @@ pub struct Answer {
 /// file and print its output or its journal, and `check` judges a history, which stands behind a cluster file and a line `=====`, against the one-kernel Unix, without
 /// running a cluster. All that is due is made before its first byte is written. Want of memory may come at any point before, and then nothing is written. Where a source or a
 /// sink tells nothing of its bytes, the clauses say that some bytes were read or written so.
-pub fn sprite<S: Source, K: Sink>(
+pub fn sprite<S: Source, K: Sink, L: Link>(
     alloc: Global,
     words: &[String],
     source: &mut S,
     sink: &mut K,
-) -> Ended
+    link: L,
+) -> Ended<L>
     ensures ended { result.status ≡ Status.Ended → Wrote (K.held sink.old) (K.held sink.new) (IsEnded AllEnded (spelled words.now) (S.left source.old) (S.left source.new) result.closed) }
     ensures budget { result.status ≡ Status.Budget → Wrote (K.held sink.old) (K.held sink.new) (IsEnded Spent (spelled words.now) (S.left source.old) (S.left source.new) result.closed) }
     ensures stalled { result.status ≡ Status.Stalled → Wrote (K.held sink.old) (K.held sink.new) (IsEnded Stopped (spelled words.now) (S.left source.old) (S.left source.new) result.closed) }
@@ -109,39 +114,50 @@ pub fn sprite<S: Source, K: Sink>(
     ensures read_fault { result.status ≡ Status.ReadFault → Wrote (K.held sink.old) (K.held sink.new) (IsReadFault (spelled words.now) (S.faults source.old) (S.faults source.new) result.closed) }
     ensures no_memory { result.status ≡ Status.NoMemory → (K.held sink.new ≡ K.held sink.old) × (result.closed ≡ None) }
     ensures write_fault { result.status ≡ Status.WriteFault → Broke (K.held sink.old) (K.held sink.new) (K.faults sink.old) (K.faults sink.new) (λ status. Causes status (spelled words.now) (S.left source.old) (S.left source.new) (S.faults source.old) (S.faults source.new) result.closed) }
+    ensures faults { TellsFaults L.faults link result.link result.closed }
 {
-    let Ok(answer) = answer_to(alloc, words, source) else {
+    let (answer, link) = answer_to(alloc, words, source, link);
+    let Ok(answer) = answer else {
         return Ended {
             status: Status::NoMemory,
+            link,
             closed: None,
         };
     };
     match write_all(sink, answer.due.as_slice()) {
         Ok(()) => Ended {
             status: answer.status,
+            link,
             closed: answer.closed,
         },
         Err(_) => Ended {
             status: Status::WriteFault,
+            link,
             closed: answer.closed,
         },
     }
 }
 
-/// What is due for these words and this source. The one error is want of memory.
-fn answer_to<S: Source>(alloc: Global, words: &[String], source: &mut S) -> Result<Answer, NoMemory>
-    ensures { IfOk result (λ a. Causes a.status (spelled words.now) (S.left source.old) (S.left source.new) (S.faults source.old) (S.faults source.new) a.closed a.due) }
+/// What is due for these words and this source, and the link. The one error is want of memory.
+fn answer_to<S: Source, L: Link>(
+    alloc: Global,
+    words: &[String],
+    source: &mut S,
+    link: L,
+) -> (Result<Answer, NoMemory>, L)
+    ensures causes { IfOk result.0 (λ a. Causes a.status (spelled words.now) (S.left source.old) (S.left source.new) (S.faults source.old) (S.faults source.new) a.closed a.due) }
+    ensures faults { IfOk result.0 (λ a. TellsFaults L.faults link result.1 a.closed) }
 {
     if is_command(words, "run") {
-        return answer_run(alloc, source, Printing::Output);
+        return answer_run(alloc, source, Printing::Output, link);
     }
     if is_command(words, "history") {
-        return answer_run(alloc, source, Printing::History);
+        return answer_run(alloc, source, Printing::History, link);
     }
     if is_command(words, "check") {
-        return answer_check(alloc, source);
+        return (answer_check(alloc, source), link);
     }
-    refuse(alloc, Status::Usage, USAGE_LINE)
+    (refuse(alloc, Status::Usage, USAGE_LINE), link)
 }
 
 /// Whether the words are that one alone.
@@ -154,15 +170,21 @@ fn is_command(words: &[String], name: &str) -> bool
     }
 }
 
-/// What is due for the word `run` or `history` and this source. The one error is want of memory.
-fn answer_run<S: Source>(alloc: Global, source: &mut S, print: Printing) -> Result<Answer, NoMemory>
-    ensures { IfOk result (λ a. Causes a.status (words_of print) (S.left source.old) (S.left source.new) (S.faults source.old) (S.faults source.new) a.closed a.due) }
+/// What is due for the word `run` or `history` and this source, and the link. The one error is want of memory.
+fn answer_run<S: Source, L: Link>(
+    alloc: Global,
+    source: &mut S,
+    print: Printing,
+    link: L,
+) -> (Result<Answer, NoMemory>, L)
+    ensures causes { IfOk result.0 (λ a. Causes a.status (words_of print) (S.left source.old) (S.left source.new) (S.faults source.old) (S.faults source.new) a.closed a.due) }
+    ensures faults { IfOk result.0 (λ a. TellsFaults L.faults link result.1 a.closed) }
 {
     match read_all(alloc, source, FILE_BYTES) {
-        Ok(bytes) => answer_file(alloc, bytes.as_slice(), print),
-        Err(ReadEnd::TooLong) => refuse(alloc, Status::Refused, TOO_LONG_LINE),
-        Err(ReadEnd::Fault { .. }) => refuse(alloc, Status::ReadFault, FAULT_LINE),
-        Err(ReadEnd::NoMemory) => Err(NoMemory),
+        Ok(bytes) => answer_file(alloc, bytes.as_slice(), print, link),
+        Err(ReadEnd::TooLong) => (refuse(alloc, Status::Refused, TOO_LONG_LINE), link),
+        Err(ReadEnd::Fault { .. }) => (refuse(alloc, Status::ReadFault, FAULT_LINE), link),
+        Err(ReadEnd::NoMemory) => (Err(NoMemory), link),
     }
 }
 
@@ -221,18 +243,29 @@ fn refuse(alloc: Global, status: Status, line: &[u8]) -> Result<Answer, NoMemory
     })
 }
 
-/// What is due for a whole cluster file. The one error is want of memory.
-fn answer_file(alloc: Global, bytes: &[u8], print: Printing) -> Result<Answer, NoMemory>
-    ensures { IfOk result (λ a. FileCauses print a.status bytes.now a.closed a.due) }
+/// What is due for a whole cluster file, and the link. The one error is want of memory.
+fn answer_file<L: Link>(
+    alloc: Global,
+    bytes: &[u8],
+    print: Printing,
+    link: L,
+) -> (Result<Answer, NoMemory>, L)
+    ensures causes { IfOk result.0 (λ a. FileCauses print a.status bytes.now a.closed a.due) }
+    ensures faults { IfOk result.0 (λ a. TellsFaults L.faults link result.1 a.closed) }
 {
     match read_description(alloc, bytes) {
-        Ok(description) => answer_cluster(alloc, description, print),
-        Err(FileEnd::Refused(refusal)) => {
-            let line = refusal_line(alloc, &refusal)?;
-            refuse(alloc, Status::Refused, line.as_slice())
-        }
-        Err(FileEnd::NoMemory) => Err(NoMemory),
+        Ok(description) => answer_cluster(alloc, description, print, link),
+        Err(FileEnd::Refused(refusal)) => (answer_refused(alloc, &refusal), link),
+        Err(FileEnd::NoMemory) => (Err(NoMemory), link),
     }
+}
+
+/// What is due for a cluster file that is refused. The one error is want of memory.
+fn answer_refused(alloc: Global, refusal: &Refusal) -> Result<Answer, NoMemory>
+    ensures { IfOk result (λ a. a ≡ record { status = Status.Refused; due = refusal_line refusal.now; closed = None }) }
+{
+    let line = refusal_line(alloc, refusal)?;
+    refuse(alloc, Status::Refused, line.as_slice())
 }
 
 impl Status {

@@ -1,3 +1,4 @@
+use link_plan::PlanLink;
 use sprite_bytes::{MemSink, MemSource};
 use sprite_ids::NoMemory;
 use sprite_top::{Ended, Status, sprite};
@@ -82,7 +83,12 @@ fn called(alloc: Global, words: &[&str], file: &[u8], device: Device) -> Result<
     let writes = Vec::from_slice(alloc, &[device.write_fails])?;
     let mut source = MemSource::in_pieces(Vec::from_slice(alloc, file)?, gives, reads);
     let mut sink = MemSink::new(alloc, 1000, takes, writes)?;
-    let Ended { status, closed } = sprite(alloc, spelled.as_slice(), &mut source, &mut sink);
+    let link = PlanLink::new(alloc);
+    let Ended {
+        status,
+        link: _link,
+        closed,
+    } = sprite(alloc, spelled.as_slice(), &mut source, &mut sink, link);
     let records = match &closed {
         Some(run) => Some(run.trace.records().len()),
         None => None,

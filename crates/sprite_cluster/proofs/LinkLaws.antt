@@ -1,0 +1,67 @@
+-- What the link is asked, one thing after another.
+use Rattle.std.proofs.Common.{◌≡◌, ℕ, Bool, true, false, cond, List, [], ◌∷◌, ◌++◌, map, Option, Some, None, refl, sym, ap, subst, ◌∙◌, append-nil, append_assoc}
+use Rattle.std.proofs.lemmas.List.{map-append}
+use Rattle.link_plan.specs.declared.Fate.{Fate}
+use Rattle.link_plan.specs.Counts.{Asks, IsAsked}
+use Rattle.kernel_rpc.specs.declared.call.Arrival.TheVariants.{FirstReply}
+use Rattle.kernel_rpc.specs.declared.call.Call.{Call}
+use Rattle.kernel_rpc.specs.declared.call.PacketCopy.{PacketCopy}
+use Rattle.kernel_rpc.specs.declared.call.Part.{Part}
+use Rattle.kernel_rpc.specs.declared.call.Part.TheVariants.{Waiting, Holding, Silent, Answered}
+use Rattle.kernel_rpc.specs.Bodies.{body_of, reply_of}
+use Rattle.kernel_rpc.specs.Machine.{Machine, arrival, arrival_at, arrival_back, arrival_of, call_of, part_of}
+use Rattle.kernel_rpc.specs.Links.{AsksBack}
+use Rattle.kernel_rpc.specs.Servers.{pairs}
+use Rattle.sprite_cluster.specs.declared.act.Sent.{Sent}
+use Rattle.sprite_ids.proofs.ListLaws.{some_is}
+use Rattle.sprite_cluster.specs.Acts.{carried}
+use Rattle.sprite_cluster.specs.Links.{AskedMore, ends_of, packets}
+
+-- the link was asked about some packets, and then about some more
+pub asks_on : {L : Type 0} (faults asked : L → ℕ → ℕ → ℕ) (kernel : ℕ) (before between after : L) (xs ys : List (ℕ × Fate)) → Asks faults asked kernel before between xs → Asks faults asked kernel between after ys → Asks faults asked kernel before after (xs ++ ys)
+asks_on faults asked kernel before between after [] ys start next = subst (λ link. Asks faults asked kernel link after ys) (sym start) next
+asks_on faults asked kernel before between after (x ∷ xs) ys start next = (start.0, start.1, asks_on faults asked kernel start.0 between after xs ys start.2 next)
+
+-- packets that came to a list are behind those for which it was asked before
+pub asks_more : {L : Type 0} (faults asked : L → ℕ → ℕ → ℕ) (kernel : ℕ) (before between after : L) (old new : List (ℕ × Fate)) → Asks faults asked kernel before between old → AskedMore faults asked kernel between after old new → Asks faults asked kernel before after new
+asks_more faults asked kernel before between after old new start next = subst (Asks faults asked kernel before after) (sym next.grown) (asks_on faults asked kernel before between after old next.more start next.asks)
+
+-- nothing came to a list
+pub none_more : {L : Type 0} (faults asked : L → ℕ → ℕ → ℕ) (kernel : ℕ) (link after : L) (old new : List (ℕ × Fate)) → after ≡ link → new ≡ old → AskedMore faults asked kernel link after old new
+none_more faults asked kernel link after old new same is = record { more = []; grown = is ∙ sym (append-nil old); asks = sym same }
+
+-- one packet came to it
+pub one_more : {L : Type 0} (faults asked : L → ℕ → ℕ → ℕ) (kernel : ℕ) (before after : L) (old new : List (ℕ × Fate)) (to : ℕ) (fate : Fate) → IsAsked (faults before) (asked before) (faults after) (asked after) kernel to fate → new ≡ old ++ (to, fate) ∷ [] → AskedMore faults asked kernel before after old new
+one_more faults asked kernel before after old new to fate is grown = record { more = (to, fate) ∷ []; grown = grown; asks = (after, is, refl) }
+
+-- the packets of a list to which one came
+pub packets_push : (old new : List Sent) (packet : Sent) → new ≡ old ++ packet ∷ [] → packets new ≡ packets old ++ (packet.to, packet.fate) ∷ []
+packets_push old new packet is = ap packets is ∙ map-append (λ (packet : Sent). (packet.to, packet.fate)) old (packet ∷ [])
+
+-- about the reply of a call, from its owner to its caller
+pub back_by : {L : Type 0} (faults asked : L → ℕ → ℕ → ℕ) (before after : L) (o : Option Call) (from to : ℕ) (given : Fate) → ends_of o ≡ Some (from, to) → AsksBack faults asked before after given o → IsAsked (faults before) (asked before) (faults after) (asked after) from to given
+back_by faults asked before after None from to given is asks = absurd asks
+back_by faults asked before after (Some call) from to given is asks =
+    subst (λ (ends : ℕ × ℕ). IsAsked (faults before) (asked before) (faults after) (asked after) ends.0 ends.1 given) (some_is (call.owner, call.from) (from, to) is) asks
+
+-- and of one to which it came first, and then some more
+pub packets_first : (old between new : List Sent) (packet : Sent) (more : List (ℕ × Fate)) → between ≡ old ++ packet ∷ [] → packets new ≡ packets between ++ more → packets new ≡ packets old ++ (packet.to, packet.fate) ∷ more
+packets_first old between new packet more is then = then ∙ ap (λ front. front ++ more) (packets_push old between packet is) ∙ append_assoc (packets old) ((packet.to, packet.fate) ∷ []) more
+
+-- what comes to a receiver isn't a reply
+no_reply : (part : Option Part) (reply : Option (List ℕ)) → arrival_at part reply ≡ FirstReply → ⊥
+no_reply None reply is = absurd (cc)
+no_reply (Some Waiting) reply is = absurd (cc)
+no_reply (Some Holding) reply is = absurd (cc)
+no_reply (Some Silent) reply is = absurd (cc)
+no_reply (Some Answered) None is = absurd (cc)
+no_reply (Some Answered) (Some bytes) is = absurd (cc)
+
+reply_comes : (copy : PacketCopy) (o : Option Call) (reply : Bool) → copy.reply ≡ reply → arrival_of copy o ≡ FirstReply → reply ≡ true
+reply_comes copy None reply which is = absurd (cc)
+reply_comes copy (Some call) true which is = refl
+reply_comes copy (Some call) false which is = absurd (no_reply (part_of copy.to call.receivers) call.reply (sym (ap (λ reply. cond reply (arrival_back call.reply) (arrival_at (part_of copy.to call.receivers) call.reply)) which) ∙ is))
+
+-- the reply to a call comes by a copy of the reply
+pub reply_is_carried : (machine : Machine) (copy : PacketCopy) → arrival machine copy ≡ FirstReply → carried machine copy ≡ reply_of (call_of machine copy.tx)
+reply_is_carried machine copy is = ap (λ reply. cond reply (reply_of (call_of machine copy.tx)) (body_of (call_of machine copy.tx))) (reply_comes copy (call_of machine copy.tx) copy.reply refl is)
