@@ -17,41 +17,27 @@ use Rattle.one_kernel.specs.declared.verdict.Verdict.TheVariants as verdict
 use Rattle.history_check.specs.declared.judgement.Judgement.{Judgement}
 use Rattle.history_check.specs.declared.judgement.Judgement.TheVariants as judgement
 use Rattle.sprite_top.specs.Judged.{TextCauses, judgement_status}
-use Rattle.sprite_top.specs.Top.{spelled, words_of, check_words, printed, status_of, Causes, FileCauses, ClusterCauses}
+use Rattle.sprite_words.specs.declared.Command.TheVariants as command
+use Rattle.sprite_words.specs.Words.{IsSpelled}
+use Rattle.sprite_top.specs.Top.{AsksFor, printed, status_of, Causes, FileCauses, ClusterCauses}
 use Rattle.sprite_ids.specs.declared.running.Finish.{Finish}
 use Rattle.sprite_ids.specs.declared.running.Finish.TheVariants as finish
 use Rattle.call_journal.specs.Journal.{journal_of}
 use Rattle.run_judge.specs.Judged.{IsJudged}
 use Rattle.sprite_cluster.specs.Finishing.{IsSpent}
 
--- one word is a text exactly where its bytes are
-pub one_word : (words : List (String Global)) (word : String Global) (text name : List ℕ) (same : Bool) → 1 ≤ length words → length words < 2 → word ≡ slice_index_or words 0 word → text ≡ string_bytes word → same ≡ pointwise nat_eq text name → IsTrue same ↔ (spelled words ≡ name ∷ [])
-one_word [] word text name same some few first bytes tells = absurd (omega arith)
-one_word (w ∷ v ∷ ws) word text name same some few first bytes tells = absurd (omega arith)
-one_word (w ∷ []) word text name same some few first bytes tells =
-    let here : text ≡ string_bytes w = bytes ∙ ap string_bytes first in
-    let decides = bytes_decides text name in (
-      λ told. ap (λ (t : List ℕ). t ∷ []) (sym here ∙ decides.0 (sym tells ∙ told)),
-      λ spells. let bytes_are : string_bytes w ≡ name = cc in tells ∙ decides.1 (here ∙ bytes_are),
-    )
-
--- what is due for other words that are the same
-pub of_words : (words other : List (List ℕ)) (left left_after : Option (List ℕ)) (faults faults_after : ℕ) (r : Result Answer NoMemory) → words ≡ other → IfOk r (λ a. Causes a.status other left left_after faults faults_after a.closed a.due) → IfOk r (λ a. Causes a.status words left left_after faults faults_after a.closed a.due)
-of_words words other left left_after faults faults_after r same why =
-    subst (λ (ws : List (List ℕ)). IfOk r (λ (a : Answer). Causes a.status ws left left_after faults faults_after a.closed a.due)) (sym same) why
-
--- what is due for a whole file is due for the words `run`, whose source was read to its end
-of_file : (print : Printing) (state : Status) (words : List (List ℕ)) (left left_after : Option (List ℕ)) (faults faults_after : ℕ) (came : List ℕ) (closed : Option Closed) (due : List ℕ) → words ≡ words_of print → Consumes left left_after came → IsAtEnd left_after → length came ≤ 1048576 → FileCauses print state came closed due → Causes state words left left_after faults faults_after closed due
+-- what is due for a whole file is due for words that ask for it, whose source was read to its end
+of_file : (print : Printing) (state : Status) (words : List (List ℕ)) (left left_after : Option (List ℕ)) (faults faults_after : ℕ) (came : List ℕ) (closed : Option Closed) (due : List ℕ) → AsksFor print words → Consumes left left_after came → IsAtEnd left_after → length came ≤ 1048576 → FileCauses print state came closed due → Causes state words left left_after faults faults_after closed due
 of_file print status.Ended words left left_after faults faults_after came closed due are read end short why =
-    record { print = print; words_are = are; came = came; read = read; at_end = end; short = short; run_of = why }
+    record { print = print; asks = are; came = came; read = read; at_end = end; short = short; run_of = why }
 of_file print status.Refused words left left_after faults faults_after came closed due are read end short why =
-    inl (record { print = print; words_are = are; came = came; read = read; cause = inl (end, short, why.1); no_run = why.0 })
+    inl (record { print = print; asks = are; came = came; read = read; cause = inl (end, short, why.1); no_run = why.0 })
 of_file print status.Stalled words left left_after faults faults_after came closed due are read end short why =
-    record { print = print; words_are = are; came = came; read = read; at_end = end; short = short; run_of = why }
+    record { print = print; asks = are; came = came; read = read; at_end = end; short = short; run_of = why }
 of_file print status.Refuted words left left_after faults faults_after came closed due are read end short why =
-    record { print = print; words_are = are; came = came; read = read; at_end = end; short = short; run_of = why }
+    record { print = print; asks = are; came = came; read = read; at_end = end; short = short; run_of = why }
 of_file print status.Budget words left left_after faults faults_after came closed due are read end short why =
-    record { print = print; words_are = are; came = came; read = read; at_end = end; short = short; run_of = why }
+    record { print = print; asks = are; came = came; read = read; at_end = end; short = short; run_of = why }
 of_file print status.Usage words left left_after faults faults_after came closed due are read end short why = absurd why
 of_file print status.ReadFault words left left_after faults faults_after came closed due are read end short why = absurd why
 of_file print status.NoMemory words left left_after faults faults_after came closed due are read end short why = absurd why
@@ -60,7 +46,7 @@ of_file print status.NotLegal words left left_after faults faults_after came clo
 of_file print status.Steps words left left_after faults faults_after came closed due are read end short why = absurd why
 of_file print status.WriteFault words left left_after faults faults_after came closed due are read end short why = absurd why
 
-pub from_file : (print : Printing) (words : List (List ℕ)) (left left_after : Option (List ℕ)) (faults faults_after : ℕ) (came : List ℕ) (r : Result Answer NoMemory) → words ≡ words_of print → Consumes left left_after came → IsAtEnd left_after → length came ≤ 1048576 → IfOk r (λ a. FileCauses print a.status came a.closed a.due) → IfOk r (λ a. Causes a.status words left left_after faults faults_after a.closed a.due)
+pub from_file : (print : Printing) (words : List (List ℕ)) (left left_after : Option (List ℕ)) (faults faults_after : ℕ) (came : List ℕ) (r : Result Answer NoMemory) → AsksFor print words → Consumes left left_after came → IsAtEnd left_after → length came ≤ 1048576 → IfOk r (λ a. FileCauses print a.status came a.closed a.due) → IfOk r (λ a. Causes a.status words left left_after faults faults_after a.closed a.due)
 from_file print words left left_after faults faults_after came (Ok a) are read end short why = of_file print a.status words left left_after faults faults_after came a.closed a.due are read end short why
 from_file print words left left_after faults faults_after came (Err e) are read end short why = why
 
@@ -155,7 +141,7 @@ no_broken (judgement.Judged (verdict.NotLegal n)) e = absurd (cc (e))
 no_broken (judgement.Judged (verdict.Steps n)) e = absurd (cc (e))
 
 -- what is due for a text is due for the words `check`, whose source was read to its end
-of_text : (state : Status) (words : List (List ℕ)) (left left_after : Option (List ℕ)) (faults faults_after : ℕ) (came : List ℕ) (closed : Option Closed) (due : List ℕ) → words ≡ check_words → Consumes left left_after came → IsAtEnd left_after → length came ≤ 67108864 → TextCauses state came closed due → Causes state words left left_after faults faults_after closed due
+of_text : (state : Status) (words : List (List ℕ)) (left left_after : Option (List ℕ)) (faults faults_after : ℕ) (came : List ℕ) (closed : Option Closed) (due : List ℕ) → IsSpelled command.Check words → Consumes left left_after came → IsAtEnd left_after → length came ≤ 67108864 → TextCauses state came closed due → Causes state words left left_after faults faults_after closed due
 of_text status.Legal words left left_after faults faults_after came closed due are read end short why =
     record { words_are = are; came = came; read = read; at_end = end; short = short; text = why }
 of_text status.NotLegal words left left_after faults faults_after came closed due are read end short why =
@@ -173,7 +159,7 @@ of_text status.ReadFault words left left_after faults faults_after came closed d
 of_text status.NoMemory words left left_after faults faults_after came closed due are read end short why = absurd (no_want why.judgement why.state_is)
 of_text status.WriteFault words left left_after faults faults_after came closed due are read end short why = absurd (no_broken why.judgement why.state_is)
 
-pub from_text : (words : List (List ℕ)) (left left_after : Option (List ℕ)) (faults faults_after : ℕ) (came : List ℕ) (r : Result Answer NoMemory) → words ≡ check_words → Consumes left left_after came → IsAtEnd left_after → length came ≤ 67108864 → IfOk r (λ a. TextCauses a.status came a.closed a.due) → IfOk r (λ a. Causes a.status words left left_after faults faults_after a.closed a.due)
+pub from_text : (words : List (List ℕ)) (left left_after : Option (List ℕ)) (faults faults_after : ℕ) (came : List ℕ) (r : Result Answer NoMemory) → IsSpelled command.Check words → Consumes left left_after came → IsAtEnd left_after → length came ≤ 67108864 → IfOk r (λ a. TextCauses a.status came a.closed a.due) → IfOk r (λ a. Causes a.status words left left_after faults faults_after a.closed a.due)
 from_text words left left_after faults faults_after came (Ok a) are read end short why = of_text a.status words left left_after faults faults_after came a.closed a.due are read end short why
 from_text words left left_after faults faults_after came (Err e) are read end short why = why
 

@@ -1,7 +1,6 @@
 -- What the top call promises for each status.
-use Rattle.std.specs.Prelude.{codes, IsTrue, ◌≡◌, ℕ, ◌+◌, ◌<◌, ◌≤◌, true, ◌⊎◌, List, [], ◌∷◌, ◌++◌, Option, Some, None, length, map, take, String, string_bytes}
+use Rattle.std.specs.Prelude.{codes, IsTrue, ◌≡◌, ℕ, ◌+◌, ◌<◌, ◌≤◌, true, ◌⊎◌, List, [], ◌∷◌, ◌++◌, Option, Some, None, length, take}
 use Rattle.std.specs.Io.KnownBytes.{Consumes, Appends, IsAtEnd}
-use Rattle.std.specs.declared.alloc.Global.{Global}
 use Rattle.sprite_ids.specs.declared.running.Finish.{Finish}
 use Rattle.sprite_ids.specs.declared.running.Finish.TheVariants as finish
 use Rattle.sprite_bytes.specs.Counts.{Rose}
@@ -9,6 +8,9 @@ use Rattle.call_journal.specs.declared.closed.Closed.{Closed}
 use Rattle.sprite_top.specs.declared.top.Status.{Status}
 use Rattle.sprite_top.specs.declared.top.Status.TheVariants as status
 use Rattle.unix_calls.specs.declared.description.Description.{Description}
+use Rattle.sprite_words.specs.declared.Command.{Command}
+use Rattle.sprite_words.specs.declared.Command.TheVariants as command
+use Rattle.sprite_words.specs.Words.{IsSpelled}
 use Rattle.cluster_file.specs.declared.Refusal.{Refusal}
 use Rattle.cluster_file.specs.Clusters.{Describes, Refuses}
 use Rattle.report_print.specs.Refused.{refusal_line}
@@ -32,29 +34,24 @@ use Rattle.history_text.specs.Histories.{history_of}
 use Rattle.sprite_top.specs.declared.top.Printing.{Printing}
 use Rattle.sprite_top.specs.declared.top.Printing.TheVariants as printing
 
--- the words as texts
-abbrev pub spelled : List (String Global) → List (List ℕ)
-spelled words = map string_bytes words
+-- what a command prints of the cluster that it runs; none where it runs none
+abbrev pub printing_of : Command → Option Printing
+printing_of command.Run = Some printing.Output
+printing_of (command.RunSeed seed) = Some printing.Output
+printing_of command.History = Some printing.History
+printing_of command.Check = None
 
--- the three commands that are built so far
-abbrev pub run_words : List (List ℕ)
-run_words = codes "run" ∷ []
+-- the words spell a command that runs a cluster and prints that of it
+pub record AsksFor (print : Printing) (words : List (List ℕ)) : Type 0 where
+  pub command : Command
+  pub is_spelled : IsSpelled command words
+  pub prints : printing_of command ≡ Some print
 
-abbrev pub history_words : List (List ℕ)
-history_words = codes "history" ∷ []
-
-abbrev pub check_words : List (List ℕ)
-check_words = codes "check" ∷ []
-
+-- the words spell a command
 abbrev pub IsCommand : List (List ℕ) → Type 0
-IsCommand words = (words ≡ run_words) ⊎ ((words ≡ history_words) ⊎ (words ≡ check_words))
+IsCommand words = (some : Command) × IsSpelled some words
 
--- the words of the commands that run a cluster, by what they print of it
-abbrev pub words_of : Printing → List (List ℕ)
-words_of printing.Output = run_words
-words_of printing.History = history_words
-
--- what they print of a journal: its output, or the history itself and why the run stopped where a process lives
+-- what is printed of a journal: its output, or the history itself and why the run stopped where a process lives
 abbrev pub printed : Printing → Description → List Entry → Finish → List ℕ
 printed printing.Output c journal end = output_of c journal end
 printed printing.History c journal end = history_of journal ++ last_line end
@@ -132,10 +129,10 @@ pub record IsFileRun (print : Printing) (bytes : List ℕ) (end : Finish) (close
   pub describes : Describes bytes cluster
   pub run_of : IsRunOf print cluster end closed due
 
--- the words are `run` or `history`, the source was read to its end, and its bytes were run and printed so
+-- the words are those of a run, the source was read to its end, and its bytes were run and printed so
 pub record IsEnded (end : Finish) (words : List (List ℕ)) (left left_after : Option (List ℕ)) (closed : Option Closed) (due : List ℕ) : Type 0 where
   pub print : Printing
-  pub words_are : words ≡ words_of print
+  pub asks : AsksFor print words
   pub came : List ℕ
   pub read : Consumes left left_after came
   pub at_end : IsAtEnd left_after
@@ -148,10 +145,10 @@ pub record IsFileRefuted (bytes : List ℕ) (closed : Option Closed) (due : List
   pub describes : Describes bytes cluster
   pub run_of : IsRefutedRun cluster closed due
 
--- the words are `run` or `history`, the source was read to its end, and the run of its bytes isn't what was promised of it
+-- the words are those of a run, the source was read to its end, and the run of its bytes isn't what was promised of it
 pub record IsRefuted (words : List (List ℕ)) (left left_after : Option (List ℕ)) (closed : Option Closed) (due : List ℕ) : Type 0 where
   pub print : Printing
-  pub words_are : words ≡ words_of print
+  pub asks : AsksFor print words
   pub came : List ℕ
   pub read : Consumes left left_after came
   pub at_end : IsAtEnd left_after
@@ -160,7 +157,7 @@ pub record IsRefuted (words : List (List ℕ)) (left left_after : Option (List �
 
 -- the words are `check`, the source was read to its end, and what came is a text that comes to something of that status
 pub record IsChecked (state : Status) (words : List (List ℕ)) (left left_after : Option (List ℕ)) (closed : Option Closed) (due : List ℕ) : Type 0 where
-  pub words_are : words ≡ check_words
+  pub words_are : IsSpelled command.Check words
   pub came : List ℕ
   pub read : Consumes left left_after came
   pub at_end : IsAtEnd left_after
@@ -178,10 +175,10 @@ abbrev pub AreRefused : Option (List ℕ) → List ℕ → List ℕ → Type 0
 AreRefused left_after came due =
     (IsAtEnd left_after × (length came ≤ 1048576) × IsRefusal came due) ⊎ ((1048576 < length came) × (due ≡ too_long_line))
 
--- the words are `run` or `history`, and what was read is refused
+-- the words are those of a run, and what was read is refused
 pub record IsRunRefused (words : List (List ℕ)) (left left_after : Option (List ℕ)) (closed : Option Closed) (due : List ℕ) : Type 0 where
   pub print : Printing
-  pub words_are : words ≡ words_of print
+  pub asks : AsksFor print words
   pub came : List ℕ
   pub read : Consumes left left_after came
   pub cause : AreRefused left_after came due
@@ -189,7 +186,7 @@ pub record IsRunRefused (words : List (List ℕ)) (left left_after : Option (Lis
 
 -- the words are `check`, and more came than may be checked
 pub record IsTextTooLong (words : List (List ℕ)) (left left_after : Option (List ℕ)) (closed : Option Closed) (due : List ℕ) : Type 0 where
-  pub words_are : words ≡ check_words
+  pub words_are : IsSpelled command.Check words
   pub came : List ℕ
   pub read : Consumes left left_after came
   pub long : 67108864 < length came

@@ -2,15 +2,18 @@ ghost use Rattle.std.specs.Prelude.{◌≡◌, [], IfOk, Some, false};
 ghost use Rattle.unix_calls.specs.Lawful.{Lawful};
 ghost use Rattle.call_journal.specs.Journal.{journal_of};
 ghost use Rattle.run_judge.specs.Judged.{IsJudged, JudgesTo};
+ghost use Rattle.sprite_cluster.specs.Faults.{ToldWhileOpen};
+ghost use Rattle.sprite_cluster.specs.Finishing.{IsSpent};
+ghost use Rattle.sprite_cluster.specs.Moments.{StandsSo};
 ghost use Rattle.sprite_top.specs.Top.{ClusterCauses, IsBroken, IsRun, TellsFaults, printed, status_of};
 
 use crate::judged::refuted_line;
-use crate::top::{Answer, Printing, Status};
+use crate::top::{Answer, Printing, Status, Turns};
 use call_journal::Closed;
 use link_plan::Link;
 use report_print::history;
 use run_judge::{JudgedRun, judge_run};
-use sprite_cluster::{Cluster, run_rounds};
+use sprite_cluster::{Cluster, run_rounds, run_seeded};
 use sprite_ids::{Bytes, Finish, NoMemory};
 use std::alloc::Global;
 use unix_calls::Description;
@@ -24,13 +27,14 @@ pub(crate) fn answer_cluster<L: Link>(
     alloc: Global,
     description: Description,
     print: Printing,
+    turns: Turns,
     link: L,
 ) -> (Result<Answer, NoMemory>, L)
     requires { Lawful description }
     ensures causes { IfOk result.0 (λ a. ClusterCauses print a.status description a.closed a.due) }
     ensures faults { IfOk result.0 (λ a. TellsFaults L.faults link result.1 a.closed) }
 {
-    let (closed, link) = run_cluster(alloc, description, link);
+    let (closed, link) = run_cluster(alloc, description, turns, link);
     let answer = match closed {
         Ok(closed) => judge_closed(alloc, closed, print),
         Err(NoMemory) => Err(NoMemory),
@@ -42,6 +46,7 @@ pub(crate) fn answer_cluster<L: Link>(
 fn run_cluster<L: Link>(
     alloc: Global,
     description: Description,
+    turns: Turns,
     link: L,
 ) -> (Result<Closed, NoMemory>, L)
     requires { Lawful description }
@@ -49,13 +54,17 @@ fn run_cluster<L: Link>(
     ensures faults { IfOk result.0 (λ run. TellsFaults L.faults link result.1 (Some run)) }
 {
     match Cluster::boot(alloc, description, link) {
-        Ok(cluster) => run_booted(alloc, cluster),
+        Ok(cluster) => run_booted(alloc, cluster, turns),
         Err(link) => (Err(NoMemory), link),
     }
 }
 
 // Runs a cluster that was booted. The one error is want of memory.
-fn run_booted<L: Link>(alloc: Global, cluster: Cluster<L>) -> (Result<Closed, NoMemory>, L)
+fn run_booted<L: Link>(
+    alloc: Global,
+    cluster: Cluster<L>,
+    turns: Turns,
+) -> (Result<Closed, NoMemory>, L)
     requires lawful { Lawful cluster.description }
     requires open { cluster.closed ≡ false }
     requires nothing_told { cluster.state.trace ≡ [] }
@@ -63,12 +72,26 @@ fn run_booted<L: Link>(alloc: Global, cluster: Cluster<L>) -> (Result<Closed, No
     ensures faults { IfOk result.0 (λ run. TellsFaults L.faults cluster.wire.link result.1 (Some run)) }
 {
     let mut cluster = cluster;
-    let finish = run_rounds(alloc, &mut cluster);
+    let finish = run_by(alloc, &mut cluster, turns);
     let (closed, link) = cluster.close(finish);
     if finish == Finish::OutOfMemory {
         return (Err(NoMemory), link);
     }
     (Ok(closed), link)
+}
+
+// Runs the cluster in that order, and tells how it stands then.
+fn run_by<L: Link>(alloc: Global, cluster: &mut Cluster<L>, turns: Turns) -> Finish
+    requires lawful { Lawful cluster.old.description }
+    ensures same { cluster.new.description ≡ cluster.old.description }
+    ensures told { ToldWhileOpen L.faults cluster.old.closed cluster.new.closed cluster.old.wire.link cluster.new.wire.link cluster.old.state.trace cluster.new.state.trace }
+    ensures stands { StandsSo cluster.new.closed cluster.new.description cluster.new.state cluster.new.wire.machine result }
+    ensures spent { IsSpent cluster.new.description cluster.new.state.trace result }
+{
+    match turns {
+        Turns::Rounds => run_rounds(alloc, cluster),
+        Turns::Seeded(seed) => run_seeded(alloc, cluster, seed),
+    }
 }
 
 // What is due for a run, which is judged first. The one error is want of memory.

@@ -1,8 +1,10 @@
-ghost use Rattle.std.specs.Prelude.{◌≡◌, ◌↔◌, ◌∷◌, [], None, IsTrue, IfOk};
+ghost use Rattle.std.specs.Prelude.{◌≡◌, ℕ, List, None, IfOk};
+ghost use Rattle.sprite_words.specs.Words.{spelled, IsSpelled};
+ghost use Rattle.sprite_words.specs.declared.Command.TheVariants.{Check};
 ghost use Rattle.sprite_ids.specs.declared.running.Finish.TheVariants.{AllEnded, Budget as Spent, Stalled as Stopped};
 ghost use Rattle.report_print.specs.Refused.{refusal_line};
 ghost use Rattle.sprite_top.specs.Judged.{TextCauses, judgement_status, verdict_status};
-ghost use Rattle.sprite_top.specs.Top.{TellsFaults, spelled, words_of, check_words, IsEnded, IsChecked, IsRefuted, IsRefused, IsUsage, IsReadFault, Causes, FileCauses, Wrote, Broke, status_number};
+ghost use Rattle.sprite_top.specs.Top.{TellsFaults, AsksFor, IsEnded, IsChecked, IsRefuted, IsRefused, IsUsage, IsReadFault, Causes, FileCauses, Wrote, Broke, status_number};
 
 use crate::clusters::answer_cluster;
 use crate::judged::judgement_line;
@@ -14,6 +16,7 @@ use one_kernel::Verdict;
 use report_print::refusal_line;
 use sprite_bytes::{ReadEnd, Sink, Source, read_all, write_all};
 use sprite_ids::{Bytes, NoMemory};
+use sprite_words::{Command, command_of};
 use std::alloc::Global;
 
 /// How many bytes a cluster file may have.
@@ -62,6 +65,15 @@ pub enum Status {
     Refuted,
 }
 
+/// In which order things happen in a run (this project).
+#[derive(Clone, Copy, Debug, PartialEq, Eq)]
+pub enum Turns {
+    /// Round after round: the kernels take turns.
+    Rounds,
+    /// As a generator says that this number seeds.
+    Seeded(u64),
+}
+
 /// What a command prints of the cluster that it ran (this project).
 #[derive(Clone, Copy, Debug, PartialEq, Eq)]
 pub enum Printing {
@@ -91,8 +103,8 @@ pub struct Answer {
 
 /// Does the command that the words spell with what the source holds, and writes to the sink.
 ///
-/// The words are those behind the program's name. So far there are three commands: `run` and `history` run the cluster of a cluster
-/// file and print its output or its journal, and `check` judges a history, which stands behind a cluster file and a line `=====`, against the one-kernel Unix, without
+/// The words are those behind the program's name. So far there are these commands: `run`, `run --seed N` and `history` run the cluster
+/// of a cluster file and print its output or its journal, and `check` judges a history, which stands behind a cluster file and a line `=====`, against the one-kernel Unix, without
 /// running a cluster. All that is due is made before its first byte is written. Want of memory may come at any point before, and then nothing is written. Where a source or a
 /// sink tells nothing of its bytes, the clauses say that some bytes were read or written so.
 pub fn sprite<S: Source, K: Sink, L: Link>(
@@ -148,40 +160,32 @@ fn answer_to<S: Source, L: Link>(
     ensures causes { IfOk result.0 (λ a. Causes a.status (spelled words.now) (S.left source.old) (S.left source.new) (S.faults source.old) (S.faults source.new) a.closed a.due) }
     ensures faults { IfOk result.0 (λ a. TellsFaults L.faults link result.1 a.closed) }
 {
-    if is_command(words, "run") {
-        return answer_run(alloc, source, Printing::Output, link);
-    }
-    if is_command(words, "history") {
-        return answer_run(alloc, source, Printing::History, link);
-    }
-    if is_command(words, "check") {
-        return (answer_check(alloc, source), link);
-    }
-    (refuse(alloc, Status::Usage, USAGE_LINE), link)
-}
-
-/// Whether the words are that one alone.
-fn is_command(words: &[String], name: &str) -> bool
-    ensures { IsTrue result ↔ (spelled words.now ≡ name.now ∷ []) }
-{
-    match words {
-        [word] => word.as_str() == name,
-        _ => false,
+    match command_of(words) {
+        Some(Command::Run) => { answer_run(alloc, source, Printing::Output, Turns::Rounds, link) }
+        Some(Command::RunSeed(seed)) => {
+            answer_run(alloc, source, Printing::Output, Turns::Seeded(seed), link)
+        }
+        Some(Command::History) => {
+            answer_run(alloc, source, Printing::History, Turns::Rounds, link)
+        }
+        Some(Command::Check) => (answer_check(alloc, source), link),
+        None => (refuse(alloc, Status::Usage, USAGE_LINE), link),
     }
 }
 
-/// What is due for the word `run` or `history` and this source, and the link. The one error is want of memory.
+/// What is due for a command that runs a cluster, and this source, and the link. The one error is want of memory.
 fn answer_run<S: Source, L: Link>(
     alloc: Global,
     source: &mut S,
     print: Printing,
+    turns: Turns,
     link: L,
 ) -> (Result<Answer, NoMemory>, L)
-    ensures causes { IfOk result.0 (λ a. Causes a.status (words_of print) (S.left source.old) (S.left source.new) (S.faults source.old) (S.faults source.new) a.closed a.due) }
+    ensures causes { (words : List (List ℕ)) → AsksFor print words → IfOk result.0 (λ a. Causes a.status words (S.left source.old) (S.left source.new) (S.faults source.old) (S.faults source.new) a.closed a.due) }
     ensures faults { IfOk result.0 (λ a. TellsFaults L.faults link result.1 a.closed) }
 {
     match read_all(alloc, source, FILE_BYTES) {
-        Ok(bytes) => answer_file(alloc, bytes.as_slice(), print, link),
+        Ok(bytes) => answer_file(alloc, bytes.as_slice(), print, turns, link),
         Err(ReadEnd::TooLong) => (refuse(alloc, Status::Refused, TOO_LONG_LINE), link),
         Err(ReadEnd::Fault { .. }) => (refuse(alloc, Status::ReadFault, FAULT_LINE), link),
         Err(ReadEnd::NoMemory) => (Err(NoMemory), link),
@@ -190,7 +194,7 @@ fn answer_run<S: Source, L: Link>(
 
 /// What is due for the word `check` and this source. The one error is want of memory.
 fn answer_check<S: Source>(alloc: Global, source: &mut S) -> Result<Answer, NoMemory>
-    ensures { IfOk result (λ a. Causes a.status check_words (S.left source.old) (S.left source.new) (S.faults source.old) (S.faults source.new) a.closed a.due) }
+    ensures { (words : List (List ℕ)) → IsSpelled Check words → IfOk result (λ a. Causes a.status words (S.left source.old) (S.left source.new) (S.faults source.old) (S.faults source.new) a.closed a.due) }
 {
     match read_all(alloc, source, TEXT_BYTES) {
         Ok(bytes) => answer_text(alloc, bytes.as_slice()),
@@ -248,13 +252,14 @@ fn answer_file<L: Link>(
     alloc: Global,
     bytes: &[u8],
     print: Printing,
+    turns: Turns,
     link: L,
 ) -> (Result<Answer, NoMemory>, L)
     ensures causes { IfOk result.0 (λ a. FileCauses print a.status bytes.now a.closed a.due) }
     ensures faults { IfOk result.0 (λ a. TellsFaults L.faults link result.1 a.closed) }
 {
     match read_description(alloc, bytes) {
-        Ok(description) => answer_cluster(alloc, description, print, link),
+        Ok(description) => answer_cluster(alloc, description, print, turns, link),
         Err(FileEnd::Refused(refusal)) => (answer_refused(alloc, &refusal), link),
         Err(FileEnd::NoMemory) => (Err(NoMemory), link),
     }
