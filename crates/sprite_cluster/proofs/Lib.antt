@@ -3,3 +3,4 @@ pub mod LinkLaws
 pub mod FaultLaws
 pub mod ActLaws
 pub mod OpenLaws
+pub mod BootLaws

@@ -1,6 +1,7 @@
 pub mod Kernels
 pub mod States
 pub mod Noted
+pub mod Booted
 pub mod Links
 pub mod Faults
 pub mod Acts

@@ -1,8 +1,9 @@
-ghost use Rattle.std.specs.Prelude.{◌≡◌, ◌<◌, ◌==◌, [], false, IfErr, IfOk, length, not};
+ghost use Rattle.std.specs.Prelude.{◌≡◌, ◌<◌, ◌==◌, false, IfErr, IfOk, length, not};
 ghost use Rattle.unix_calls.specs.Lawful.{Lawful};
 ghost use Rattle.call_journal.specs.Units.{units_of};
 ghost use Rattle.kernel_rpc.specs.Machine.{idle};
 ghost use Rattle.link_plan.specs.Counts.{Stay};
+ghost use Rattle.sprite_cluster.specs.Booted.{IsBooted};
 ghost use Rattle.sprite_cluster.specs.Bursts.{begun_by, job_at, EndsSo, runnable_at};
 ghost use Rattle.sprite_cluster.specs.Choosing.{choices_at};
 ghost use Rattle.sprite_cluster.specs.Faults.{ToldWhileOpen};
@@ -45,7 +46,7 @@ impl<L: Link> Cluster<L> {
     pub fn boot(alloc: Global, description: Description, link: L) -> Result<Cluster<L>, L>
         ensures described { IfOk result (λ cluster. cluster.description ≡ description) }
         ensures open { IfOk result (λ cluster. cluster.closed ≡ false) }
-        ensures nothing_told { IfOk result (λ cluster. cluster.state.trace ≡ []) }
+        ensures booted { IfOk result (λ cluster. IsBooted description cluster.state) }
         ensures idle { IfOk result (λ cluster. cluster.wire.machine ≡ idle) }
         ensures counts { IfOk result (λ cluster. Stay (L.faults link) (L.asked link) (L.faults cluster.wire.link) (L.asked cluster.wire.link)) }
         ensures given_back { IfErr result (λ back. Stay (L.faults link) (L.asked link) (L.faults back) (L.asked back)) }

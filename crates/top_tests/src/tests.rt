@@ -194,8 +194,34 @@ fn hello_is_printed_by_pieces_of_any_size(rt: HostRuntime) -> Result<(), Fail> {
     Ok(())
 }
 
+/// Seeds, as words.
+const SEEDS: [&str; 4] = ["0", "1", "00000000000000000007", "18446744073709551615"];
+
+/// The first of these seeds by which the output isn't what it is to be.
+fn wrong_seed(alloc: Global) -> Result<Option<usize>, NoMemory> {
+    for (place, seed) in SEEDS.iter().enumerate() {
+        if !leaves(
+            alloc,
+            &["run", "--seed", *seed],
+            SOUND,
+            Status::Ended,
+            HELLO_OUTPUT,
+            Some(7),
+        )? {
+            return Ok(Some(place));
+        }
+    }
+    Ok(None)
+}
+
+#[test]
+fn hello_is_printed_by_any_seed(rt: HostRuntime) -> Result<(), Fail> {
+    assert_eq!(rt; wrong_seed(rt.alloc())?, None);
+    Ok(())
+}
+
 /// Words that are no command so far; nothing is read, though the source's first read would fail.
-const WORDS: [&[&str]; 15] = [
+const WORDS: [&[&str]; 17] = [
     &["history", "run"],
     &["check", "run"],
     &["run", "check"],
@@ -205,7 +231,9 @@ const WORDS: [&[&str]; 15] = [
     &["RUN"],
     &["run", "run"],
     &["run", "--seed", "x"],
-    &["run", "--seed", "1"],
+    &["run", "--seed", "18446744073709551616"],
+    &["run", "--seed", "000000000000000000001"],
+    &["run", "--seed", ""],
     &["run", "--seed=1"],
     &["run", "--stats"],
     &["load", "65"],
