@@ -1,5 +1,5 @@
 -- What a run that came to its end comes to.
-use Rattle.std.specs.Prelude.{◌≡◌, ℕ, ◌+◌, true, List, Some, ◌⊎◌, IsTrue}
+use Rattle.std.specs.Prelude.{◌≡◌, ℕ, ◌+◌, true, false, List, Some, ◌⊎◌, IsTrue}
 use Rattle.std.specs.List.{list_any}
 use Rattle.sprite_ids.specs.declared.running.Finish.{Finish}
 use Rattle.unix_calls.specs.declared.description.Description.{Description}
@@ -11,6 +11,7 @@ use Rattle.one_kernel.specs.declared.Verdict.TheVariants as verdict
 use Rattle.one_kernel.specs.Verdicts.{verdict_of}
 use Rattle.call_journal.specs.Journal.{journal_of}
 use Rattle.call_journal.specs.Once.{Once}
+use Rattle.call_journal.specs.Unreachable.{unreachable_for_cause}
 use Rattle.run_judge.specs.declared.judged.JudgedRun.{JudgedRun}
 use Rattle.run_judge.specs.declared.judged.JudgedRun.TheVariants as judge
 use Rattle.run_judge.specs.declared.judged.Refutation.{Refutation}
@@ -25,11 +26,13 @@ pub record IsLegal (c : Description) (most : ℕ) (trace : List Rec) (u : Unix) 
   pub leads : state_of c (journal_of trace) ≡ Some u
   pub verdict_is : verdict_of c most (journal_of trace) ≡ verdict.Legal
 
--- besides, each call is once, and the run ended as it says; that is printed of its journal
+-- besides, each call is once, a server is called unreachable only for a cause, and the run ended as it says; that is printed of its
+-- journal
 pub record IsJudged (c : Description) (most : ℕ) (trace : List Rec) (finish : Finish) (output : List ℕ) : Type 0 where
   pub state : Unix
   pub is_legal : IsLegal c most trace state
   pub once : Once trace
+  pub for_cause : unreachable_for_cause c trace ≡ true
   pub stands : end_of c most state finish ≡ stop.Good
   pub ends : EndsAs c state finish
   pub output_is : output ≡ output_of c (journal_of trace) finish
@@ -40,11 +43,19 @@ pub record IsNotOnce (c : Description) (most : ℕ) (trace : List Rec) : Type 0 
   pub is_legal : IsLegal c most trace state
   pub not_once : Once trace → ⊥
 
--- each call is once, and the run stands otherwise than it says
+-- each call is once, and a server is called unreachable without a cause
+pub record IsWithoutCause (c : Description) (most : ℕ) (trace : List Rec) : Type 0 where
+  pub state : Unix
+  pub is_legal : IsLegal c most trace state
+  pub once : Once trace
+  pub not_for_cause : unreachable_for_cause c trace ≡ false
+
+-- each call is once, a server is called unreachable only for a cause, and the run stands otherwise than it says
 pub record StandsSo (c : Description) (most : ℕ) (trace : List Rec) (finish : Finish) (at : Stop) (Besides : Unix → Type 0) : Type 0 where
   pub state : Unix
   pub is_legal : IsLegal c most trace state
   pub once : Once trace
+  pub for_cause : unreachable_for_cause c trace ≡ true
   pub stands : end_of c most state finish ≡ at
   pub besides : Besides state
 
@@ -56,6 +67,7 @@ HasFree c u = list_any (is_free c u) u.processes ≡ true
 abbrev pub IsRefuted : Description → ℕ → List Rec → Finish → Refutation → Type 0
 IsRefuted c most trace finish (refute.Legal n) = verdict_of c most (journal_of trace) ≡ verdict.NotLegal n
 IsRefuted c most trace finish refute.Once = IsNotOnce c most trace
+IsRefuted c most trace finish refute.Unreachable = IsWithoutCause c most trace
 IsRefuted c most trace finish refute.End = StandsSo c most trace finish stop.Wrong (λ u. Unit {0})
 IsRefuted c most trace finish refute.Stall = StandsSo c most trace finish stop.Free (HasFree c)
 

@@ -1,13 +1,15 @@
-ghost use Rattle.std.specs.Prelude.{◌≡◌, ◌≤◌, IfOk};
+ghost use Rattle.std.specs.Prelude.{◌≡◌, ◌≤◌, IfOk, true};
 ghost use Rattle.unix_calls.specs.Lawful.{Lawful};
 ghost use Rattle.unix_world.specs.Worlds.{unix_of};
 ghost use Rattle.call_journal.specs.Once.{Once};
+ghost use Rattle.call_journal.specs.Unreachable.{unreachable_for_cause};
 ghost use Rattle.run_judge.specs.Judged.{IsLegal, JudgesTo};
 
 use crate::ending::{Stop, end_of};
 use crate::judged::{JudgedRun, Refutation};
 use call_journal::Trace;
 use calls_once::calls_are_once;
+use cause_judge::are_for_cause;
 use one_kernel::{Replayed, replay};
 use report_print::output;
 use sprite_ids::{Bytes, Finish, NoMemory};
@@ -18,7 +20,8 @@ use unix_world::World;
 /// Judges a run of a described cluster that came to that end by its trace (this project).
 ///
 /// It is `Judged` where all of these hold, and else `Refuted` by the first that doesn't: one Unix kernel gives the journal; each call is
-/// issued, entered and returned once, in this order; by the state of the journal each process has ended where the run ended so, and one
+/// issued, entered and returned once, in this order; for each entry that calls a server unreachable, a send for its call was given up
+/// before at the same kernel, after eight lost packets; by the state of the journal each process has ended where the run ended so, and one
 /// lives where the budget was spent or it stalled; and where it stalled each process that lives is blocked. The processes may do at most
 /// `most` instructions in all up to the calls of the entries, and as many from there up to their next calls where the run stalled; past
 /// that the answer is `Steps`. The one error is want of memory, which is also the answer where the entries would be more than 2^32.
@@ -53,6 +56,7 @@ fn judge_legal(
     world: &World,
     ps: &[Process],
 ) -> Result<JudgedRun, NoMemory>
+    requires lawful { Lawful c.now }
     requires bound { most ≤ 40000000000 }
     requires legal { IsLegal c.now most trace.now (unix_of c.now world.now ps.now) }
     ensures { IfOk result (JudgesTo c.now most trace.now finish) }
@@ -60,10 +64,13 @@ fn judge_legal(
     if !calls_are_once(alloc, trace.records())? {
         return Ok(JudgedRun::Refuted(Refutation::Once));
     }
+    if !are_for_cause(c, trace.records()) {
+        return Ok(JudgedRun::Refuted(Refutation::Unreachable));
+    }
     judge_end(alloc, c, trace, finish, most, world, ps)
 }
 
-// A run whose calls are once besides.
+// A run, besides, whose calls are once, and which calls a server unreachable only for a cause.
 fn judge_end(
     alloc: Global,
     c: &Description,
@@ -76,6 +83,7 @@ fn judge_end(
     requires bound { most ≤ 40000000000 }
     requires legal { IsLegal c.now most trace.now (unix_of c.now world.now ps.now) }
     requires once { Once trace.now }
+    requires for_cause { unreachable_for_cause c.now trace.now ≡ true }
     ensures { IfOk result (JudgesTo c.now most trace.now finish) }
 {
     match end_of(alloc, c, world, ps, finish, most)? {

@@ -14,6 +14,7 @@ returns-in_ok-output-in-Good c =
       state = u;
       is_legal = c.requires.legal;
       once = c.requires.once;
+      for_cause = c.requires.for_cause;
       stands = stands;
       ends = ends_as d c.args.most u c.args.finish stands;
       output_is = c.of_vec-output.ensures ∙ c.in_ok-output-in-Good.ensures ∙ ap (λ (o : Option Unix). output_in d o c.args.finish) (sym c.requires.legal.leads);
@@ -28,6 +29,7 @@ returns-in-Free c =
       state = u;
       is_legal = c.requires.legal;
       once = c.requires.once;
+      for_cause = c.requires.for_cause;
       stands = stands;
       besides = has_free d c.args.most u c.args.finish stands;
     }
