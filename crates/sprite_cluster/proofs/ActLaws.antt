@@ -1,9 +1,8 @@
 -- What happens at a kernel tells of no more faults than the link counts.
-use Rattle.std.proofs.Common.{arith, ◌≡◌, ℕ, ◌+◌, ◌≤◌, true, false, List, Option, Some, None, refl, sym, ap, subst}
+use Rattle.std.proofs.Common.{arith, ◌≡◌, ℕ, true, false, List, Option, Some, None, refl, sym, ap, subst}
 use Rattle.sprite_ids.specs.declared.TxNo.{TxNo}
 use Rattle.process_machine.specs.Machine as images
 use Rattle.kernel_rpc.specs.Machine.{Machine}
-use Rattle.kernel_rpc.specs.declared.PacketCopy.{PacketCopy}
 use Rattle.kernel_steps.specs.declared.Input.{Input}
 use Rattle.kernel_steps.specs.declared.Input.TheVariants as inputs
 use Rattle.unix_calls.specs.declared.Event.{Event}
@@ -20,7 +19,7 @@ use Rattle.sprite_cluster.specs.declared.act.Said.{Said}
 use Rattle.sprite_cluster.specs.declared.state.State.{State}
 use Rattle.sprite_cluster.specs.declared.kernel_state.KernelState.{KernelState}
 use Rattle.sprite_cluster.specs.States.{image_put_at, kernel_at, put_image, stepped, stepped_by}
-use Rattle.sprite_cluster.specs.Noted.{faulted, faulted_all, noted_all, noted_step}
+use Rattle.sprite_cluster.specs.Noted.{noted_all, noted_step}
 use Rattle.sprite_cluster.specs.Links.{AskedFor, AskedIn, AskedThen}
 use Rattle.sprite_cluster.specs.Acts.{Done, delivery, input_of, took}
 use Rattle.sprite_cluster.specs.Bursts.{EndsAs, GoesOn, came_to, recorded, taken_back}

@@ -1,9 +1,9 @@
 -- Kernels come to a list, one after the other.
-use Rattle.std.proofs.Common.{◌≡◌, ℕ, ◌+◌, List, [], ◌∷◌, ◌++◌, refl, sym, ap, subst, ◌∙◌, append-nil, append_assoc}
+use Rattle.std.proofs.Common.{◌≡◌, ℕ, ◌+◌, List, [], ◌∷◌, ◌++◌, sym, ap, subst, ◌∙◌, append-nil, append_assoc}
 use Rattle.unix_calls.specs.declared.Description.{Description}
 use Rattle.unix_calls.specs.declared.KernelLine.{KernelLine}
 use Rattle.sprite_cluster.specs.declared.kernel_state.KernelState.{KernelState}
-use Rattle.sprite_cluster.specs.Booted.{AreKernels, IsKernel, MoreKernels}
+use Rattle.sprite_cluster.specs.Booted.{AreKernels, MoreKernels}
 
 -- none of them
 pub none_booted : (c : Description) (kernel : ℕ) (old new : List KernelState) → new ≡ old → MoreKernels c kernel [] old new

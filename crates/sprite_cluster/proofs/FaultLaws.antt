@@ -1,16 +1,16 @@
 -- A trace tells of no more faults than the link counts.
-use Rattle.std.proofs.Common.{arith, ◌≡◌, ℕ, ◌+◌, ◌<◌, ◌≤◌, Bool, true, false, cond, List, [], ◌∷◌, ◌++◌, map, Option, Some, None, refl, sym, ap, subst, ◌∙◌, count_by}
+use Rattle.std.proofs.Common.{arith, ◌≡◌, ℕ, ◌+◌, ◌<◌, ◌≤◌, Bool, true, false, cond, List, [], ◌∷◌, ◌++◌, Some, None, refl, ap}
 use Rattle.std.proofs.lemmas.List.Sums.{sum_by-append}
 use Rattle.link_plan.specs.declared.Fate.{Fate}
 use Rattle.link_plan.specs.declared.Fate.TheVariants.{Once, Lost, Twice, Late}
-use Rattle.link_plan.specs.Counts.{Asks, HasCause, IsAsked, same_pair}
+use Rattle.link_plan.specs.Counts.{Asks, IsAsked, same_pair}
 use Rattle.unix_calls.specs.declared.Event.{Event}
 use Rattle.unix_calls.specs.declared.Event.TheVariants as event
 use Rattle.unix_calls.specs.declared.Rec.{Rec}
 use Rattle.sprite_cluster.specs.declared.act.Sent.{Sent}
 use Rattle.sprite_cluster.specs.declared.state.State.{State}
 use Rattle.sprite_cluster.specs.Links.{packets}
-use Rattle.sprite_cluster.specs.Noted.{faulted, faulted_all, is_of, is_own, left_after, noted, noted_all, noted_one, packet_of}
+use Rattle.sprite_cluster.specs.Noted.{faulted, faulted_all, is_of, is_own, noted, noted_all, noted_one}
 use Rattle.sprite_cluster.specs.Faults.{FaultsTold, faults_between, is_fault_between}
 
 -- counts of faults never fall

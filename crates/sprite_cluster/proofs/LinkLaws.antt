@@ -1,5 +1,5 @@
 -- What the link is asked, one thing after another.
-use Rattle.std.proofs.Common.{◌≡◌, ℕ, Bool, true, false, cond, List, [], ◌∷◌, ◌++◌, map, Option, Some, None, refl, sym, ap, subst, ◌∙◌, append-nil, append_assoc}
+use Rattle.std.proofs.Common.{◌≡◌, ℕ, Bool, true, false, cond, List, [], ◌∷◌, ◌++◌, Option, Some, None, refl, sym, ap, subst, ◌∙◌, append-nil, append_assoc}
 use Rattle.std.proofs.lemmas.List.{map-append}
 use Rattle.link_plan.specs.declared.Fate.{Fate}
 use Rattle.link_plan.specs.Counts.{Asks, IsAsked}
@@ -11,7 +11,6 @@ use Rattle.kernel_rpc.specs.declared.call.Part.TheVariants.{Waiting, Holding, Si
 use Rattle.kernel_rpc.specs.Bodies.{body_of, reply_of}
 use Rattle.kernel_rpc.specs.Machine.{Machine, arrival, arrival_at, arrival_back, arrival_of, call_of, part_of}
 use Rattle.kernel_rpc.specs.Links.{AsksBack}
-use Rattle.kernel_rpc.specs.Servers.{pairs}
 use Rattle.sprite_cluster.specs.declared.act.Sent.{Sent}
 use Rattle.sprite_ids.proofs.ListLaws.{some_is}
 use Rattle.sprite_cluster.specs.Acts.{carried}

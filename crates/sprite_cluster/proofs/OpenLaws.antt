@@ -1,7 +1,7 @@
 -- Calls of a cluster, one after the other.
-use Rattle.std.proofs.Common.{arith, ◌≡◌, ℕ, ◌+◌, ◌≤◌, Bool, true, false, List, refl, sym, ◌∙◌}
+use Rattle.std.proofs.Common.{arith, ◌≡◌, ℕ, Bool, List, sym, ◌∙◌}
 use Rattle.unix_calls.specs.declared.Rec.{Rec}
-use Rattle.sprite_cluster.specs.Faults.{FaultsTold, ToldWhileOpen, faults_between}
+use Rattle.sprite_cluster.specs.Faults.{FaultsTold, ToldWhileOpen}
 use Rattle.sprite_cluster.proofs.FaultLaws.{told_on}
 
 -- nothing was done

@@ -1,10 +1,9 @@
 -- How a cluster begins.
-use Rattle.std.specs.Prelude.{◌≡◌, ℕ, ◌+◌, List, [], ◌∷◌, ◌++◌, Option, Some, None, length, replicate}
+use Rattle.std.specs.Prelude.{◌≡◌, ℕ, ◌+◌, List, [], ◌∷◌, ◌++◌, Some, length, replicate}
 use Rattle.unix_calls.specs.declared.Description.{Description}
 use Rattle.unix_calls.specs.declared.KernelLine.{KernelLine}
 use Rattle.client_procs.specs.Boot as client
 use Rattle.server_kernel.specs.Boot as server
-use Rattle.server_kernel.specs.declared.Server.{Server}
 use Rattle.sprite_paths.specs.declared.Path.{Path}
 use Rattle.sprite_cluster.specs.declared.kernel_state.KernelState.{KernelState}
 use Rattle.sprite_cluster.specs.declared.kernel_state.KernelState.TheVariants as kernels

@@ -1,5 +1,5 @@
 -- What the top call promises for each status.
-use Rattle.std.specs.Prelude.{codes, IsTrue, ◌≡◌, ℕ, ◌+◌, ◌<◌, ◌≤◌, true, ◌⊎◌, List, [], ◌∷◌, ◌++◌, Option, Some, None, length, take}
+use Rattle.std.specs.Prelude.{codes, IsTrue, ◌≡◌, ℕ, ◌+◌, ◌<◌, ◌≤◌, Bool, true, false, ◌⊎◌, List, [], ◌++◌, Option, Some, None, length, take}
 use Rattle.std.specs.Io.KnownBytes.{Consumes, Appends, IsAtEnd}
 use Rattle.sprite_ids.specs.declared.running.Finish.{Finish}
 use Rattle.sprite_ids.specs.declared.running.Finish.TheVariants as finish
@@ -107,6 +107,11 @@ pub record IsRefutedRun (c : Description) (closed : Option Closed) (due : List �
   pub judges : JudgesTo c 40000000000 run.trace run.finish verdict
   pub broken : IsBroken verdict
   pub line_is : due ≡ refuted_line verdict
+
+-- whether memory was wanting
+abbrev pub is_want : Finish → Bool
+is_want finish.OutOfMemory = true
+is_want _ = false
 
 -- of a run that was made: between any two kernels its trace tells of no more faults than by how many the link's count of these rose
 abbrev pub TellsFaults : {L : Type 0} → (L → ℕ → ℕ → ℕ) → L → L → Option Closed → Type 0

@@ -5,7 +5,7 @@ ghost use Rattle.run_judge.specs.Judged.{IsJudged, JudgesTo};
 ghost use Rattle.sprite_cluster.specs.Faults.{ToldWhileOpen};
 ghost use Rattle.sprite_cluster.specs.Finishing.{IsSpent};
 ghost use Rattle.sprite_cluster.specs.Moments.{StandsSo};
-ghost use Rattle.sprite_top.specs.Top.{ClusterCauses, IsBroken, IsRun, TellsFaults, printed, status_of};
+ghost use Rattle.sprite_top.specs.Top.{ClusterCauses, IsBroken, IsRun, TellsFaults, is_want, printed, status_of};
 
 use crate::judged::refuted_line;
 use crate::top::{Answer, Printing, Status, Turns};
@@ -74,10 +74,20 @@ fn run_booted<L: Link>(
     let mut cluster = cluster;
     let finish = run_by(alloc, &mut cluster, turns);
     let (closed, link) = cluster.close(finish);
-    if finish == Finish::OutOfMemory {
+    if is_want(finish) {
         return (Err(NoMemory), link);
     }
     (Ok(closed), link)
+}
+
+// Whether memory was wanting.
+fn is_want(finish: Finish) -> bool
+    ensures { result ≡ is_want finish }
+{
+    match finish {
+        Finish::OutOfMemory => true,
+        Finish::AllEnded | Finish::Budget | Finish::Running | Finish::Stalled => false,
+    }
 }
 
 // Runs the cluster in that order, and tells how it stands then.

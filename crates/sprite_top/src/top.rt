@@ -151,6 +151,7 @@ pub fn sprite<S: Source, K: Sink, L: Link>(
 }
 
 /// What is due for these words and this source, and the link. The one error is want of memory.
+#[tactic(auto, using(crate::proofs::TopLaws::none_tells))]
 fn answer_to<S: Source, L: Link>(
     alloc: Global,
     words: &[String],
@@ -194,7 +195,8 @@ fn answer_run<S: Source, L: Link>(
 
 /// What is due for the word `check` and this source. The one error is want of memory.
 fn answer_check<S: Source>(alloc: Global, source: &mut S) -> Result<Answer, NoMemory>
-    ensures { (words : List (List ℕ)) → IsSpelled Check words → IfOk result (λ a. Causes a.status words (S.left source.old) (S.left source.new) (S.faults source.old) (S.faults source.new) a.closed a.due) }
+    ensures no_run { IfOk result (λ a. a.closed ≡ None) }
+    ensures causes { (words : List (List ℕ)) → IsSpelled Check words → IfOk result (λ a. Causes a.status words (S.left source.old) (S.left source.new) (S.faults source.old) (S.faults source.new) a.closed a.due) }
 {
     match read_all(alloc, source, TEXT_BYTES) {
         Ok(bytes) => answer_text(alloc, bytes.as_slice()),

@@ -1,9 +1,9 @@
 -- Words that spell no command.
-use Rattle.std.proofs.Common.{arith, codes, ◌≡◌, ℕ, ◌+◌, ◌-◌, ◌*◌, ◌^◌, ◌<◌, ◌≤◌, Bool, true, false, ◌&&◌, List, [], ◌∷◌, ◌++◌, Option, Some, None, length, refl, sym, ap, subst, ◌∙◌}
+use Rattle.std.proofs.Common.{arith, codes, ◌≡◌, ℕ, ◌+◌, ◌-◌, ◌*◌, ◌≤◌, Bool, true, false, ◌&&◌, List, [], ◌∷◌, None, refl, sym, ap, subst, ◌∙◌}
 use Rattle.std.specs.List.{list_all}
 use Rattle.sprite_words.specs.declared.command.Command.{Command}
 use Rattle.sprite_words.specs.declared.command.Command.TheVariants as command
-use Rattle.sprite_words.specs.Words.{ComesTo, IsNext, IsNumber, IsNumberOf, IsSpelled, Spells, is_digit, value_from}
+use Rattle.sprite_words.specs.Words.{IsNext, IsNumber, IsNumberOf, IsSpelled, Spells, is_digit, value_from}
 
 only_word : (a b : List ℕ) → a ∷ [] ≡ b ∷ [] → a ≡ b
 only_word a b e = cc

@@ -1,9 +1,9 @@
-use Rattle.std.proofs.Common.{ℕ, List, IfOk, subst, refl}
+use Rattle.std.proofs.Common.{ℕ, List, IfOk, subst}
 use Rattle.sprite_top.specs.declared.top.Answer.{Answer}
 use Rattle.sprite_top.specs.Judged.{TextCauses}
 use Rattle.sprite_top.proofs.TopLaws.{from_text}
 use Rattle.sprite_top.proofs.top.answer_check.Goals as goal
 
-pub returns-in-Ok : goal.returns-in-Ok
-returns-in-Ok g c =
-    from_text _ _ _ _ _ c.in-Ok.bytes.items c.answer_text.result refl c.in-Ok.ensures.whole c.in-Ok.ensures.end c.in-Ok.ensures.short (subst (λ (came : List ℕ). IfOk c.answer_text.result (λ (a : Answer). TextCauses a.status came a.closed a.due)) c.as_slice.ensures.value c.answer_text.ensures)
+pub returns-in-Ok-clause-causes : goal.returns-in-Ok-clause-causes
+returns-in-Ok-clause-causes g c = λ words asks.
+    from_text words _ _ _ _ c.in-Ok.bytes.items c.answer_text.result asks c.in-Ok.ensures.whole c.in-Ok.ensures.end c.in-Ok.ensures.short (subst (λ (came : List ℕ). IfOk c.answer_text.result (λ (a : Answer). TextCauses a.status came a.closed a.due)) c.as_slice.ensures.value c.answer_text.ensures)
