@@ -50,6 +50,7 @@ pub mod WayLaws
 pub mod WorkLaws
 pub mod PartLaws
 pub mod PresentLaws
+pub mod SettledLaws
 pub mod ServeLaws
 pub mod WritingLaws
 pub mod WritingStepLaws

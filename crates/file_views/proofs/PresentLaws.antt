@@ -46,19 +46,19 @@ by_parts z xs ys p l f = ext_get_or 0 xs ys l (λ i h. at i)
         ap (λ k. get_or xs k 0) e ∙ (sym (part_byte z xs (i / z.block) (i % z.block) r) ∙ (ap (λ b. get_or b (i % z.block) 0) (f (i / z.block)) ∙ (part_byte z ys (i / z.block) (i % z.block) r ∙ ap (λ k. get_or ys k 0) (sym e))))
 
 -- the first answer to a callback that has blocks, or none
-record FirstFlush (z : Setting) (bytes : List ℕ) (calls : List FileCall) : Type 0 where
-  call : FileCall
-  there : In call calls
-  size : ℕ
-  piece : BlockNo × List ℕ
-  rest : List (BlockNo × List ℕ)
-  replied : call.reply ≡ Some (form.Flushed size (piece ∷ rest))
-  is : first_flushed z bytes calls ≡ Some (store_blocks z bytes size (piece ∷ rest))
+pub record FirstFlush (z : Setting) (bytes : List ℕ) (calls : List FileCall) : Type 0 where
+  pub call : FileCall
+  pub there : In call calls
+  pub size : ℕ
+  pub piece : BlockNo × List ℕ
+  pub rest : List (BlockNo × List ℕ)
+  pub replied : call.reply ≡ Some (form.Flushed size (piece ∷ rest))
+  pub is : first_flushed z bytes calls ≡ Some (store_blocks z bytes size (piece ∷ rest))
 
 abbrev pub NoneFlushed : List FileCall → Type 0
 NoneFlushed calls = (one : FileCall) → In one calls → (size : ℕ) (blocks : List (BlockNo × List ℕ)) → one.reply ≡ Some (form.Flushed size blocks) → is_any blocks ≡ false
 
-flush_found : (z : Setting) (bytes : List ℕ) (calls : List FileCall) → ((first_flushed z bytes calls ≡ None) × NoneFlushed calls) ⊎ FirstFlush z bytes calls
+pub flush_found : (z : Setting) (bytes : List ℕ) (calls : List FileCall) → ((first_flushed z bytes calls ≡ None) × NoneFlushed calls) ⊎ FirstFlush z bytes calls
 flush_found z bytes [] = inl (refl, λ one m. absurd m)
 flush_found z bytes (c ∷ cs) = by_reply c.reply refl (flush_found z bytes cs)
   where
@@ -76,13 +76,13 @@ flush_found z bytes (c ∷ cs) = by_reply c.reply refl (flush_found z bytes cs)
     by_reply None r h = skip (ap (λ o. or_else (flushed_bytes z bytes o) (first_flushed z bytes cs)) r) (λ other blocks q. absurd (cc (r, q))) h
 
 -- dirty blocks over bytes of their size are stored as an answer's blocks are
-grown_full : (bytes : List ℕ) (size : ℕ) → length bytes ≡ size → grown bytes size ≡ bytes
+pub grown_full : (bytes : List ℕ) (size : ℕ) → length bytes ≡ size → grown bytes size ≡ bytes
 grown_full bytes size e = ap (λ n. bytes ++ zeros n) (gap e) ∙ append-nil bytes
   where
     gap : length bytes ≡ size → size - length bytes ≡ 0
     gap e = omega (arith, e)
 
-over_store : (z : Setting) (size : ℕ) (blocks : List Held) (bytes : List ℕ) → length bytes ≡ size → ((one : Held) → In one blocks → one.block.0 * z.block + length (cut z one.bytes one.block.0 size) ≤ size) → over_blocks z size blocks bytes ≡ store_blocks z bytes size (map (λ (one : Held). (one.block, cut z one.bytes one.block.0 size)) blocks)
+pub over_store : (z : Setting) (size : ℕ) (blocks : List Held) (bytes : List ℕ) → length bytes ≡ size → ((one : Held) → In one blocks → one.block.0 * z.block + length (cut z one.bytes one.block.0 size) ≤ size) → over_blocks z size blocks bytes ≡ store_blocks z bytes size (map (λ (one : Held). (one.block, cut z one.bytes one.block.0 size)) blocks)
 over_store z size [] bytes e w = refl
 over_store z size (one ∷ rest) bytes e w =
     let same : overlay bytes (one.block.0 * z.block) (cut z one.bytes one.block.0 size) ≡ put_block z bytes one.block.0 size (cut z one.bytes one.block.0 size) = ap (λ xs. overlay xs (one.block.0 * z.block) (cut z one.bytes one.block.0 size)) (sym (grown_full bytes size e)) in

@@ -2,7 +2,7 @@ ghost use Rattle.file_views.specs.AskingLaw.{AskingStay};
 ghost use Rattle.file_views.specs.ContentLaw.{ContentsStay};
 ghost use Rattle.file_views.specs.DecisionLaw.{DecisionsStay};
 ghost use Rattle.file_views.specs.HolderLaw.{HoldersStay};
-ghost use Rattle.file_views.specs.LayerLaw.{LayersStay, PartsStay};
+ghost use Rattle.file_views.specs.LayerLaw.{CoherenceStays, LayersStay, PartsStay};
 ghost use Rattle.file_views.specs.LimitLaw.{LimitsStay};
 ghost use Rattle.file_views.specs.ModeLaw.{ModesStay};
 ghost use Rattle.file_views.specs.ShapeLaw.{ShapesStay};
@@ -78,6 +78,14 @@ pub fn layers_stay()
 /// of them, a write-back carries its block and once it is done the server has it, and what is older changes nothing.
 pub fn parts_stay()
     ensures { PartsStay }
+{}
+
+/// A law: after any list of steps and of moves of clients, from a new file with one to fifteen clients on, where a block has at least
+/// one byte, the view is coherent with the bytes that it presents, in all seven parts; so the view in which nothing is on its way
+/// any more has them too: the holder's dirty blocks over the server's bytes, at its size where it has any, or else the server's
+/// bytes.
+pub fn coherence_stays()
+    ensures { CoherenceStays }
 {}
 
 /// A law: in a new file and after any steps and moves of clients, a client that doesn't use its cache has no block; it has one unfinished
