@@ -55,7 +55,8 @@ use Rattle.file_views.proofs.AskingStepLaws.{FlatAsking, asking_quiet, asking_se
 use Rattle.file_views.proofs.AskingDataLaws.{asking_alone, filled_empty}
 use Rattle.file_views.proofs.AskingMoveLaws.{Asks, quiet_calls, asking_removed, alone_removed, taken_removed}
 use Rattle.file_views.proofs.PartLaws.{Parts, part_after, part_move}
-use Rattle.file_views.proofs.ServeLaws.{serves_request}
+use Rattle.file_views.proofs.WorkLaws.{unnoted}
+use Rattle.file_views.proofs.ServeLaws.{serves_notes, serves_request}
 use Rattle.file_views.proofs.WritingLaws.{Keeps, clean_absent, keeps_filled, keeps_dropped}
 use Rattle.file_views.proofs.WritingStepLaws.{calm_calls, writing_calm, low_current}
 use Rattle.file_views.proofs.WritingMoveLaws.{none_of, is_absent, removed_writing}
@@ -423,7 +424,7 @@ contents_parts z = record {
       let asking : FlatAsking z w = asking_set z (remove_call v one.number) one.from (take_grant (client v one.from) grant) (asking_removed z v one a) i (taken_removed z v one grant a m i) in
       record { positive = t.positive; stamps = k.stamps; sizing = (sizes_parts z).again v one stamp grant t.full m e r i; holders = k.holders; opened = open_facts z w k.flat k.streams asking; has = has_takes z v one one.from grant (without_call one.number v.calls) v.carried (take_grant (client v one.from) grant).streams t (brings_again z v one grant t.full m p.0 r i) i (λ l x. inl (subst Installed (take_streams (client v one.from) grant) x)) };
   done = λ v one stamp block size piece t m e r i. has_back z v one stamp block size piece t m e r i;
-  flushed = λ v one stamp kind size blocks t m e r i. flushed_all z (Contented z) (Has z) (serves_contents z) v one stamp kind size blocks t.full.standing t.full.holders m e r i (λ answering.
+  flushed = λ v one stamp kind size blocks t m e r i. flushed_all z (Unit {0}) unnoted (λ had. Contented z) (λ had. Has z) (serves_notes z (Contented z) (Has z) (serves_contents z)) tt v one stamp kind size blocks t.full.standing t.full.holders m e r i (λ answering.
       let w : View = answered_view v one (store_blocks z v.bytes size blocks) in
       record {
         sized = record {
