@@ -51,6 +51,7 @@ pub mod WorkLaws
 pub mod PartLaws
 pub mod PresentLaws
 pub mod SettledLaws
+pub mod EnterLaws
 pub mod ServeLaws
 pub mod WritingLaws
 pub mod WritingStepLaws
@@ -60,6 +61,7 @@ pub mod SizeServeLaws
 pub mod SizeMoveLaws
 pub mod LimitLaws
 pub mod BytesLaws
+pub mod ReplyLaws
 pub mod ContentLaws
 pub mod ContentViewLaws
 pub mod ContentServeLaws

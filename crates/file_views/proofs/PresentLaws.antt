@@ -1,5 +1,5 @@
 -- The bytes that a view stands for are those that it presents.
-use Rattle.std.proofs.Common.{take, ◌≡◌, ◌⊎◌, ℕ, true, false, List, [], ◌∷◌, length, Some, refl, sym, ap, ◌∙◌, subst, inl, inr, arith, ◌≤◌, ◌<◌, is_some, Option, None, ◌-◌, ◌*◌, ◌/◌, ◌++◌, map, length-take, ◌+◌, append-nil, get_or, ◌%◌}
+use Rattle.std.proofs.Common.{take, ◌≡◌, ◌⊎◌, ℕ, true, false, List, [], ◌∷◌, length, Some, refl, sym, ap, ◌∙◌, subst, inl, inr, arith, ◌≤◌, ◌<◌, is_some, Option, None, ◌-◌, ◌*◌, ◌++◌, map, length-take, ◌+◌, append-nil, get_or}
 use Rattle.sprite_ids.specs.declared.BlockNo.{BlockNo}
 use Rattle.file_views.specs.declared.body.FileBody.{FileBody}
 use Rattle.file_views.specs.declared.body.FileBody.TheVariants as form
@@ -16,34 +16,23 @@ use Rattle.file_views.specs.SoundContents.{GoodContents, StandsFor, DirtyBlock, 
 use Rattle.file_views.proofs.StampLaws.{only_call}
 use Rattle.file_views.proofs.SizeMoveLaws.{Full, full_of}
 use Rattle.file_views.proofs.ContentViewLaws.{Con, ready_block, Leans, flushed_target}
+use Rattle.file_views.proofs.ContentServeLaws.{served_bytes}
 use Rattle.file_views.specs.LayerLaw.{Layers}
 use Rattle.file_views.proofs.ContentPartLaws.{con_of}
 use Rattle.file_views.specs.Streams.{is_any}
 use Rattle.file_views.proofs.MemberLaws.{filter_in, in_map, Made, map_in, in_filter}
 use Rattle.file_views.specs.Serving.{store_blocks}
 use Rattle.file_views.proofs.EffectLaws.{call_in_things, same_thing}
-use Rattle.file_views.proofs.SizeServeLaws.{flush_called, op_uncached, idle_off}
+use Rattle.file_views.proofs.SizeServeLaws.{flush_called}
 use Rattle.file_views.proofs.HolderSettleLaws.{holder_is}
 use Rattle.file_views.proofs.SizeLaws.{length_put, length_grown}
-use Rattle.file_views.proofs.BytesLaws.{part_same, grown_byte, part_byte}
+use Rattle.file_views.proofs.BytesLaws.{by_parts, part_same, grown_byte}
 use Rattle.file_views.proofs.ContentGrantLaws.{PieceAt, stored_part, length_stored}
 use Rattle.file_views.proofs.ContentMoveLaws.{leans_of}
-use Rattle.std.proofs.lemmas.List.{take_all, ext_get_or}
-use Rattle.std.proofs.lemmas.Nat.{mod_below, div-add-mod'}
+use Rattle.std.proofs.lemmas.List.{take_all}
 use Rattle.file_views.specs.declared.body.Access.{Access}
-use Rattle.file_views.proofs.StampChangeLaws.{NoCall, no_call_thing}
 use Rattle.file_views.proofs.StampServeLaws.{idle}
 use Rattle.sprite_ids.specs.declared.StreamNo.{StreamNo}
-
--- bytes of one length with the same blocks are the same
-by_parts : (z : Setting) (xs ys : List ℕ) → 0 < z.block → length xs ≡ length ys → ((number : ℕ) → part z xs number ≡ part z ys number) → xs ≡ ys
-by_parts z xs ys p l f = ext_get_or 0 xs ys l (λ i h. at i)
-  where
-    at : (i : ℕ) → get_or xs i 0 ≡ get_or ys i 0
-    at i =
-        let r : i % z.block < z.block = mod_below i z.block p in
-        let e : i ≡ i / z.block * z.block + i % z.block = sym (div-add-mod' i z.block) in
-        ap (λ k. get_or xs k 0) e ∙ (sym (part_byte z xs (i / z.block) (i % z.block) r) ∙ (ap (λ b. get_or b (i % z.block) 0) (f (i / z.block)) ∙ (part_byte z ys (i / z.block) (i % z.block) r ∙ ap (λ k. get_or ys k 0) (sym e))))
 
 -- the first answer to a callback that has blocks, or none
 pub record FirstFlush (z : Setting) (bytes : List ℕ) (calls : List FileCall) : Type 0 where
@@ -238,27 +227,7 @@ good_contents_by z v l p f kernel i = subst (λ xs. LocalContents z xs (at_kerne
 
 -- an operation that the server takes up finds those bytes there
 pub served_by : (z : Setting) (v : View) → Layers z v → 0 < z.block → StandsFor z v → busy v ≡ false → (one : FileCall) → In one v.calls → one.reply ≡ None → (pid number : ℕ) (stream : StreamNo) (way : Access) → one.body ≡ form.Op pid number (current_stamp v one.from) stream way → v.bytes ≡ present_bytes z v
-served_by z v l p f q one m r pid number stream way e = by_parts z v.bytes f.stood p size (λ n. part_here n (f.stands.rest n)) ∙ sym (present_by z v l p f)
+served_by z v l p f q one m r pid number stream way e = served_bytes z f.stood v one pid number stream way p (record { both = record { flat = t.standing.flat; streams = t.standing.streams }; stamps = t.standing.stamps; ruled = t.standing.decided.ruled; modes = t.standing.modes; holders = t.holders; there = m; unanswered = r; none = idle v q }) e t.asking (con_of z v t.standing.stamps f) ∙ sym (present_by z v l p f)
   where
     t : Full z v
     t = full_of z v l.shapes l.streams l.stamps l.decisions l.modes l.holders l.asking l.write_backs l.sizes
-
-    none : NoCall v
-    none = idle v q
-
-    uncached : v.uncached ≡ true
-    uncached = op_uncached z v one pid number stream way (record { both = record { flat = t.standing.flat; streams = t.standing.streams }; stamps = t.standing.stamps; ruled = t.standing.decided.ruled; modes = t.standing.modes; holders = t.holders; there = m; unanswered = r; none = none }) e t.asking
-
-    clean : (kernel : ℕ) → IsClient (length v.clients) kernel → (held_one : Held) → In held_one (client v kernel).blocks → is_some held_one.dirty ≡ true → ⊥
-    clean kernel i held_one n d = idle_off v t.standing.modes t.standing.decided.ruled none uncached kernel i ((t.holders.each kernel i).dirty_ready held_one n d).on
-
-    unflushed : (x : FileCall) → In x (things v) → (many : ℕ) (blocks : List (BlockNo × List ℕ)) → x.reply ≡ Some (form.Flushed many blocks) → ⊥
-    unflushed x n many blocks y = no_call_thing v none x n (flush_called v t.standing.flat x n many blocks y)
-
-    size : length v.bytes ≡ length f.stood
-    size = elim f.stands.size [ inl d ↦ absurd (clean d.kernel d.is_client d.one d.there d.dirty) | inr o ↦ elim o [ inl s ↦ absurd (unflushed s.call s.there s.size s.blocks s.replied) | inr e ↦ e ] ]
-
-    part_here : (n : ℕ) → DirtyBlock v n ⊎ (FlushedBlock v n ⊎ (part z v.bytes n ≡ part z f.stood n)) → part z v.bytes n ≡ part z f.stood n
-    part_here n (inl d) = absurd (clean d.kernel d.is_client d.one d.there d.dirty)
-    part_here n (inr (inl g)) = absurd (unflushed g.call g.there g.size g.blocks g.replied)
-    part_here n (inr (inr e)) = e

@@ -1,4 +1,5 @@
 ghost use Rattle.file_views.specs.AskingLaw.{AskingStay};
+ghost use Rattle.file_views.specs.BytesLaw.{BytesStay};
 ghost use Rattle.file_views.specs.ContentLaw.{ContentsStay};
 ghost use Rattle.file_views.specs.DecisionLaw.{DecisionsStay};
 ghost use Rattle.file_views.specs.HolderLaw.{HoldersStay};
@@ -86,6 +87,15 @@ pub fn parts_stay()
 /// bytes.
 pub fn coherence_stays()
     ensures { CoherenceStays }
+{}
+
+/// A law: from a new file with one to fifteen clients on, where a block has at least one byte, each step and each move of a client
+/// changes the bytes that the view stands for by exactly what enters in it: a writing's bytes at its place, an append's at the end
+/// where they fit, a truncation to nothing, and nothing else. Each reading that enters has the bytes of its moment, and an append is
+/// refused exactly where it would pass the most that a file may have. So after any list of them the bytes are the first ones as all
+/// that entered changed them, and the view is coherent with these before and after each.
+pub fn bytes_stay()
+    ensures { BytesStay }
 {}
 
 /// A law: in a new file and after any steps and moves of clients, a client that doesn't use its cache has no block; it has one unfinished
