@@ -46,7 +46,7 @@ pub record StandsAt (z : Setting) (bytes : List ℕ) (v : View) : Type 0 where
 pub stood_at : (z : Setting) (bytes : List ℕ) (v : View) → 0 < z.block → StandsAt z bytes v → stands_for z v ≡ bytes
 stood_at z bytes v p a = stands_is z v a.layers p a.stands ∙ a.is
 
-coherent_at : (z : Setting) (bytes : List ℕ) (v : View) → 0 < z.block → StandsAt z bytes v → coherent z v bytes ≡ true
+pub coherent_at : (z : Setting) (bytes : List ℕ) (v : View) → 0 < z.block → StandsAt z bytes v → coherent z v bytes ≡ true
 coherent_at z bytes v p a = subst (λ xs. coherent z v xs ≡ true) a.is (coherent_by z v a.layers (waits_so z v a.layers (busy v) refl) p a.stands)
 
 -- after what entered

@@ -122,7 +122,7 @@ layers_stay z count bytes happenings low high = layers_all z happenings (new_vie
 })
 
 -- the limit
-limits_happened : (z : Setting) (v : View) (one : Happening) → Layers z v → EachLimited z v → EachLimited z (happened z v one)
+pub limits_happened : (z : Setting) (v : View) (one : Happening) → Layers z v → EachLimited z v → EachLimited z (happened z v one)
 limits_happened z v (Step step) l f = steps_keep_limits z v step l.shapes l.streams l.stamps l.decisions l.modes l.holders l.asking l.write_backs f
 limits_happened z v (Move other) l f = choose_by (EachLimited z) (may_move z v other) (after_move z v other) v (λ e. moves_keep_limits z v other e l.shapes l.streams l.stamps l.decisions l.modes l.holders l.asking l.write_backs f) (λ e. f)
 

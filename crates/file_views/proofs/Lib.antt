@@ -52,6 +52,7 @@ pub mod PartLaws
 pub mod PresentLaws
 pub mod SettledLaws
 pub mod EnterLaws
+pub mod SoundLaws
 pub mod ServeLaws
 pub mod WritingLaws
 pub mod WritingStepLaws

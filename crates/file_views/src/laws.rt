@@ -8,6 +8,7 @@ ghost use Rattle.file_views.specs.LimitLaw.{LimitsStay};
 ghost use Rattle.file_views.specs.ModeLaw.{ModesStay};
 ghost use Rattle.file_views.specs.ShapeLaw.{ShapesStay};
 ghost use Rattle.file_views.specs.SizeLaw.{SizesStay};
+ghost use Rattle.file_views.specs.SoundLaw.{SoundStays};
 ghost use Rattle.file_views.specs.StampLaw.{StampsStay};
 ghost use Rattle.file_views.specs.StreamLaw.{StreamsStay};
 ghost use Rattle.file_views.specs.WritingLaw.{WritingBacksStay};
@@ -96,6 +97,13 @@ pub fn coherence_stays()
 /// that entered changed them, and the view is coherent with these before and after each.
 pub fn bytes_stay()
     ensures { BytesStay }
+{}
+
+/// A law over any sound view, reached or not, where a block has at least one byte: it is coherent with the bytes that it stands for;
+/// each step and each move of a client leads to a sound view, whose bytes are the old ones changed by what enters; and all that
+/// enters is right. A new file with one to fifteen clients that isn't longer than a file may be is sound, and stands for its bytes.
+pub fn sound_stays()
+    ensures { SoundStays }
 {}
 
 /// A law: in a new file and after any steps and moves of clients, a client that doesn't use its cache has no block; it has one unfinished
