@@ -1,18 +1,21 @@
 -- Soundness of any view, under each step and each move.
-use Rattle.std.proofs.Common.{◌≡◌, ◌≤◌, ◌<◌, ℕ, true, List, [], length, sym, refl}
+use Rattle.std.proofs.Common.{◌≡◌, ◌≤◌, ◌<◌, ℕ, true, List, [], ◌∷◌, length, sym, refl}
+use Rattle.file_views.specs.declared.step.FileStep.{FileStep}
 use Rattle.file_views.specs.declared.view.View.{View}
 use Rattle.file_views.specs.Setting.{Setting}
 use Rattle.file_views.specs.Views.{new_view}
-use Rattle.file_views.specs.Entries.{bytes_after_all, are_right}
+use Rattle.file_views.specs.Entries.{entered, bytes_after_all, are_right}
+use Rattle.file_views.specs.Possible.{stepped, played}
+use Rattle.file_views.specs.Plays.{bytes_played, stays_coherent}
 use Rattle.file_views.specs.Settled.{stands_for}
 use Rattle.file_views.specs.Coherent.{coherent}
 use Rattle.file_views.specs.SoundContents.{StandsFor}
 use Rattle.file_views.specs.Sound.{Sound}
 use Rattle.file_views.specs.LimitLaw.{EachLimited}
-use Rattle.file_views.specs.LayerLaw.{Happening, happened, Layers}
+use Rattle.file_views.specs.LayerLaw.{Happening, Step, happened, Layers}
 use Rattle.file_views.specs.BytesLaw.{entered_by}
 use Rattle.file_views.proofs.LayerLaws.{layers_happened, limits_happened, limits_stay}
-use Rattle.file_views.proofs.EnterLaws.{StandsAt, stood_at, coherent_at, Enters, enters_by, new_stands}
+use Rattle.file_views.proofs.EnterLaws.{StandsAt, stood_at, coherent_at, Enters, enters_by, stays_by, new_stands}
 
 layers_of : (z : Setting) (v : View) → Sound z v → Layers z v
 layers_of z v s = record {
@@ -65,3 +68,18 @@ sound_changes z v one p s = stood_at z (bytes_after_all z (stands_for z v) (ente
 
 pub sound_right : (z : Setting) (v : View) (one : Happening) → 0 < z.block → Sound z v → are_right z (stands_for z v) (entered_by z v one) ≡ true
 sound_right z v one p s = (sound_enters z v one p s).0
+
+-- steps in a row
+pub sound_played : (z : Setting) (steps : List FileStep) (v : View) → 0 < z.block → Sound z v → Sound z (played z v steps)
+sound_played z [] v p s = s
+sound_played z (step ∷ rest) v p s = sound_played z rest (stepped z v step) p (sound_stays z v (Step step) p s)
+
+stood_played : (z : Setting) (steps : List FileStep) (bytes : List ℕ) (v : View) → 0 < z.block → StandsAt z bytes v → stands_for z (played z v steps) ≡ bytes_played z v bytes steps
+stood_played z [] bytes v p a = stood_at z bytes v p a
+stood_played z (step ∷ rest) bytes v p a = stood_played z rest (bytes_after_all z bytes (entered z v step)) (stepped z v step) p (enters_by z bytes v (Step step) p a).1
+
+pub bytes_of_played : (z : Setting) (v : View) (steps : List FileStep) → 0 < z.block → Sound z v → stands_for z (played z v steps) ≡ bytes_played z v (stands_for z v) steps
+bytes_of_played z v steps p s = stood_played z steps (stands_for z v) v p (at_sound z v p s)
+
+pub whole_played : (z : Setting) (v : View) (steps : List FileStep) → 0 < z.block → Sound z v → stays_coherent z v (stands_for z v) steps ≡ true
+whole_played z v steps p s = stays_by z steps (stands_for z v) v p (at_sound z v p s)

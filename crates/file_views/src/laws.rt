@@ -101,7 +101,8 @@ pub fn bytes_stay()
 
 /// A law over any sound view, reached or not, where a block has at least one byte: it is coherent with the bytes that it stands for;
 /// each step and each move of a client leads to a sound view, whose bytes are the old ones changed by what enters; and all that
-/// enters is right. A new file with one to fifteen clients that isn't longer than a file may be is sound, and stands for its bytes.
+/// enters is right. So it is for steps in a row, whose bytes are the first ones as all that entered changed them. A new file with one to
+/// fifteen clients that isn't longer than a file may be is sound, and stands for its bytes.
 pub fn sound_stays()
     ensures { SoundStays }
 {}
