@@ -1,7 +1,7 @@
 -- A file's bytes, one by one: of its blocks, and after writes.
-use Rattle.std.proofs.Common.{◌≡◌, ◌≢◌, ◌≤◌, ◌<◌, ◌⊎◌, ℕ, ◌+◌, ◌-◌, ◌*◌, ◌/◌, cond, List, [], ◌∷◌, ◌++◌, length, take, drop, get_or, max, min, refl, sym, ap, ◌∙◌, subst, inl, inr, arith, length-append, length-take, length-drop, lt-ltb}
+use Rattle.std.proofs.Common.{◌≡◌, ◌≢◌, ◌≤◌, ◌<◌, ◌⊎◌, ℕ, ◌+◌, ◌-◌, ◌*◌, ◌/◌, ◌%◌, cond, List, [], ◌∷◌, ◌++◌, length, take, drop, get_or, max, min, refl, sym, ap, ◌∙◌, subst, inl, inr, arith, length-append, length-take, length-drop, lt-ltb}
 use Rattle.std.proofs.lemmas.List.{length-replicate, get_or-take, get_or-drop, get_or_append_left, get_or-append_right, get_or-replicate, ext_get_or, get_or_past}
-use Rattle.std.proofs.lemmas.Nat.{le-div, div-mul-add}
+use Rattle.std.proofs.lemmas.Nat.{le-div, div-mul-add, mod_below, div-add-mod'}
 use Rattle.std.proofs.Math.Nat.{mul-le-mul_right, add-mul}
 use Rattle.file_views.specs.Setting.{Setting}
 use Rattle.file_views.specs.Contents.{zeros, grown, whole, part, cut, overlay, put_block, numbers_from, blocks_between}
@@ -46,6 +46,16 @@ part_same z xs ys number f = is_part z (part z xs number) ys number (part_length
 
 part_bytes : (z : Setting) (xs ys : List ℕ) (number j : ℕ) → part z xs number ≡ part z ys number → j < z.block → get_or xs (number * z.block + j) 0 ≡ get_or ys (number * z.block + j) 0
 part_bytes z xs ys number j e l = sym (part_byte z xs number j l) ∙ ap (λ b. get_or b j 0) e ∙ part_byte z ys number j l
+
+-- bytes of one length with the same blocks are the same
+pub by_parts : (z : Setting) (xs ys : List ℕ) → 0 < z.block → length xs ≡ length ys → ((number : ℕ) → part z xs number ≡ part z ys number) → xs ≡ ys
+by_parts z xs ys p l f = ext_get_or 0 xs ys l (λ i h. at i)
+  where
+    at : (i : ℕ) → get_or xs i 0 ≡ get_or ys i 0
+    at i =
+        let r : i % z.block < z.block = mod_below i z.block p in
+        let e : i ≡ i / z.block * z.block + i % z.block = sym (div-add-mod' i z.block) in
+        ap (λ k. get_or xs k 0) e ∙ (sym (part_byte z xs (i / z.block) (i % z.block) r) ∙ (ap (λ b. get_or b (i % z.block) 0) (f (i / z.block)) ∙ (part_byte z ys (i / z.block) (i % z.block) r ∙ ap (λ k. get_or ys k 0) (sym e))))
 
 -- a block past the end is of zeros
 pub part_past : (z : Setting) (xs : List ℕ) (number : ℕ) → length xs ≤ number * z.block → zeros z.block ≡ part z xs number

@@ -258,7 +258,7 @@ in_clients : (z : Setting) (v : View) (ks : List ℕ) (kept : Kept) → HolderIn
 in_clients z v [] kept holder e = e
 in_clients z v (kernel ∷ rest) kept holder e = in_dues z (dues v kernel) kept kernel (client v kernel) holder (in_clients z v rest (stored_dues z kept kernel (client v kernel) (dues v kernel)) holder e)
 
-settled_holder : (z : Setting) (v : View) (holder : ℕ) → (settled z v).holder ≡ Some holder → v.holder ≡ Some holder
+pub settled_holder : (z : Setting) (v : View) (holder : ℕ) → (settled z v).holder ≡ Some holder → v.holder ≡ Some holder
 settled_holder z v holder e = in_answers z v.calls (record { bytes = v.bytes; holder = v.holder }) holder (in_clients z v (kernels v) (stored_answers z (record { bytes = v.bytes; holder = v.holder }) v.calls) holder e)
 
 -- while the holder has dirty blocks that count, no other kernel works in its cache

@@ -16,7 +16,7 @@ use Rattle.file_views.specs.Streams.{is_any}
 use Rattle.file_views.specs.Clients.{is_on}
 use Rattle.file_views.specs.Views.{client, current_stamp, is_holder, is_callback, last_stamp, things, with_call, without_call, replied}
 use Rattle.file_views.specs.Grants.{asks, truncates, asks_to_write, opens_after, receiver, granting, grant_of, settle, current_grant, told}
-use Rattle.file_views.specs.Serving.{close, block_of, data_op, refuse_old, store_blocks}
+use Rattle.file_views.specs.Serving.{bytes_after, op_reply, close, block_of, data_op, refuse_old, store_blocks}
 use Rattle.file_views.specs.Streams.{take_off}
 use Rattle.file_views.specs.Moves.{is_fetch}
 use Rattle.file_views.specs.Settled.{goes_to, arrival}
@@ -39,14 +39,18 @@ use Rattle.file_views.proofs.HolderSettleLaws.{Settles, alone_by, holder_is, set
 use Rattle.file_views.proofs.HolderServeLaws.{Answering, answered_view}
 use Rattle.file_views.proofs.AskingStepLaws.{FlatAsking}
 use Rattle.file_views.proofs.WritingStepLaws.{set_rises}
-use Rattle.file_views.proofs.ServeLaws.{Serves, serves_body}
+use Rattle.file_views.specs.Data.{step_of}
+use Rattle.file_views.specs.Entries.{told_reply, enters_settled, is_right}
+use Rattle.file_views.proofs.WorkLaws.{noted}
+use Rattle.file_views.proofs.ReplyLaws.{op_bytes, op_right}
+use Rattle.file_views.proofs.ServeLaws.{ServeNotes, serves_body}
 use Rattle.file_views.proofs.SizeLaws.{told_self, dirty_found, present_dirty, length_put}
 use Rattle.file_views.proofs.SizeServeLaws.{FlatSizes, Sized, flush_called, idle_off, none_open, serves_sizes}
 use Rattle.file_views.proofs.LimitLaws.{granting_no_flush}
 use Rattle.file_views.proofs.BytesLaws.{put_elsewhere, put_cut, part_length}
 use Rattle.file_views.proofs.ContentLaws.{KeptBy, KeptNow, GoodBlocks, current_kept, good_calls, CarriedCall, carried_none, carried_current, carried_bytes}
-use Rattle.file_views.proofs.ContentViewLaws.{Con, Has, stand_same, stands_calls}
-use Rattle.file_views.proofs.ContentServeLaws.{con_answer, new_answer, no_block, con_out, con_taken, waiting_open, fetched_right, con_stored, con_bare, con_operated}
+use Rattle.file_views.proofs.ContentViewLaws.{Con, Noted, note, Has, stand_same, stands_calls}
+use Rattle.file_views.proofs.ContentServeLaws.{con_answer, new_answer, no_block, con_out, con_taken, waiting_open, fetched_right, con_stored, con_bare, con_operated, served_bytes}
 
 -- what a grant is, and when it is the new one
 no_on : (uncached : Bool) → not uncached ≡ true → uncached ≡ false
@@ -207,11 +211,20 @@ kept_bytes : (b : Bool) (bytes : List ℕ) → b ≡ false → cond b [] bytes �
 kept_bytes true bytes e = absurd (cc (e))
 kept_bytes false bytes e = refl
 
-pub has_settled : (z : Setting) (v : View) (one : FileCall) → Settles z v one → Sized z v → Has z v → Has z (settle v one)
-has_settled z v one s x h = elim (bool_cases (truncates one.body)) [
+-- what enters by a grant: an open that truncates empties the bytes
+settled_note : (z : Setting) (had : Noted) (one : FileCall) → asks one.body ≡ true → had.right ≡ true → ((noted (note z) had (enters_settled one one.body)).right ≡ true) × ((noted (note z) had (enters_settled one one.body)).bytes ≡ cond (truncates one.body) [] had.bytes)
+settled_note z had one a h = by_body one.body a
+  where
+    by_body : (body : FileBody) → asks body ≡ true → ((noted (note z) had (enters_settled one body)).right ≡ true) × ((noted (note z) had (enters_settled one body)).bytes ≡ cond (truncates body) [] had.bytes)
+    by_body (form.Opening pid number stream mode truncate) q = (and_from had.right true h refl, refl)
+    by_body (form.Move stream place kept grants) q = (h, refl)
+    by_body body q = absurd (cc (q))
+
+pub has_settled : (z : Setting) (had : Noted) (v : View) (one : FileCall) → Settles z v one → Sized z v → Has z had v → Has z (noted (note z) had (enters_settled one one.body)) (settle v one)
+has_settled z had v one s x h = elim (bool_cases (truncates one.body)) [
   | inl c ↦ record {
-    stood = w.bytes;
-    con = con_bare z w
+    right = (settled_note z had one s.asks_it h.right).0;
+    con = subst (λ xs. Con z xs w) (ap (λ b. cond b [] v.bytes) c ∙ sym ((settled_note z had one s.asks_it h.right).1 ∙ ap (λ b. cond b [] had.bytes) c)) (con_bare z w
         (λ kernel i. subst (GoodBlocks z w.bytes kernel w.version (client v kernel) (seat w kernel).opened) (sym now) (good_cut z w.bytes v one s c x.asking kernel i))
         (λ kernel i d. nobody_dirty c kernel i d)
         (λ y m size blocks r. elim (in_with new y (things v) (subst (In y) now m)) [
@@ -227,24 +240,24 @@ has_settled z v one s x h = elim (bool_cases (truncates one.body)) [
               nobody_dirty c kernel i d)
           | inr k ↦ cc (r, ap (λ (y : FileCall). y.reply) k)
         ])
-        lows;
+        lows);
   }
   | inr c ↦ record {
-    stood = h.stood;
-    con = record {
-      stands = stands_calls z h.stood v w h.con.stands (record {
+    right = (settled_note z had one s.asks_it h.right).0;
+    con = subst (λ xs. Con z xs w) (sym ((settled_note z had one s.asks_it h.right).1 ∙ ap (λ b. cond b [] had.bytes) c)) (record {
+      stands = stands_calls z had.bytes v w h.con.stands (record {
         clients = refl;
         bytes = kept_bytes (truncates one.body) v.bytes c;
         told = λ y m. elim (in_with new y (things v) (subst (In y) now m)) [ inl p ↦ inl (told_self y (things v) p.0) | inr k ↦ inr (λ size blocks r. granting_no_flush one.body (grant_of v one) size blocks s.asks_it (let q : Some (granting one.body (grant_of v one)) ≡ Some (form.Flushed size blocks) = sym (ap (λ (y : FileCall). y.reply) k) ∙ r in cc (q))) ];
         flushes = λ y m size blocks r. absurd (no_call_thing v s.none y m (flush_called v s.both.flat y m size blocks r));
       });
-      good = λ kernel i. subst (GoodBlocks z h.stood kernel w.version (client v kernel) (seat w kernel).opened) (sym now) (good_settled z h.stood v one s c h.con kernel i);
+      good = λ kernel i. subst (GoodBlocks z had.bytes kernel w.version (client v kernel) (seat w kernel).opened) (sym now) (good_settled z had.bytes v one s c h.con kernel i);
       carried = λ kernel i y m. subst (λ xs. CarriedCall z kernel (current_stamp w kernel) (client v kernel) xs y) (sym (kept_bytes (truncates one.body) v.bytes c)) (elim (in_with new y (things v) (subst (In y) now m)) [
         | inl p ↦ carried_current z kernel (current_stamp v kernel) (current_stamp w kernel) (client v kernel) v.bytes y (things v) p.0 (h.con.carried kernel i y p.0) (rises kernel) (h.con.low kernel i)
         | inr k ↦ carried_none z kernel (current_stamp w kernel) (client v kernel) v.bytes y (λ block size piece t. no_write_back one.body s.asks_it _ block size piece (sym (ap (λ (y : FileCall). y.body) k) ∙ t.is_write_back)) (λ block size piece t. no_write_back one.body s.asks_it _ block size piece (sym (ap (λ (y : FileCall). y.body) k) ∙ t.is_write_back))
       ]);
       low = lows;
-    };
+    });
   }
 ]
   where
@@ -397,37 +410,43 @@ con_flushed z stood v one stamp kind size blocks t reply sizes con place = recor
     ]
 
 -- all that the server does
-pub record Contented (z : Setting) (v : View) : Type 0 where
+pub record Contented (z : Setting) (had : Noted) (v : View) : Type 0 where
+  pub positive : 0 < z.block
   pub sized : Sized z v
-  pub has : Has z v
+  pub has : Has z had v
 
-pub serves_contents : (z : Setting) → Serves z (Contented z) (Has z)
+pub serves_contents : (z : Setting) → ServeNotes z Noted (note z) (Contented z) (Has z)
 serves_contents z = record {
-  eases = λ v x. x.has;
-  tells = λ v b x. record { sized = (serves_sizes z).tells v b x.sized; has = record { stood = x.has.stood; con = record { stands = stands_calls z x.has.stood v (told v b) x.has.con.stands (stand_same v (told v b) refl refl (λ y m. m) (λ y m. m)); good = x.has.con.good; carried = x.has.con.carried; low = x.has.con.low } } };
-  outs = λ v kind kernel h. record { stood = h.stood; con = con_out z h.stood v kind kernel h.con };
-  settles = λ v one s x. has_settled z v one s x.sized x.has;
-  closes = λ v one stream grants t e x. record {
-    stood = x.has.stood;
-    con = con_answer z x.has.stood v (close v one stream grants) one form.Done t.both.flat t.there t.unanswered (ap is_callback e) refl refl refl refl refl (things_with v one (replied one form.Done) t.both.flat.numbered.differ t.there refl)
+  eases = λ had v x. x.has;
+  tells = λ had v b x. record { positive = x.positive; sized = (serves_sizes z).tells v b x.sized; has = record { right = x.has.right; con = record { stands = stands_calls z had.bytes v (told v b) x.has.con.stands (stand_same v (told v b) refl refl (λ y m. m) (λ y m. m)); good = x.has.con.good; carried = x.has.con.carried; low = x.has.con.low } } };
+  outs = λ had v kind kernel h. record { right = h.right; con = con_out z had.bytes v kind kernel h.con };
+  settles = λ had v one s x. has_settled z had v one s x.sized x.has;
+  closes = λ had v one stream grants t e x. record {
+    right = x.has.right;
+    con = con_answer z had.bytes v (close v one stream grants) one form.Done t.both.flat t.there t.unanswered (ap is_callback e) refl refl refl refl refl (things_with v one (replied one form.Done) t.both.flat.numbered.differ t.there refl)
         (λ kernel h. let p = in_filter (λ (y : Open). y.kernel == kernel) h.one (take_off v.opens stream one.from grants) h.there in let l : Left h.one v.opens = left_in v.opens stream one.from grants h.one p.0 in record { one = l.before; there = filter_in (λ (y : Open). y.kernel == kernel) l.before v.opens l.there (ap (λ n. n == kernel) (sym l.kernel_is) ∙ p.1) })
-        (new_answer z x.has.stood v one form.Done (call_in_things v one t.there) x.has.con (λ size blocks q. cc (q)) (λ kernel i. no_block z x.has.stood kernel (own_stamp v kernel) one form.Done (λ other piece q. cc (q))) (λ kernel i q block size piece w. absurd (let k = w.is_write_back in cc (e, k)))) x.has.con;
+        (new_answer z had.bytes v one form.Done (call_in_things v one t.there) x.has.con (λ size blocks q. cc (q)) (λ kernel i. no_block z had.bytes kernel (own_stamp v kernel) one form.Done (λ other piece q. cc (q))) (λ kernel i q block size piece w. absurd (let k = w.is_write_back in cc (e, k)))) x.has.con;
   };
-  fetched = λ v one block t e x. record {
-    stood = x.has.stood;
-    con = con_answer z x.has.stood v _ one (form.Block (current_stamp v one.from) (block_of z v.bytes block)) t.both.flat t.there t.unanswered (ap is_callback e) refl refl refl refl refl (things_with v one (replied one (form.Block (current_stamp v one.from) (block_of z v.bytes block))) t.both.flat.numbered.differ t.there refl) (λ kernel h. h)
-        (new_answer z x.has.stood v one (form.Block (current_stamp v one.from) (block_of z v.bytes block)) (call_in_things v one t.there) x.has.con (λ size blocks q. cc (q)) (λ kernel i. fetched_right z x.has.stood v one block t e x.sized.asking x.has.con kernel i) (λ kernel i q. absurd (cc (q)))) x.has.con;
+  fetched = λ had v one block t e x. record {
+    right = x.has.right;
+    con = con_answer z had.bytes v _ one (form.Block (current_stamp v one.from) (block_of z v.bytes block)) t.both.flat t.there t.unanswered (ap is_callback e) refl refl refl refl refl (things_with v one (replied one (form.Block (current_stamp v one.from) (block_of z v.bytes block))) t.both.flat.numbered.differ t.there refl) (λ kernel h. h)
+        (new_answer z had.bytes v one (form.Block (current_stamp v one.from) (block_of z v.bytes block)) (call_in_things v one t.there) x.has.con (λ size blocks q. cc (q)) (λ kernel i. fetched_right z had.bytes v one block t e x.sized.asking x.has.con kernel i) (λ kernel i q. absurd (cc (q)))) x.has.con;
   };
-  refuses = λ v one stamp t e x. record {
-    stood = x.has.stood;
-    con = con_answer z x.has.stood v (refuse_old v one) one (form.Again (current_grant v one.from)) t.both.flat t.there t.unanswered (request_plain one.body stamp e) refl refl refl refl refl (things_with v one (replied one (form.Again (current_grant v one.from))) t.both.flat.numbered.differ t.there refl) (λ kernel h. h)
-        (new_answer z x.has.stood v one (form.Again (current_grant v one.from)) (call_in_things v one t.there) x.has.con (λ size blocks q. cc (q)) (λ kernel i. no_block z x.has.stood kernel (own_stamp v kernel) one (form.Again (current_grant v one.from)) (λ other piece q. cc (q))) (λ kernel i q. absurd (cc (q)))) x.has.con;
+  refuses = λ had v one stamp t e x. record {
+    right = x.has.right;
+    con = con_answer z had.bytes v (refuse_old v one) one (form.Again (current_grant v one.from)) t.both.flat t.there t.unanswered (request_plain one.body stamp e) refl refl refl refl refl (things_with v one (replied one (form.Again (current_grant v one.from))) t.both.flat.numbered.differ t.there refl) (λ kernel h. h)
+        (new_answer z had.bytes v one (form.Again (current_grant v one.from)) (call_in_things v one t.there) x.has.con (λ size blocks q. cc (q)) (λ kernel i. no_block z had.bytes kernel (own_stamp v kernel) one (form.Again (current_grant v one.from)) (λ other piece q. cc (q))) (λ kernel i q. absurd (cc (q)))) x.has.con;
   };
-  stores = λ v one block size piece t e x. record { stood = x.has.stood; con = con_stored z x.has.stood v one block size piece t e x.sized.writing x.has.con };
-  operates = λ v one pid number stream way t e x. record { stood = (data_op z v one way).bytes; con = con_operated z x.has.stood v one pid number stream way t e x.sized x.has.con };
-  takes = λ v one b stamps m n c x. record { sized = (serves_sizes z).takes v one b stamps m n c x.sized; has = record { stood = x.has.stood; con = con_taken z x.has.stood v one b.flat.numbered.differ m n c x.has.con } };
-  served = λ v one t x y. record { sized = (serves_sizes z).served v one t x.sized (serves_body z (Sized z) (FlatSizes z) (serves_sizes z) v one one.body refl t x.sized); has = y };
-  settled = λ v one s x y. record { sized = (serves_sizes z).settled v one s x.sized ((serves_sizes z).settles v one s x.sized); has = y };
+  stores = λ had v one block size piece t e x. record { right = x.has.right; con = con_stored z had.bytes v one block size piece t e x.sized.writing x.has.con };
+  operates = λ had v one pid number stream way t e x.
+      let same : v.bytes ≡ had.bytes = served_bytes z had.bytes v one pid number stream way x.positive t e x.sized.asking x.has.con in
+      record {
+        right = and_from had.right _ x.has.right (subst (λ xs. is_right z had.bytes (step_of pid number one.from stream way) (told_reply way (op_reply z xs way)) ≡ true) (sym same) (op_right z had.bytes pid number one.from stream way));
+        con = subst (λ xs. Con z xs (data_op z v one way)) (ap (λ xs. bytes_after z xs way) same ∙ sym (op_bytes z had.bytes pid number one.from stream way)) (con_operated z had.bytes v one pid number stream way t e x.sized x.has.con);
+      };
+  takes = λ had v one b stamps m n c x. record { positive = x.positive; sized = (serves_sizes z).takes v one b stamps m n c x.sized; has = record { right = x.has.right; con = con_taken z had.bytes v one b.flat.numbered.differ m n c x.has.con } };
+  served = λ had next v one t x y. record { positive = x.positive; sized = (serves_sizes z).served v one t x.sized (serves_body z (Sized z) (FlatSizes z) (serves_sizes z) v one one.body refl t x.sized); has = y };
+  settled = λ had next v one s x y. record { positive = x.positive; sized = (serves_sizes z).settled v one s x.sized ((serves_sizes z).settles v one s x.sized); has = y };
 }
   where
     request_plain : (body : FileBody) (stamp : ℕ) → request_stamp body ≡ Some stamp → is_callback body ≡ false

@@ -1,5 +1,5 @@
 -- What blocks contain, the eighth layer of soundness, while the server takes up requests and answers to callbacks.
-use Rattle.std.proofs.Common.{◌≡◌, ◌≢◌, ◌≤◌, ◌⊎◌, ℕ, ◌+◌, ◌-◌, ◌==◌, true, false, List, [], ◌∷◌, ◌++◌, length, map, Option, Some, None, refl, sym, ap, ◌∙◌, subst, inl, inr, arith, le_refl, append_assoc, slice_index_or}
+use Rattle.std.proofs.Common.{is_some, ◌≡◌, ◌≢◌, ◌≤◌, ◌<◌, ◌⊎◌, ℕ, ◌+◌, ◌-◌, ◌==◌, true, false, List, [], ◌∷◌, ◌++◌, length, map, Option, Some, None, refl, sym, ap, ◌∙◌, subst, inl, inr, arith, le_refl, append_assoc, slice_index_or}
 use Rattle.std.proofs.lemmas.Bool.Decides.{eqb_tells}
 use Rattle.sprite_ids.specs.declared.BlockNo.{BlockNo}
 use Rattle.sprite_ids.specs.declared.StreamNo.{StreamNo}
@@ -46,7 +46,7 @@ use Rattle.file_views.proofs.WritingStepLaws.{FlatWriting, set_rises, low_own}
 use Rattle.file_views.proofs.SizeLaws.{told_self, dirty_found, present_dirty}
 use Rattle.file_views.proofs.SizeServeLaws.{Sized, flush_called, idle_off, op_uncached}
 use Rattle.file_views.proofs.LimitLaws.{op_no_flush}
-use Rattle.file_views.proofs.BytesLaws.{put_elsewhere, put_twice}
+use Rattle.file_views.proofs.BytesLaws.{by_parts, put_elsewhere, put_twice}
 use Rattle.file_views.proofs.ContentLaws.{GoodBlocks, RightFetch, CarriedCall, carried_replied, carried_none, carried_bytes}
 use Rattle.file_views.proofs.ContentViewLaws.{Con, NewCall, con_calls}
 
@@ -342,3 +342,21 @@ con_operated z stood v one pid number stream way t e x con = con_bare z w
 
     off : (kernel : ℕ) → IsClient (length v.clients) kernel → is_on (client v kernel).mode ≡ true → ⊥
     off kernel i o = idle_off v t.modes t.ruled t.none (op_uncached z v one pid number stream way t e x.asking) kernel i o
+
+-- it finds the bytes that the view stands for
+pub served_bytes : (z : Setting) (stood : List ℕ) (v : View) (one : FileCall) (pid number : ℕ) (stream : StreamNo) (way : Access) → 0 < z.block → Serving v one → one.body ≡ form.Op pid number (current_stamp v one.from) stream way → FlatAsking z v → Con z stood v → v.bytes ≡ stood
+served_bytes z stood v one pid number stream way p t e asking con = by_parts z v.bytes stood p size (λ n. part_here n (con.stands.rest n))
+  where
+    clean : (kernel : ℕ) → IsClient (length v.clients) kernel → (held_one : Held) → In held_one (client v kernel).blocks → is_some held_one.dirty ≡ true → ⊥
+    clean kernel i held_one n d = idle_off v t.modes t.ruled t.none (op_uncached z v one pid number stream way t e asking) kernel i ((t.holders.each kernel i).dirty_ready held_one n d).on
+
+    unflushed : (x : FileCall) → In x (things v) → (many : ℕ) (blocks : List (BlockNo × List ℕ)) → x.reply ≡ Some (form.Flushed many blocks) → ⊥
+    unflushed x n many blocks y = no_call_thing v t.none x n (flush_called v t.both.flat x n many blocks y)
+
+    size : length v.bytes ≡ length stood
+    size = elim con.stands.size [ inl d ↦ absurd (clean d.kernel d.is_client d.one d.there d.dirty) | inr o ↦ elim o [ inl s ↦ absurd (unflushed s.call s.there s.size s.blocks s.replied) | inr q ↦ q ] ]
+
+    part_here : (n : ℕ) → DirtyBlock v n ⊎ (FlushedBlock v n ⊎ (part z v.bytes n ≡ part z stood n)) → part z v.bytes n ≡ part z stood n
+    part_here n (inl d) = absurd (clean d.kernel d.is_client d.one d.there d.dirty)
+    part_here n (inr (inl g)) = absurd (unflushed g.call g.there g.size g.blocks g.replied)
+    part_here n (inr (inr q)) = q

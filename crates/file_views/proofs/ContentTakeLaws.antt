@@ -42,7 +42,7 @@ use Rattle.file_views.proofs.SizeLaws.{told_self, was_ready}
 use Rattle.file_views.proofs.SizeServeLaws.{flush_called}
 use Rattle.file_views.proofs.SizeMoveLaws.{Brings, any_dirty, middle_in}
 use Rattle.file_views.proofs.ContentLaws.{GoodBlocks, good_calls, old_self, good_client, good_all, CarriedCall, carried_none, carried_client}
-use Rattle.file_views.proofs.ContentViewLaws.{Con, Has, NewCall, stands_calls, con_calls, stands_set, Leans, dirty_holder, flushed_target, ready_block, ready_size}
+use Rattle.file_views.proofs.ContentViewLaws.{Con, Noted, Has, NewCall, stands_calls, con_calls, stands_set, Leans, dirty_holder, flushed_target, ready_block, ready_size}
 use Rattle.file_views.proofs.ContentMoveLaws.{All, leans_of}
 
 -- a call is gone that brings nothing
@@ -64,14 +64,14 @@ con_removed z stood v one flat m a c h = con_calls z stood v (remove_call v one.
     gone : things (remove_call v one.number) ≡ without_call one.number (things v)
     gone = things_without v one flat.numbered.differ m
 
-pub has_removed : (z : Setting) (v : View) (one : FileCall) → Flat v → In one v.calls → asks one.body ≡ false → is_callback one.body ≡ false → Has z v → Has z (remove_call v one.number)
-has_removed z v one flat m a c h = record { stood = h.stood; con = con_removed z h.stood v one flat m a c h.con }
+pub has_removed : (z : Setting) (had : Noted) (v : View) (one : FileCall) → Flat v → In one v.calls → asks one.body ≡ false → is_callback one.body ≡ false → Has z had v → Has z had (remove_call v one.number)
+has_removed z had v one flat m a c h = record { right = h.right; con = con_removed z had.bytes v one flat m a c h.con }
 
 -- a move's stream is carried on
-pub has_moved : (z : Setting) (v : View) (one : FileCall) (stream : StreamNo) (place : ℕ) (kept : Bool) (grants : ℕ) (grant : Option FileGrant) (more : ℕ) → Flat v → Has z v → In one v.calls → one.body ≡ form.Move stream place kept grants → one.reply ≡ Some (form.Moved grant more) → Has z (record (remove_call v one.number) { carried = v.carried ++ record { call = one.number; to = place; stream = stream; grant = grant } ∷ [] })
-has_moved z v one stream place kept grants grant more flat h m e r = record {
-  stood = h.stood;
-  con = con_calls z h.stood v w h.con (record {
+pub has_moved : (z : Setting) (had : Noted) (v : View) (one : FileCall) (stream : StreamNo) (place : ℕ) (kept : Bool) (grants : ℕ) (grant : Option FileGrant) (more : ℕ) → Flat v → Has z had v → In one v.calls → one.body ≡ form.Move stream place kept grants → one.reply ≡ Some (form.Moved grant more) → Has z had (record (remove_call v one.number) { carried = v.carried ++ record { call = one.number; to = place; stream = stream; grant = grant } ∷ [] })
+has_moved z had v one stream place kept grants grant more flat h m e r = record {
+  right = h.right;
+  con = con_calls z had.bytes v w h.con (record {
     clients = refl;
     bytes = refl;
     version = refl;
@@ -80,7 +80,7 @@ has_moved z v one stream place kept grants grant more flat h m e r = record {
     arrivals = λ kernel i. (ways_reads kernel (own_stamp v kernel) (is_holder v kernel) (things v) (things w) (as_call carry) one
         (record { number_is = refl; goes_is = sym (ap (goes_of one.from) e); arrival_is = sym (ap arrival r); no_call = refl; no_again = λ g a. absurd (cc (a)); request_is = λ stamp q. absurd (cc (q)) }) (sym (ap asked_stream e)) (ap is_callback e) (call_in_things v one m)
         (subst (In (as_call carry)) (sym now) (in_left (as_call carry) (map as_call v.carried ++ as_call carry ∷ []) (without_call one.number v.calls) (last_in (as_call carry) (map as_call v.carried)))) back on).arrivals;
-    told = λ x n. elim (back x n) [ inl k ↦ inl (told_self x (things v) k) | inr q ↦ inr (subst (NewCall z h.stood v) (sym q) fresh) ];
+    told = λ x n. elim (back x n) [ inl k ↦ inl (told_self x (things v) k) | inr q ↦ inr (subst (NewCall z had.bytes v) (sym q) fresh) ];
     flushes = λ x n size blocks q. elim (on x n) [ inl k ↦ k | inr s ↦ absurd (cc (q, r, ap (λ (y : FileCall). y.reply) s)) ];
   });
 }
@@ -106,7 +106,7 @@ has_moved z v one stream place kept grants grant more flat h m e r = record {
       | inr b ↦ inl (subst (In x) (sym now) (middle_in x (as_call carry) (map as_call v.carried) (without_call one.number v.calls) (subst (In x) (sym (things_without v one u m)) (without_in one.number x (things v) n b.1))))
     ]
 
-    fresh : NewCall z h.stood v (as_call carry)
+    fresh : NewCall z had.bytes v (as_call carry)
     fresh = record {
       no_flush = λ size blocks q. cc (q);
       fetch = λ kernel i f stamp block q. absurd (cc (q));
@@ -123,9 +123,9 @@ kept_in : (b : Bool) (blocks : List Held) (one : Held) → In one (cond b blocks
 kept_in true blocks one m = (m, refl)
 kept_in false blocks one m = absurd m
 
-pub has_takes : (z : Setting) (v : View) (one : FileCall) (kernel : ℕ) (grant : FileGrant) (calls : List FileCall) (carried : List Carry) (streams : List StreamNo) → All z v → Brings v one kernel grant calls carried → IsClient (length v.clients) kernel → (grant.stamp ≤ own_stamp v kernel → Installed streams → Engaged kernel (own_stamp v kernel) (client v kernel).streams (things v)) → Has z (set_client (record v { calls = calls; carried = carried }) kernel (record (take_grant (client v kernel) grant) { streams = streams }))
-has_takes z v one kernel grant calls carried streams t b i brought = record {
-  stood = stood;
+pub has_takes : (z : Setting) (had : Noted) (v : View) (one : FileCall) (kernel : ℕ) (grant : FileGrant) (calls : List FileCall) (carried : List Carry) (streams : List StreamNo) → All z had v → Brings v one kernel grant calls carried → IsClient (length v.clients) kernel → (grant.stamp ≤ own_stamp v kernel → Installed streams → Engaged kernel (own_stamp v kernel) (client v kernel).streams (things v)) → Has z had (set_client (record v { calls = calls; carried = carried }) kernel (record (take_grant (client v kernel) grant) { streams = streams }))
+has_takes z had v one kernel grant calls carried streams t b i brought = record {
+  right = t.has.right;
   con = record {
     stands = stands_calls z stood (set_client v kernel d) x (stands_set z stood v kernel d con.stands i (record {
       size = λ y m q. (let o = was y m in (dirty_stays (record { one = y; there = o; dirty = q })).1 ∙ con.stands.dirty_size kernel i y o q);
@@ -150,7 +150,7 @@ has_takes z v one kernel grant calls carried streams t b i brought = record {
 }
   where
     stood : List ℕ
-    stood = t.has.stood
+    stood = had.bytes
 
     con : Con z stood v
     con = t.has.con
@@ -272,9 +272,9 @@ has_takes z v one kernel grant calls carried streams t b i brought = record {
         (λ block size piece k. too_old kernel (own_stamp v kernel) grant.stamp (things v) (low_own v t.full.standing.stamps kernel) l y m block size piece k))
 
 -- a callback is taken, and answered
-pub has_called : (z : Setting) (v : View) (one : FileCall) (stamp : ℕ) (kind : CallKind) → All z v → In one v.calls → one.body ≡ form.Callback stamp kind → one.taken ≡ false → one.reply ≡ None → IsClient (length v.clients) one.to → Has z (called_back z v one stamp kind)
-has_called z v one stamp kind t m e k n i = record {
-  stood = stood;
+pub has_called : (z : Setting) (had : Noted) (v : View) (one : FileCall) (stamp : ℕ) (kind : CallKind) → All z had v → In one v.calls → one.body ≡ form.Callback stamp kind → one.taken ≡ false → one.reply ≡ None → IsClient (length v.clients) one.to → Has z had (called_back z v one stamp kind)
+has_called z had v one stamp kind t m e k n i = record {
+  right = t.has.right;
   con = record {
     stands = record {
       dirty_size = λ other j. by_kernel (λ x. IsClient (length v.clients) x → (y : Held) → In y (client w x).blocks → is_some y.dirty ≡ true → (client w x).size ≡ length stood) source other
@@ -317,7 +317,7 @@ has_called z v one stamp kind t m e k n i = record {
 }
   where
     stood : List ℕ
-    stood = t.has.stood
+    stood = had.bytes
 
     con : Con z stood v
     con = t.has.con

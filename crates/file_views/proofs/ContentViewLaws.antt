@@ -1,5 +1,5 @@
 -- What blocks contain, the eighth layer of soundness, said of a view, under the changes of calls and of a client.
-use Rattle.std.proofs.Common.{◌≡◌, ◌≢◌, ◌≤◌, ◌<◌, ◌⊎◌, ℕ, ◌-◌, ◌==◌, true, false, is_some, List, [], ◌∷◌, length, Some, refl, sym, ap, ◌∙◌, subst, inl, inr, arith, slice_index_or}
+use Rattle.std.proofs.Common.{◌≡◌, ◌≢◌, ◌≤◌, ◌<◌, ◌⊎◌, ℕ, ◌-◌, ◌==◌, Bool, true, false, ◌&&◌, is_some, List, [], ◌∷◌, length, Some, refl, sym, ap, ◌∙◌, subst, inl, inr, arith, slice_index_or}
 use Rattle.std.proofs.lemmas.Bool.Decides.{eqb_tells}
 use Rattle.sprite_ids.specs.declared.BlockNo.{BlockNo}
 use Rattle.file_views.specs.declared.body.FileBody.{FileBody}
@@ -12,6 +12,7 @@ use Rattle.file_views.specs.Setting.{Setting}
 use Rattle.file_views.specs.Contents.{part}
 use Rattle.file_views.specs.Clients.{new_client}
 use Rattle.file_views.specs.Views.{client, set_client, current_stamp, is_holder, is_callback, things}
+use Rattle.file_views.specs.Entries.{Entered, bytes_entered, is_right}
 use Rattle.file_views.specs.Here.{In, IsClient, Answered, request_stamp}
 use Rattle.file_views.specs.SoundShapes.{Ends}
 use Rattle.file_views.specs.SoundHolders.{Ready}
@@ -35,10 +36,18 @@ pub record Con (z : Setting) (stood : List ℕ) (v : View) : Type 0 where
   pub carried : (kernel : ℕ) → IsClient (length v.clients) kernel → (one : FileCall) → In one (things v) → CarriedCall z kernel (current_stamp v kernel) (client v kernel) v.bytes one
   pub low : (kernel : ℕ) → IsClient (length v.clients) kernel → Low kernel (current_stamp v kernel) (things v)
 
--- there are such bytes
-pub record Has (z : Setting) (v : View) : Type 0 where
-  pub stood : List ℕ
-  pub con : Con z stood v
+-- the bytes with all that entered so far, and whether it was right
+pub record Noted : Type 0 where
+  pub bytes : List ℕ
+  pub right : Bool
+
+abbrev pub note : Setting → Noted → Entered → Noted
+note z had one = record { bytes = bytes_entered z had.bytes one.step; right = had.right && is_right z had.bytes one.step one.reply }
+
+-- it was, and the view stands for these bytes
+pub record Has (z : Setting) (had : Noted) (v : View) : Type 0 where
+  pub right : had.right ≡ true
+  pub con : Con z had.bytes v
 
 -- a call that is new, or answered
 pub record NewCall (z : Setting) (stood : List ℕ) (v : View) (one : FileCall) : Type 0 where

@@ -90,7 +90,7 @@ layers_move z v (move.Look kernel) e l = layers_moved z v (move.Look kernel) e (
 layers_move z v (move.Zeros kernel block) e l = layers_moved z v (move.Zeros kernel block) e (λ q. absurd (cc (q))) l
 layers_move z v (move.Raise version) e l = layers_moved z v (move.Raise version) e (λ q. absurd (cc (q))) l
 
-layers_happened : (z : Setting) (v : View) (one : Happening) → Layers z v → Layers z (happened z v one)
+pub layers_happened : (z : Setting) (v : View) (one : Happening) → Layers z v → Layers z (happened z v one)
 layers_happened z v (Step step) l = record {
   shapes = steps_keep_shapes z v step l.shapes;
   streams = steps_keep_streams z v step l.shapes l.streams;
@@ -122,7 +122,7 @@ layers_stay z count bytes happenings low high = layers_all z happenings (new_vie
 })
 
 -- the limit
-limits_happened : (z : Setting) (v : View) (one : Happening) → Layers z v → EachLimited z v → EachLimited z (happened z v one)
+pub limits_happened : (z : Setting) (v : View) (one : Happening) → Layers z v → EachLimited z v → EachLimited z (happened z v one)
 limits_happened z v (Step step) l f = steps_keep_limits z v step l.shapes l.streams l.stamps l.decisions l.modes l.holders l.asking l.write_backs f
 limits_happened z v (Move other) l f = choose_by (EachLimited z) (may_move z v other) (after_move z v other) v (λ e. moves_keep_limits z v other e l.shapes l.streams l.stamps l.decisions l.modes l.holders l.asking l.write_backs f) (λ e. f)
 
@@ -146,7 +146,7 @@ pub contents_together : (z : Setting) (count : ℕ) (bytes : List ℕ) (happenin
 contents_together z count bytes happenings low high p = contents_all z happenings (new_view count bytes) p (layers_stay z count bytes [] low high) (new_has_contents z count bytes)
 
 -- while callbacks are out what asked waits
-waits_so : (z : Setting) (v : View) → Layers z v → (b : Bool) → busy v ≡ b → asking_waits v ≡ true
+pub waits_so : (z : Setting) (v : View) → Layers z v → (b : Bool) → busy v ≡ b → asking_waits v ≡ true
 waits_so z v l true e = ap (λ b. implies b (first_asks (waiting_calls v))) e ∙ l.decisions.queued.asks e
 waits_so z v l false e = ap (λ b. implies b (first_asks (waiting_calls v))) e
 

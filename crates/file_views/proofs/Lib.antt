@@ -50,6 +50,9 @@ pub mod WayLaws
 pub mod WorkLaws
 pub mod PartLaws
 pub mod PresentLaws
+pub mod SettledLaws
+pub mod EnterLaws
+pub mod SoundLaws
 pub mod ServeLaws
 pub mod WritingLaws
 pub mod WritingStepLaws
@@ -59,6 +62,7 @@ pub mod SizeServeLaws
 pub mod SizeMoveLaws
 pub mod LimitLaws
 pub mod BytesLaws
+pub mod ReplyLaws
 pub mod ContentLaws
 pub mod ContentViewLaws
 pub mod ContentServeLaws

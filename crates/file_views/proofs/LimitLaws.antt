@@ -52,9 +52,9 @@ use Rattle.file_views.proofs.HolderSettleLaws.{settled_calls}
 use Rattle.file_views.proofs.AskingStepLaws.{FlatAsking}
 use Rattle.file_views.proofs.AskingMoveLaws.{flat_asking}
 use Rattle.file_views.proofs.BlockLaws.{in_with_block, in_written, in_between}
-use Rattle.file_views.proofs.WorkLaws.{Works}
+use Rattle.file_views.proofs.WorkLaws.{Works, unnoted}
 use Rattle.file_views.proofs.PartLaws.{Parts, part_after, part_move}
-use Rattle.file_views.proofs.ServeLaws.{Serves, serves_request}
+use Rattle.file_views.proofs.ServeLaws.{Serves, serves_notes, serves_request}
 use Rattle.file_views.proofs.WritingStepLaws.{FlatWriting}
 use Rattle.file_views.proofs.WritingMoveLaws.{flat_writing, is_within}
 use Rattle.file_views.proofs.SizeLaws.{length_grown, length_overlay}
@@ -418,7 +418,7 @@ limits_parts z = record {
       limits_set z (remove_call v one.number) one.from (fill z (client v one.from) other block piece) (limits_removed z v one t.limits) i (limits_filled z (client v one.from) other block piece (t.limits.clients one.from i) (λ q. (t.asking one.from i).fetch_within one (call_in_things v one m) refl stamp block e (sym same ∙ q)));
   again = λ v one stamp grant t m e r i. limits_takes z v (remove_call v one.number) one.from grant (take_grant (client v one.from) grant).streams (limits_removed z v one t.limits) refl i (subst (λ o. granted_size o ≤ z.most) r (t.limits.calls one (call_in_things v one m)).granted);
   done = λ v one stamp block size piece t m e r i. let w : Within z (client v one.from) = t.limits.clients one.from i in limits_set z (remove_call v one.number) one.from (wrote_back (client v one.from) stamp block.0 one.dirty) (limits_removed z v one t.limits) i (record { size = w.size; blocks = within_back z (client v one.from).blocks one.dirty (stamp == (client v one.from).stamp) block.0 (held (client v one.from).blocks block.0) refl w.blocks; waiting = w.waiting });
-  flushed = λ v one stamp kind size blocks t m e r i. flushed_all z (FlatLimits z) (FlatLimits z) (serves_limits z) v one stamp kind size blocks t.standing t.holders m e r i (λ answering.
+  flushed = λ v one stamp kind size blocks t m e r i. flushed_all z (Unit {0}) unnoted (λ had. FlatLimits z) (λ had. FlatLimits z) (serves_notes z (FlatLimits z) (FlatLimits z) (serves_limits z)) tt v one stamp kind size blocks t.standing t.holders m e r i (λ answering.
       let b : Bounded z one = t.limits.calls one (call_in_things v one m) in
       let f : FlatLimits z (remove_call v one.number) = limits_removed z v one t.limits in
       record { bytes = stored_limit z size blocks v.bytes t.limits.bytes (b.flushed size blocks r) (b.flushed_blocks size blocks r); clients = f.clients; calls = f.calls });

@@ -1,5 +1,5 @@
 -- The bytes that a view stands for are those that it presents.
-use Rattle.std.proofs.Common.{take, ◌≡◌, ◌⊎◌, ℕ, true, false, List, [], ◌∷◌, length, Some, refl, sym, ap, ◌∙◌, subst, inl, inr, arith, ◌≤◌, ◌<◌, is_some, Option, None, ◌-◌, ◌*◌, ◌/◌, ◌++◌, map, length-take, ◌+◌, append-nil, get_or, ◌%◌}
+use Rattle.std.proofs.Common.{take, ◌≡◌, ◌⊎◌, ℕ, true, false, List, [], ◌∷◌, length, Some, refl, sym, ap, ◌∙◌, subst, inl, inr, arith, ◌≤◌, ◌<◌, is_some, Option, None, ◌-◌, ◌*◌, ◌++◌, map, length-take, ◌+◌, append-nil, get_or}
 use Rattle.sprite_ids.specs.declared.BlockNo.{BlockNo}
 use Rattle.file_views.specs.declared.body.FileBody.{FileBody}
 use Rattle.file_views.specs.declared.body.FileBody.TheVariants as form
@@ -16,49 +16,38 @@ use Rattle.file_views.specs.SoundContents.{GoodContents, StandsFor, DirtyBlock, 
 use Rattle.file_views.proofs.StampLaws.{only_call}
 use Rattle.file_views.proofs.SizeMoveLaws.{Full, full_of}
 use Rattle.file_views.proofs.ContentViewLaws.{Con, ready_block, Leans, flushed_target}
+use Rattle.file_views.proofs.ContentServeLaws.{served_bytes}
 use Rattle.file_views.specs.LayerLaw.{Layers}
 use Rattle.file_views.proofs.ContentPartLaws.{con_of}
 use Rattle.file_views.specs.Streams.{is_any}
 use Rattle.file_views.proofs.MemberLaws.{filter_in, in_map, Made, map_in, in_filter}
 use Rattle.file_views.specs.Serving.{store_blocks}
 use Rattle.file_views.proofs.EffectLaws.{call_in_things, same_thing}
-use Rattle.file_views.proofs.SizeServeLaws.{flush_called, op_uncached, idle_off}
+use Rattle.file_views.proofs.SizeServeLaws.{flush_called}
 use Rattle.file_views.proofs.HolderSettleLaws.{holder_is}
 use Rattle.file_views.proofs.SizeLaws.{length_put, length_grown}
-use Rattle.file_views.proofs.BytesLaws.{part_same, grown_byte, part_byte}
+use Rattle.file_views.proofs.BytesLaws.{by_parts, part_same, grown_byte}
 use Rattle.file_views.proofs.ContentGrantLaws.{PieceAt, stored_part, length_stored}
 use Rattle.file_views.proofs.ContentMoveLaws.{leans_of}
-use Rattle.std.proofs.lemmas.List.{take_all, ext_get_or}
-use Rattle.std.proofs.lemmas.Nat.{mod_below, div-add-mod'}
+use Rattle.std.proofs.lemmas.List.{take_all}
 use Rattle.file_views.specs.declared.body.Access.{Access}
-use Rattle.file_views.proofs.StampChangeLaws.{NoCall, no_call_thing}
 use Rattle.file_views.proofs.StampServeLaws.{idle}
 use Rattle.sprite_ids.specs.declared.StreamNo.{StreamNo}
 
--- bytes of one length with the same blocks are the same
-by_parts : (z : Setting) (xs ys : List ℕ) → 0 < z.block → length xs ≡ length ys → ((number : ℕ) → part z xs number ≡ part z ys number) → xs ≡ ys
-by_parts z xs ys p l f = ext_get_or 0 xs ys l (λ i h. at i)
-  where
-    at : (i : ℕ) → get_or xs i 0 ≡ get_or ys i 0
-    at i =
-        let r : i % z.block < z.block = mod_below i z.block p in
-        let e : i ≡ i / z.block * z.block + i % z.block = sym (div-add-mod' i z.block) in
-        ap (λ k. get_or xs k 0) e ∙ (sym (part_byte z xs (i / z.block) (i % z.block) r) ∙ (ap (λ b. get_or b (i % z.block) 0) (f (i / z.block)) ∙ (part_byte z ys (i / z.block) (i % z.block) r ∙ ap (λ k. get_or ys k 0) (sym e))))
-
 -- the first answer to a callback that has blocks, or none
-record FirstFlush (z : Setting) (bytes : List ℕ) (calls : List FileCall) : Type 0 where
-  call : FileCall
-  there : In call calls
-  size : ℕ
-  piece : BlockNo × List ℕ
-  rest : List (BlockNo × List ℕ)
-  replied : call.reply ≡ Some (form.Flushed size (piece ∷ rest))
-  is : first_flushed z bytes calls ≡ Some (store_blocks z bytes size (piece ∷ rest))
+pub record FirstFlush (z : Setting) (bytes : List ℕ) (calls : List FileCall) : Type 0 where
+  pub call : FileCall
+  pub there : In call calls
+  pub size : ℕ
+  pub piece : BlockNo × List ℕ
+  pub rest : List (BlockNo × List ℕ)
+  pub replied : call.reply ≡ Some (form.Flushed size (piece ∷ rest))
+  pub is : first_flushed z bytes calls ≡ Some (store_blocks z bytes size (piece ∷ rest))
 
 abbrev pub NoneFlushed : List FileCall → Type 0
 NoneFlushed calls = (one : FileCall) → In one calls → (size : ℕ) (blocks : List (BlockNo × List ℕ)) → one.reply ≡ Some (form.Flushed size blocks) → is_any blocks ≡ false
 
-flush_found : (z : Setting) (bytes : List ℕ) (calls : List FileCall) → ((first_flushed z bytes calls ≡ None) × NoneFlushed calls) ⊎ FirstFlush z bytes calls
+pub flush_found : (z : Setting) (bytes : List ℕ) (calls : List FileCall) → ((first_flushed z bytes calls ≡ None) × NoneFlushed calls) ⊎ FirstFlush z bytes calls
 flush_found z bytes [] = inl (refl, λ one m. absurd m)
 flush_found z bytes (c ∷ cs) = by_reply c.reply refl (flush_found z bytes cs)
   where
@@ -76,13 +65,13 @@ flush_found z bytes (c ∷ cs) = by_reply c.reply refl (flush_found z bytes cs)
     by_reply None r h = skip (ap (λ o. or_else (flushed_bytes z bytes o) (first_flushed z bytes cs)) r) (λ other blocks q. absurd (cc (r, q))) h
 
 -- dirty blocks over bytes of their size are stored as an answer's blocks are
-grown_full : (bytes : List ℕ) (size : ℕ) → length bytes ≡ size → grown bytes size ≡ bytes
+pub grown_full : (bytes : List ℕ) (size : ℕ) → length bytes ≡ size → grown bytes size ≡ bytes
 grown_full bytes size e = ap (λ n. bytes ++ zeros n) (gap e) ∙ append-nil bytes
   where
     gap : length bytes ≡ size → size - length bytes ≡ 0
     gap e = omega (arith, e)
 
-over_store : (z : Setting) (size : ℕ) (blocks : List Held) (bytes : List ℕ) → length bytes ≡ size → ((one : Held) → In one blocks → one.block.0 * z.block + length (cut z one.bytes one.block.0 size) ≤ size) → over_blocks z size blocks bytes ≡ store_blocks z bytes size (map (λ (one : Held). (one.block, cut z one.bytes one.block.0 size)) blocks)
+pub over_store : (z : Setting) (size : ℕ) (blocks : List Held) (bytes : List ℕ) → length bytes ≡ size → ((one : Held) → In one blocks → one.block.0 * z.block + length (cut z one.bytes one.block.0 size) ≤ size) → over_blocks z size blocks bytes ≡ store_blocks z bytes size (map (λ (one : Held). (one.block, cut z one.bytes one.block.0 size)) blocks)
 over_store z size [] bytes e w = refl
 over_store z size (one ∷ rest) bytes e w =
     let same : overlay bytes (one.block.0 * z.block) (cut z one.bytes one.block.0 size) ≡ put_block z bytes one.block.0 size (cut z one.bytes one.block.0 size) = ap (λ xs. overlay xs (one.block.0 * z.block) (cut z one.bytes one.block.0 size)) (sym (grown_full bytes size e)) in
@@ -238,27 +227,7 @@ good_contents_by z v l p f kernel i = subst (λ xs. LocalContents z xs (at_kerne
 
 -- an operation that the server takes up finds those bytes there
 pub served_by : (z : Setting) (v : View) → Layers z v → 0 < z.block → StandsFor z v → busy v ≡ false → (one : FileCall) → In one v.calls → one.reply ≡ None → (pid number : ℕ) (stream : StreamNo) (way : Access) → one.body ≡ form.Op pid number (current_stamp v one.from) stream way → v.bytes ≡ present_bytes z v
-served_by z v l p f q one m r pid number stream way e = by_parts z v.bytes f.stood p size (λ n. part_here n (f.stands.rest n)) ∙ sym (present_by z v l p f)
+served_by z v l p f q one m r pid number stream way e = served_bytes z f.stood v one pid number stream way p (record { both = record { flat = t.standing.flat; streams = t.standing.streams }; stamps = t.standing.stamps; ruled = t.standing.decided.ruled; modes = t.standing.modes; holders = t.holders; there = m; unanswered = r; none = idle v q }) e t.asking (con_of z v t.standing.stamps f) ∙ sym (present_by z v l p f)
   where
     t : Full z v
     t = full_of z v l.shapes l.streams l.stamps l.decisions l.modes l.holders l.asking l.write_backs l.sizes
-
-    none : NoCall v
-    none = idle v q
-
-    uncached : v.uncached ≡ true
-    uncached = op_uncached z v one pid number stream way (record { both = record { flat = t.standing.flat; streams = t.standing.streams }; stamps = t.standing.stamps; ruled = t.standing.decided.ruled; modes = t.standing.modes; holders = t.holders; there = m; unanswered = r; none = none }) e t.asking
-
-    clean : (kernel : ℕ) → IsClient (length v.clients) kernel → (held_one : Held) → In held_one (client v kernel).blocks → is_some held_one.dirty ≡ true → ⊥
-    clean kernel i held_one n d = idle_off v t.standing.modes t.standing.decided.ruled none uncached kernel i ((t.holders.each kernel i).dirty_ready held_one n d).on
-
-    unflushed : (x : FileCall) → In x (things v) → (many : ℕ) (blocks : List (BlockNo × List ℕ)) → x.reply ≡ Some (form.Flushed many blocks) → ⊥
-    unflushed x n many blocks y = no_call_thing v none x n (flush_called v t.standing.flat x n many blocks y)
-
-    size : length v.bytes ≡ length f.stood
-    size = elim f.stands.size [ inl d ↦ absurd (clean d.kernel d.is_client d.one d.there d.dirty) | inr o ↦ elim o [ inl s ↦ absurd (unflushed s.call s.there s.size s.blocks s.replied) | inr e ↦ e ] ]
-
-    part_here : (n : ℕ) → DirtyBlock v n ⊎ (FlushedBlock v n ⊎ (part z v.bytes n ≡ part z f.stood n)) → part z v.bytes n ≡ part z f.stood n
-    part_here n (inl d) = absurd (clean d.kernel d.is_client d.one d.there d.dirty)
-    part_here n (inr (inl g)) = absurd (unflushed g.call g.there g.size g.blocks g.replied)
-    part_here n (inr (inr e)) = e

@@ -60,9 +60,10 @@ use Rattle.file_views.proofs.HolderStepLaws.{no_arrival}
 use Rattle.file_views.proofs.AskingStepLaws.{FlatAsking, asking_quiet}
 use Rattle.file_views.proofs.AskingMoveLaws.{flat_asking, quiet_calls}
 use Rattle.file_views.proofs.DataLaws.{alike_done}
-use Rattle.file_views.proofs.WorkLaws.{Works}
+use Rattle.file_views.proofs.WorkLaws.{noted, unnoted, Works}
 use Rattle.file_views.proofs.PartLaws.{Parts, part_after, part_move}
-use Rattle.file_views.proofs.ServeLaws.{Serves, serves_flushed, serves_request}
+use Rattle.file_views.specs.Entries.{Entered, enters_flush}
+use Rattle.file_views.proofs.ServeLaws.{ServeNotes, notes_flushed, serves_notes, serves_request}
 use Rattle.file_views.proofs.WritingLaws.{Keeps, keeps_same, keeps_filled, keeps_dropped, keeps_back, keeps_done}
 use Rattle.file_views.proofs.WritingStepLaws.{FlatWriting, calm_calls, low_own, writing_calm, keeps_fill, Writes, numbers_under, writing_works}
 use Rattle.file_views.proofs.WritingMoveLaws.{Wrote, flat_writing, removed_writing, no_other_back, writing_parts, none_of, is_absent}
@@ -325,8 +326,8 @@ sizes_called z v one stamp kind t m e k n i other j = subst (SizeFacts z other v
         ways = ways_answer v other (own_stamp v other) (is_holder v other) one (form.Flushed (client v source).size blocks) t.standing.flat.numbered.differ there n refl (λ b g. p (sym g))
 
 -- an answer to a callback comes: it is stored, and what waits is taken up
-pub flushed_all : (z : Setting) (X Y : View → Type 0) → Serves z X Y → (v : View) (one : FileCall) (stamp : ℕ) (kind : CallKind) (size : ℕ) (blocks : List (BlockNo × List ℕ)) → Standing z v → FlatHolders v → In one v.calls → one.body ≡ form.Callback stamp kind → one.reply ≡ Some (form.Flushed size blocks) → IsClient (length v.clients) one.to → (Answering v one stamp kind → X (answered_view v one (store_blocks z v.bytes size blocks))) → Y (callback_answered z v one size blocks)
-flushed_all z X Y s v one stamp kind size blocks t holders m e r i x =
+pub flushed_all : (z : Setting) (I : Type 0) (note : I → Entered → I) (X Y : I → View → Type 0) → ServeNotes z I note X Y → (had : I) (v : View) (one : FileCall) (stamp : ℕ) (kind : CallKind) (size : ℕ) (blocks : List (BlockNo × List ℕ)) → Standing z v → FlatHolders v → In one v.calls → one.body ≡ form.Callback stamp kind → one.reply ≡ Some (form.Flushed size blocks) → IsClient (length v.clients) one.to → (Answering v one stamp kind → X had (answered_view v one (store_blocks z v.bytes size blocks))) → Y (noted note had (enters_flush z v one (Some (form.Flushed size blocks)))) (callback_answered z v one size blocks)
+flushed_all z I note X Y s had v one stamp kind size blocks t holders m e r i x =
     let u : View = record v { bytes = store_blocks z v.bytes size blocks; holder = holder_answered v one.to } in
     let w : View = remove_call u one.number in
     let h : Holds v w = holds_server v w refl refl refl refl refl in
@@ -341,14 +342,14 @@ flushed_all z X Y s v one stamp kind size blocks t holders m e r i x =
           let next : Asking z w = asking_more z v w h [] more (λ y j c. back_self v.calls y (in_without one.number y v.calls j).0) b.1 in
           let first : next.first ∷ next.rest ≡ b.1.first ∷ b.1.rest = sym next.waiting ∙ (waiting ∙ b.1.waiting) in
           let answering : Answering v one stamp kind = record { flat = t.flat; stamps = t.stamps; modes = t.modes; holders = holders; ruled = t.decided.ruled; there = m; is_call = e; taken = k } in
-          serves_flushed z X Y s v one (store_blocks z v.bytes size blocks) stamp kind answering i b.1 both
+          notes_flushed z I note X Y s had v one (store_blocks z v.bytes size blocks) stamp kind answering i b.1 both
           (stamps_remove u one t.flat.numbered.differ m (stamps_same v u refl refl refl refl refl refl t.stamps))
           next (same_first next.first b.1.first next.rest b.1.rest first)
           (modes_finished z v one t m k (ap asks e)).modes (x answering))
     ]
 
 sizes_answered : (z : Setting) (v : View) (one : FileCall) (stamp : ℕ) (kind : CallKind) (size : ℕ) (blocks : List (BlockNo × List ℕ)) → Full z v → In one v.calls → one.body ≡ form.Callback stamp kind → one.reply ≡ Some (form.Flushed size blocks) → IsClient (length v.clients) one.to → FlatSizes z (callback_answered z v one size blocks)
-sizes_answered z v one stamp kind size blocks t m e r i = let w : View = answered_view v one (store_blocks z v.bytes size blocks) in flushed_all z (Sized z) (FlatSizes z) (serves_sizes z) v one stamp kind size blocks t.standing t.holders m e r i (λ answering. record {
+sizes_answered z v one stamp kind size blocks t m e r i = let w : View = answered_view v one (store_blocks z v.bytes size blocks) in flushed_all z (Unit {0}) unnoted (λ had. Sized z) (λ had. FlatSizes z) (serves_notes z (Sized z) (FlatSizes z) (serves_sizes z)) tt v one stamp kind size blocks t.standing t.holders m e r i (λ answering. record {
   asking = asking_quiet z v w t.asking (quiet_calls v w refl (λ x j. (in_without one.number x v.calls j).0)) t.standing.flat.items.fifteen;
   writing = writing_calm z v w t.writing t.standing.stamps (calm_calls v w refl refl (λ x j. (in_without one.number x v.calls j).0)) t.standing.flat.items.fifteen;
   sizes = sizes_flushed z v one stamp kind size blocks answering r t.standing.streams t.sizes i;

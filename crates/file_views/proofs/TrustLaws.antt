@@ -134,12 +134,12 @@ left_from c (CallComes stamp kind ∷ rest) s d one m = by_test (nat_le stamp c.
     by_test false q f k = left_called c stamp kind rest (take_all (take_callback c stamp kind) rest).version one (leb-false stamp c.stamp q) s.0 d (f (take_callback c stamp kind) k)
 
 -- what is due came with calls
-record GrantFrom (v : View) (kernel : ℕ) (grant : FileGrant) : Type 0 where
-  call : FileCall
-  there : In call (things v)
-  arrives : Arrives kernel call grant
+pub record GrantFrom (v : View) (kernel : ℕ) (grant : FileGrant) : Type 0 where
+  pub call : FileCall
+  pub there : In call (things v)
+  pub arrives : Arrives kernel call grant
 
-grant_from : (v : View) (kernel : ℕ) (grant : FileGrant) → In (GrantComes grant) (dues v kernel) → GrantFrom v kernel grant
+pub grant_from : (v : View) (kernel : ℕ) (grant : FileGrant) → In (GrantComes grant) (dues v kernel) → GrantFrom v kernel grant
 grant_from v kernel grant m =
     let r : DueFrom kernel (things v) (GrantComes grant) = dues_from kernel (things v) (GrantComes grant) (in_ordered (dues_in kernel (things v)) (GrantComes grant) m) in
     elim (in_join (GrantComes grant) (due_grant (goes_to r.call == kernel) (arrival r.call.reply)) (due_call ((r.call.to == kernel) && not r.call.taken) r.call.body) r.due) [

@@ -12,7 +12,8 @@ use Rattle.file_views.specs.Views.{new_view, busy, current_stamp}
 use Rattle.file_views.specs.Here.{In}
 use Rattle.file_views.specs.Possible.{stepped}
 use Rattle.file_views.specs.Moves.{may_move, after_move}
-use Rattle.file_views.specs.Coherent.{part_2, part_3, part_4, part_5, part_6, asking_waits}
+use Rattle.file_views.specs.Settled.{stands_for}
+use Rattle.file_views.specs.Coherent.{part_2, part_3, part_4, part_5, part_6, asking_waits, coherent}
 use Rattle.file_views.specs.SoundShapes.{Shapes}
 use Rattle.file_views.specs.SoundStreams.{Streams}
 use Rattle.file_views.specs.SoundStamps.{Stamps}
@@ -66,3 +67,8 @@ pub record PartsStay : Type 0 where
   pub waits : (z : Setting) (count : ℕ) (bytes : List ℕ) (happenings : List Happening) → 1 ≤ count → count ≤ 15 → asking_waits (all_happened z (new_view count bytes) happenings) ≡ true
   pub cached : (z : Setting) (count : ℕ) (bytes : List ℕ) (happenings : List Happening) → 1 ≤ count → count ≤ 15 → (f : StandsFor z (all_happened z (new_view count bytes) happenings)) → part_2 z (all_happened z (new_view count bytes) happenings) f.stood ≡ true
   pub on_the_way : (z : Setting) (count : ℕ) (bytes : List ℕ) (happenings : List Happening) → 1 ≤ count → count ≤ 15 → (f : StandsFor z (all_happened z (new_view count bytes) happenings)) → part_5 z (all_happened z (new_view count bytes) happenings) f.stood ≡ true
+
+-- all of it: what the settled view stands for are the bytes that the view presents, and with them the view is coherent
+pub record CoherenceStays : Type 0 where
+  pub settles : (z : Setting) (count : ℕ) (bytes : List ℕ) (happenings : List Happening) → 1 ≤ count → count ≤ 15 → 0 < z.block → stands_for z (all_happened z (new_view count bytes) happenings) ≡ present_bytes z (all_happened z (new_view count bytes) happenings)
+  pub whole : (z : Setting) (count : ℕ) (bytes : List ℕ) (happenings : List Happening) → 1 ≤ count → count ≤ 15 → 0 < z.block → coherent z (all_happened z (new_view count bytes) happenings) (present_bytes z (all_happened z (new_view count bytes) happenings)) ≡ true

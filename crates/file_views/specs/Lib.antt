@@ -31,6 +31,8 @@ pub mod DecisionLaw
 pub mod ModeLaw
 pub mod HolderLaw
 pub mod LayerLaw
+pub mod BytesLaw
+pub mod SoundLaw
 pub mod AskingLaw
 pub mod WritingLaw
 pub mod SizeLaw

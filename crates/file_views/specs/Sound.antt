@@ -8,7 +8,7 @@ use Rattle.file_views.specs.SoundDecisions.{Decisions}
 use Rattle.file_views.specs.SoundModes.{Modes}
 use Rattle.file_views.specs.SoundHolders.{Holders}
 use Rattle.file_views.specs.SoundRequests.{Requests}
-use Rattle.file_views.specs.SoundContents.{GoodContents}
+use Rattle.file_views.specs.SoundContents.{StandsFor}
 
 -- eight layers, each of which leans on those before it
 pub record Sound (z : Setting) (v : View) : Type 0 where
@@ -19,4 +19,4 @@ pub record Sound (z : Setting) (v : View) : Type 0 where
   pub modes : Modes v
   pub holders : Holders v
   pub requests : Requests z v
-  pub contents : GoodContents z v
+  pub contents : StandsFor z v

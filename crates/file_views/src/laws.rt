@@ -1,12 +1,14 @@
 ghost use Rattle.file_views.specs.AskingLaw.{AskingStay};
+ghost use Rattle.file_views.specs.BytesLaw.{BytesStay};
 ghost use Rattle.file_views.specs.ContentLaw.{ContentsStay};
 ghost use Rattle.file_views.specs.DecisionLaw.{DecisionsStay};
 ghost use Rattle.file_views.specs.HolderLaw.{HoldersStay};
-ghost use Rattle.file_views.specs.LayerLaw.{LayersStay, PartsStay};
+ghost use Rattle.file_views.specs.LayerLaw.{CoherenceStays, LayersStay, PartsStay};
 ghost use Rattle.file_views.specs.LimitLaw.{LimitsStay};
 ghost use Rattle.file_views.specs.ModeLaw.{ModesStay};
 ghost use Rattle.file_views.specs.ShapeLaw.{ShapesStay};
 ghost use Rattle.file_views.specs.SizeLaw.{SizesStay};
+ghost use Rattle.file_views.specs.SoundLaw.{SoundStays};
 ghost use Rattle.file_views.specs.StampLaw.{StampsStay};
 ghost use Rattle.file_views.specs.StreamLaw.{StreamsStay};
 ghost use Rattle.file_views.specs.WritingLaw.{WritingBacksStay};
@@ -78,6 +80,31 @@ pub fn layers_stay()
 /// of them, a write-back carries its block and once it is done the server has it, and what is older changes nothing.
 pub fn parts_stay()
     ensures { PartsStay }
+{}
+
+/// A law: after any list of steps and of moves of clients, from a new file with one to fifteen clients on, where a block has at least
+/// one byte, the view is coherent with the bytes that it presents, in all seven parts; so the view in which nothing is on its way
+/// any more has them too: the holder's dirty blocks over the server's bytes, at its size where it has any, or else the server's
+/// bytes.
+pub fn coherence_stays()
+    ensures { CoherenceStays }
+{}
+
+/// A law: from a new file with one to fifteen clients on, where a block has at least one byte, each step and each move of a client
+/// changes the bytes that the view stands for by exactly what enters in it: a writing's bytes at its place, an append's at the end
+/// where they fit, a truncation to nothing, and nothing else. Each reading that enters has the bytes of its moment, and an append is
+/// refused exactly where it would pass the most that a file may have. So after any list of them the bytes are the first ones as all
+/// that entered changed them, and the view is coherent with these before and after each.
+pub fn bytes_stay()
+    ensures { BytesStay }
+{}
+
+/// A law over any sound view, reached or not, where a block has at least one byte: it is coherent with the bytes that it stands for;
+/// each step and each move of a client leads to a sound view, whose bytes are the old ones changed by what enters; and all that
+/// enters is right. So it is for steps in a row, whose bytes are the first ones as all that entered changed them. A new file with one to
+/// fifteen clients that isn't longer than a file may be is sound, and stands for its bytes.
+pub fn sound_stays()
+    ensures { SoundStays }
 {}
 
 /// A law: in a new file and after any steps and moves of clients, a client that doesn't use its cache has no block; it has one unfinished

@@ -19,8 +19,9 @@ pub use call::{Carry, FileCall};
 pub use client::{Client, Held};
 pub use grant::FileGrant;
 pub use laws::{
-    asking_stays, contents_stay, decisions_stay, holders_stay, layers_stay, limits_stay,
-    modes_stay, parts_stay, shapes_stay, sizes_stay, stamps_stay, streams_stay, write_backs_stay,
+    asking_stays, bytes_stay, coherence_stays, contents_stay, decisions_stay, holders_stay,
+    layers_stay, limits_stay, modes_stay, parts_stay, shapes_stay, sizes_stay, sound_stays,
+    stamps_stay, streams_stay, write_backs_stay,
 };
 pub use moves::ClientMove;
 pub use opens::Open;
