@@ -30,7 +30,7 @@ pub fn put_line(alloc: Global, out: &mut Vec<u8>, entry: &Entry) -> Result<(), F
 
 /// Puts what an entry tells beside its process and its number. NotPrinted comes exactly where these parts don't belong
 /// together. After an error a part of the print may be there.
-fn put_told(
+pub fn put_told(
     alloc: Global,
     out: &mut Vec<u8>,
     part: Part,

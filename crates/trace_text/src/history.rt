@@ -1,0 +1,52 @@
+ghost use Rattle.std.specs.Prelude.{◌≡◌, IfOk};
+ghost use Rattle.history_text.specs.Calls.{call_format, reply_format};
+ghost use Rattle.history_text.specs.Entries.{entry, told_shape};
+
+use crate::field::TraceField;
+use history_text::{Field, FieldEnd, put_told};
+use process_machine::{Call, Reply};
+use sprite_ids::NoMemory;
+use std::alloc::Global;
+use unix_calls::Entry;
+
+impl TraceField for Call {
+    ghost printed = { call_format.printed };
+
+    fn put_field(&self, alloc: Global, out: &mut Vec<u8>) -> Result<(), NoMemory> {
+        self.put(alloc, out)
+    }
+}
+
+impl TraceField for Reply {
+    ghost printed = { reply_format.printed };
+
+    fn put_field(&self, alloc: Global, out: &mut Vec<u8>) -> Result<(), NoMemory> {
+        self.put(alloc, out)
+    }
+}
+
+/// An entry is printed as in a history, without byte 10. Where its parts don't belong together, nothing stands behind its
+/// number and a space.
+impl TraceField for Entry {
+    ghost printed = { entry.printed };
+
+    fn put_field(&self, alloc: Global, out: &mut Vec<u8>) -> Result<(), NoMemory> {
+        (self.pid, self.number).put(alloc, out)?;
+        out.push(b' ')?;
+        let told = told(alloc, self)?;
+        Ok(out.extend_from_slice(told.as_slice())?)
+    }
+}
+
+// What an entry tells beside its process and its number; nothing where its parts don't belong together.
+#[tactic(auto, using(crate::proofs::ToldLaws::tells_nothing))]
+fn told(alloc: Global, entry: &Entry) -> Result<Vec<u8>, NoMemory>
+    ensures { IfOk result (λ told. told.items ≡ (told_shape entry.now.part entry.now.call entry.now.reply).printed) }
+{
+    let mut told = Vec::new(alloc);
+    match put_told(alloc, &mut told, entry.part, &entry.call, &entry.reply) {
+        Ok(()) => Ok(told),
+        Err(FieldEnd::NotPrinted) => Ok(Vec::new(alloc)),
+        Err(FieldEnd::NoMemory) => Err(NoMemory),
+    }
+}
