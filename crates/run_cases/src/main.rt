@@ -5,118 +5,170 @@
 use call_journal::Trace;
 use cluster_file::read_description;
 use history_text::read_history;
+use link_plan::Fate;
+use process_machine::Reply;
 use run_judge::{JudgedRun, Refutation, judge_run};
-use sprite_ids::{Copying, Finish, Kernel, NoMemory};
+use sprite_ids::{Copying, Errno, Finish, Kernel, NoMemory, TxNo};
+use sprite_paths::Path;
 use std::alloc::Global;
 use std::process::ExitCode;
 use std::{fs, io};
-use unix_calls::{Entry, Event, Part, Rec};
+use unix_calls::{About, Entry, Event, Part, Rec, SendKind};
 
 /// How many instructions the processes of a run may do.
 const MOST_INSTRUCTIONS: u64 = 100_000;
 
-/// The runs: a name, the files with the cluster and the journal, how it ended, and whether its trace tells where calls were issued.
-const CASES: [(&str, &str, &str, Finish, bool); 17] = [
-    ("hello", "hello.toml", "hello.txt", Finish::AllEnded, true),
+/// What a trace tells besides the entries and the returns of its calls.
+#[derive(Clone, Copy, PartialEq, Eq)]
+enum Beside {
+    Nothing,
+    /// Where each call was issued.
+    Issues,
+    /// That, and of each call that finds a server unreachable the packets that were lost.
+    Losses,
+}
+
+/// The runs: a name, the files with the cluster and the journal, how it ended, and what its trace tells besides.
+const CASES: [(&str, &str, &str, Finish, Beside); 20] = [
+    (
+        "hello",
+        "hello.toml",
+        "hello.txt",
+        Finish::AllEnded,
+        Beside::Issues,
+    ),
     (
         "hello-begun",
         "hello.toml",
         "hello-begun.txt",
         Finish::AllEnded,
-        true,
+        Beside::Issues,
     ),
     (
         "hello-lives",
         "hello.toml",
         "hello.txt",
         Finish::Budget,
-        true,
+        Beside::Issues,
     ),
     (
         "hello-wrong",
         "hello.toml",
         "hello-wrong.txt",
         Finish::AllEnded,
-        true,
+        Beside::Issues,
     ),
     (
         "hello-not-issued",
         "hello.toml",
         "hello.txt",
         Finish::AllEnded,
-        false,
+        Beside::Nothing,
     ),
-    ("loop", "loop.toml", "none.txt", Finish::Budget, true),
+    (
+        "loop",
+        "loop.toml",
+        "none.txt",
+        Finish::Budget,
+        Beside::Issues,
+    ),
     (
         "loop-stalled",
         "loop.toml",
         "none.txt",
         Finish::Stalled,
-        true,
+        Beside::Issues,
     ),
     (
         "loop-ended",
         "loop.toml",
         "loop.txt",
         Finish::AllEnded,
-        true,
+        Beside::Issues,
     ),
     (
         "deadlock",
         "deadlock.toml",
         "deadlock.txt",
         Finish::Stalled,
-        true,
+        Beside::Issues,
     ),
     (
         "deadlock-begun",
         "deadlock.toml",
         "deadlock-begun.txt",
         Finish::Stalled,
-        true,
+        Beside::Issues,
     ),
     (
         "deadlock-ended",
         "deadlock.toml",
         "deadlock.txt",
         Finish::AllEnded,
-        true,
+        Beside::Issues,
     ),
-    ("death", "death.toml", "death.txt", Finish::AllEnded, true),
+    (
+        "death",
+        "death.toml",
+        "death.txt",
+        Finish::AllEnded,
+        Beside::Issues,
+    ),
     (
         "death-begun",
         "death.toml",
         "death-begun.txt",
         Finish::Stalled,
-        true,
+        Beside::Issues,
     ),
     (
         "children",
         "children.toml",
         "children.txt",
         Finish::Stalled,
-        true,
+        Beside::Issues,
     ),
     (
         "children-begun",
         "children.toml",
         "children-begun.txt",
         Finish::Stalled,
-        true,
+        Beside::Issues,
     ),
     (
         "dead-device",
         "dead-device.toml",
         "dead-device.txt",
         Finish::AllEnded,
-        true,
+        Beside::Issues,
     ),
     (
         "dead-device-begun",
         "dead-device.toml",
         "dead-device-begun.txt",
         Finish::Stalled,
-        true,
+        Beside::Issues,
+    ),
+    (
+        "unreached",
+        "unreached.toml",
+        "unreached.txt",
+        Finish::AllEnded,
+        Beside::Losses,
+    ),
+    (
+        "unreached-without-cause",
+        "unreached.toml",
+        "unreached.txt",
+        Finish::AllEnded,
+        Beside::Issues,
+    ),
+    (
+        "unreached-without-cause-lives",
+        "unreached.toml",
+        "unreached.txt",
+        Finish::Budget,
+        Beside::Issues,
     ),
 ];
 
@@ -146,10 +198,10 @@ fn text_in(
     cluster: &str,
     journal: &str,
     finish: Finish,
-    issues: bool,
+    beside: Beside,
 ) -> io::Result<String> {
     let journal = fs::read(rt, journal)?;
-    text_with(rt, cluster, journal.as_slice(), finish, issues)
+    text_with(rt, cluster, journal.as_slice(), finish, beside)
 }
 
 /// What a run with that journal comes to; no text where memory is wanting.
@@ -158,10 +210,10 @@ fn text_with(
     cluster: &str,
     journal: &[u8],
     finish: Finish,
-    issues: bool,
+    beside: Beside,
 ) -> io::Result<String> {
     let cluster = fs::read(rt, cluster)?;
-    match judged(rt.alloc(), cluster.as_slice(), journal, finish, issues) {
+    match judged(rt.alloc(), cluster.as_slice(), journal, finish, beside) {
         Ok(text) => Ok(text),
         Err(NoMemory) => Ok(String::new(rt.alloc())),
     }
@@ -173,12 +225,12 @@ fn judged(
     cluster: &[u8],
     journal: &[u8],
     finish: Finish,
-    issues: bool,
+    beside: Beside,
 ) -> Result<String, NoMemory> {
     let Ok(entries) = read_history(alloc, journal) else {
         return Ok(String::from_str(alloc, "no journal\n")?);
     };
-    let trace = trace_of(alloc, entries.as_slice(), issues)?;
+    let trace = trace_of(alloc, entries.as_slice(), beside)?;
     judged_trace(alloc, cluster, &trace, finish)
 }
 
@@ -213,16 +265,18 @@ fn refuted_text(alloc: Global, refutation: Refutation) -> Result<String, NoMemor
     match refutation {
         Refutation::Legal(place) => Ok(format!(in alloc; "not legal {place}\n")?),
         Refutation::Once => Ok(String::from_str(alloc, "not once\n")?),
+        Refutation::Unreachable => Ok(String::from_str(alloc, "unreachable without cause\n")?),
         Refutation::End => Ok(String::from_str(alloc, "ended otherwise\n")?),
         Refutation::Stall => Ok(String::from_str(alloc, "not stalled\n")?),
     }
 }
 
-/// A trace with that journal, where each call is issued before its first entry, if that is to be told, and returns behind its last one.
-fn trace_of(alloc: Global, entries: &[Entry], issues: bool) -> Result<Trace, NoMemory> {
+/// A trace with that journal, where each call is issued before its first entry, if that is to be told, and returns behind its last one;
+/// where a call finds the server unreachable, a request to it that was given up stands before the entry, if that is to be told.
+fn trace_of(alloc: Global, entries: &[Entry], beside: Beside) -> Result<Trace, NoMemory> {
     let mut trace = Trace::new(alloc);
     for entry in entries {
-        push_entry(alloc, &mut trace, entry, issues)?;
+        push_entry(alloc, &mut trace, entry, beside)?;
     }
     Ok(trace)
 }
@@ -231,10 +285,13 @@ fn push_entry(
     alloc: Global,
     trace: &mut Trace,
     entry: &Entry,
-    issues: bool,
+    beside: Beside,
 ) -> Result<(), NoMemory> {
-    if issues {
+    if beside != Beside::Nothing {
         push_issue(alloc, trace, entry)?;
+    }
+    if beside == Beside::Losses && is_unreachable(entry) {
+        push_losses(alloc, trace, entry)?;
     }
     let kernel = entry.pid.home();
     push(trace, kernel, enter(alloc, entry)?)?;
@@ -256,6 +313,54 @@ fn push_issue(alloc: Global, trace: &mut Trace, entry: &Entry) -> Result<(), NoM
         }
         None => Ok(()),
     }
+}
+
+fn is_unreachable(entry: &Entry) -> bool {
+    matches!(entry.reply, Some(Reply::Error(Errno::Unreachable)))
+}
+
+/// The call asks the second kernel who serves `/`, and each of the eight tries is lost.
+fn push_losses(alloc: Global, trace: &mut Trace, entry: &Entry) -> Result<(), NoMemory> {
+    let server = Kernel::new(2).ok_or(NoMemory)?;
+    push_ask(alloc, trace, entry, server)?;
+    for tries in 1..=8 {
+        push_lost_try(trace, entry.pid.home(), server, tries == 8)?;
+    }
+    Ok(())
+}
+
+fn push_ask(
+    alloc: Global,
+    trace: &mut Trace,
+    entry: &Entry,
+    server: Kernel,
+) -> Result<(), NoMemory> {
+    let prefix = Path::root(alloc);
+    let event = Event::Send {
+        tx: TxNo(1),
+        to: server,
+        about: Some(About {
+            pid: entry.pid,
+            number: entry.number,
+        }),
+        kind: SendKind::Broadcast { prefix },
+    };
+    push(trace, entry.pid.home(), event)
+}
+
+fn push_lost_try(
+    trace: &mut Trace,
+    kernel: Kernel,
+    server: Kernel,
+    last: bool,
+) -> Result<(), NoMemory> {
+    let loss = Event::Fault {
+        a: kernel,
+        b: server,
+        fate: Fate::Lost,
+    };
+    push(trace, kernel, loss)?;
+    push(trace, kernel, Event::Expire { tx: TxNo(1), last })
 }
 
 fn enter(alloc: Global, entry: &Entry) -> Result<Event, NoMemory> {
