@@ -167,7 +167,7 @@ from_text words left left_after faults faults_after came (Ok a) are read end sho
 from_text words left left_after faults faults_after came (Err e) are read end short why = why
 
 -- a run that is what was promised of it has the causes of its end
-accepted_at : (print : Printing) (c : Description) (run : Closed) (output due : List ℕ) (end : Finish) → run.description ≡ c → run.finish ≡ end → IsSpent c run.trace end → IsJudged c 40000000000 run.trace end output → due ≡ printed print c (journal_of run.trace) end → ClusterCauses print (status_of end) c (Some run) due
+accepted_at : (print : Printing) (c : Description) (run : Closed) (output due : List ℕ) (end : Finish) → run.description ≡ c → run.finish ≡ end → IsSpent c run.trace end → IsJudged c 40000000000 run.trace end output → due ≡ printed print c run.trace end → ClusterCauses print (status_of end) c (Some run) due
 accepted_at print c run output due finish.AllEnded same ends spent j is =
     record { run = run; kept = refl; same = same; ends = ends; legal = j.is_legal.is_legal; once = j.once; for_cause = j.for_cause; state = j.state; leads = j.is_legal.leads; finished = j.ends; spent = spent; output = is }
 accepted_at print c run output due finish.Budget same ends spent j is =
@@ -177,7 +177,7 @@ accepted_at print c run output due finish.Stalled same ends spent j is =
 accepted_at print c run output due finish.OutOfMemory same ends spent j is = absurd j.ends
 accepted_at print c run output due finish.Running same ends spent j is = absurd j.ends
 
-pub accepted : (print : Printing) (run : Closed) (output due : List ℕ) → IsSpent run.description run.trace run.finish → IsJudged run.description 40000000000 run.trace run.finish output → due ≡ printed print run.description (journal_of run.trace) run.finish → ClusterCauses print (status_of run.finish) run.description (Some run) due
+pub accepted : (print : Printing) (run : Closed) (output due : List ℕ) → IsSpent run.description run.trace run.finish → IsJudged run.description 40000000000 run.trace run.finish output → due ≡ printed print run.description run.trace run.finish → ClusterCauses print (status_of run.finish) run.description (Some run) due
 accepted print run output due spent j is = accepted_at print run.description run output due run.finish refl refl spent j is
 
 -- nothing was run, so nothing is told of it

@@ -28,7 +28,8 @@ use Rattle.sprite_cluster.specs.Faults.{faults_between}
 use Rattle.sprite_cluster.specs.Finishing.{IsSpent}
 use Rattle.sprite_top.specs.Judged.{numbered_line}
 use Rattle.unix_calls.specs.State.{Unix}
-use Rattle.unix_calls.specs.declared.entry.Entry.{Entry}
+use Rattle.unix_calls.specs.declared.Rec.{Rec}
+use Rattle.trace_text.specs.Traces.{trace_of}
 use Rattle.unix_calls.specs.Output.{output_of, last_line}
 use Rattle.history_text.specs.Histories.{history_of}
 use Rattle.sprite_top.specs.declared.top.Printing.{Printing}
@@ -40,6 +41,7 @@ printing_of command.Run = Some printing.Output
 printing_of (command.RunSeed seed) = Some printing.Output
 printing_of command.History = Some printing.History
 printing_of command.Check = None
+printing_of command.Trace = Some printing.Trace
 
 -- the words spell a command that runs a cluster and prints that of it
 pub record AsksFor (print : Printing) (words : List (List ℕ)) : Type 0 where
@@ -51,14 +53,15 @@ pub record AsksFor (print : Printing) (words : List (List ℕ)) : Type 0 where
 abbrev pub IsCommand : List (List ℕ) → Type 0
 IsCommand words = (some : Command) × IsSpelled some words
 
--- what is printed of a journal: its output, or the history itself and why the run stopped where a process lives
-abbrev pub printed : Printing → Description → List Entry → Finish → List ℕ
-printed printing.Output c journal end = output_of c journal end
-printed printing.History c journal end = history_of journal ++ last_line end
+-- what is printed of a run: the output of its journal, or its history or its trace, and why it stopped where a process lives
+abbrev pub printed : Printing → Description → List Rec → Finish → List ℕ
+printed printing.Output c trace end = output_of c (journal_of trace) end
+printed printing.History c trace end = history_of (journal_of trace) ++ last_line end
+printed printing.Trace c trace end = trace_of trace ++ last_line end
 
 -- the lines that are written where nothing was run
 abbrev pub usage_line : List ℕ
-usage_line = codes "usage: sprite run | run --seed N | run --stats | history | load N | check\n"
+usage_line = codes "usage: sprite run | run --seed N | run --stats | history | load N | check | trace\n"
 
 abbrev pub too_long_line : List ℕ
 too_long_line = codes "refused: 1\n"
@@ -68,7 +71,7 @@ fault_line = codes "read fault\n"
 
 -- a run of the cluster that came to that end: its journal is a history that one Unix kernel gives for the description, each finished
 -- call stands in it once, a server is called unreachable only after eight lost packets of that call, in the state that it leads to the processes stand as the end says, the budget is spent where it says so,
--- and what is due is what is printed of the journal
+-- and what is due is what is printed of the run
 pub record IsRunOf (print : Printing) (c : Description) (end : Finish) (closed : Option Closed) (due : List ℕ) : Type 0 where
   pub run : Closed
   pub kept : closed ≡ Some run
@@ -81,7 +84,7 @@ pub record IsRunOf (print : Printing) (c : Description) (end : Finish) (closed :
   pub leads : state_of c (journal_of run.trace) ≡ Some state
   pub finished : EndsAs c state end
   pub spent : IsSpent c run.trace end
-  pub output : due ≡ printed print c (journal_of run.trace) end
+  pub output : due ≡ printed print c run.trace end
 
 -- the line about a run that isn't what was promised of it
 abbrev pub refuted_line : JudgedRun → List ℕ

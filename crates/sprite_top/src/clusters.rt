@@ -1,4 +1,6 @@
-ghost use Rattle.std.specs.Prelude.{◌≡◌, [], IfOk, Some, false};
+ghost use Rattle.std.specs.Prelude.{◌≡◌, ◌++◌, [], IfOk, Some, false};
+ghost use Rattle.trace_text.specs.Traces.{trace_of};
+ghost use Rattle.unix_calls.specs.Output.{last_line};
 ghost use Rattle.unix_calls.specs.Lawful.{Lawful};
 ghost use Rattle.call_journal.specs.Journal.{journal_of};
 ghost use Rattle.run_judge.specs.Judged.{IsJudged, JudgesTo};
@@ -16,6 +18,7 @@ use run_judge::{JudgedRun, judge_run};
 use sprite_cluster::{Cluster, run_rounds, run_seeded};
 use sprite_ids::{Bytes, Finish, NoMemory};
 use std::alloc::Global;
+use trace_text::print_trace;
 use unix_calls::Description;
 
 /// How many instructions the processes of a run may do when it is judged: as many as the largest budget lets them do.
@@ -153,7 +156,7 @@ fn printed(
     print: Printing,
 ) -> Result<Bytes, NoMemory>
     requires judged { IsJudged closed.now.description 40000000000 closed.now.trace closed.now.finish output }
-    ensures { IfOk result (λ text. text ≡ printed print closed.now.description (journal_of closed.now.trace) closed.now.finish) }
+    ensures { IfOk result (λ text. text ≡ printed print closed.now.description closed.now.trace closed.now.finish) }
 {
     match print {
         Printing::Output => Ok(output),
@@ -161,6 +164,27 @@ fn printed(
             let journal = closed.trace.journal(alloc)?;
             Ok(Bytes::of_vec(history(alloc, journal.as_slice(), closed.finish)?))
         }
+        Printing::Trace => printed_trace(alloc, closed),
+    }
+}
+
+// The records of a run, a line each, and why it stopped where a process lives. The one error is want of memory.
+fn printed_trace(alloc: Global, closed: &Closed) -> Result<Bytes, NoMemory>
+    ensures { IfOk result (λ text. text ≡ trace_of closed.now.trace ++ last_line closed.now.finish) }
+{
+    let mut text = print_trace(alloc, closed.trace.records())?;
+    text.extend_from_slice(last_line(closed.finish))?;
+    Ok(Bytes::of_vec(text))
+}
+
+// Why a run stopped where a process lives.
+fn last_line(finish: Finish) -> &'static [u8]
+    ensures { result.now ≡ last_line finish }
+{
+    match finish {
+        Finish::Budget => b"budget\n",
+        Finish::Stalled => b"stalled\n",
+        Finish::AllEnded | Finish::OutOfMemory | Finish::Running => b"",
     }
 }
 

@@ -27,7 +27,7 @@ const TEXT_BYTES: usize = 67_108_864;
 
 /// What is written where the words are no command.
 const USAGE_LINE: &[u8] =
-    b"usage: sprite run | run --seed N | run --stats | history | load N | check\n";
+    b"usage: sprite run | run --seed N | run --stats | history | load N | check | trace\n";
 
 /// What is written for more bytes than the command may read.
 const TOO_LONG_LINE: &[u8] = b"refused: 1\n";
@@ -81,6 +81,8 @@ pub enum Printing {
     Output,
     /// `history`: the entries of the run's journal, a line each.
     History,
+    /// `trace`: the records of the run, a line each.
+    Trace,
 }
 
 /// What the top call gives back.
@@ -103,8 +105,8 @@ pub struct Answer {
 
 /// Does the command that the words spell with what the source holds, and writes to the sink.
 ///
-/// The words are those behind the program's name. So far there are these commands: `run`, `run --seed N` and `history` run the cluster
-/// of a cluster file and print its output or its journal, and `check` judges a history, which stands behind a cluster file and a line `=====`, against the one-kernel Unix, without
+/// The words are those behind the program's name. So far there are these commands: `run`, `run --seed N`, `history` and `trace` run the
+/// cluster of a cluster file and print its output, its journal or its trace, and `check` judges a history, which stands behind a cluster file and a line `=====`, against the one-kernel Unix, without
 /// running a cluster. All that is due is made before its first byte is written. Want of memory may come at any point before, and then nothing is written. Where a source or a
 /// sink tells nothing of its bytes, the clauses say that some bytes were read or written so.
 pub fn sprite<S: Source, K: Sink, L: Link>(
@@ -169,6 +171,7 @@ fn answer_to<S: Source, L: Link>(
         Some(Command::History) => {
             answer_run(alloc, source, Printing::History, Turns::Rounds, link)
         }
+        Some(Command::Trace) => { answer_run(alloc, source, Printing::Trace, Turns::Rounds, link) }
         Some(Command::Check) => (answer_check(alloc, source), link),
         None => (refuse(alloc, Status::Usage, USAGE_LINE), link),
     }

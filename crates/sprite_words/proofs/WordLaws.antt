@@ -8,12 +8,13 @@ use Rattle.sprite_words.specs.Words.{IsNext, IsNumber, IsNumberOf, IsSpelled, Sp
 only_word : (a b : List ℕ) → a ∷ [] ≡ b ∷ [] → a ≡ b
 only_word a b e = cc
 
--- one word that is none of the three
-pub no_word : (word : List ℕ) → (word ≡ codes "run" → ⊥) → (word ≡ codes "history" → ⊥) → (word ≡ codes "check" → ⊥) → (some : Command) → IsSpelled some (word ∷ []) → ⊥
-no_word word run history check command.Run is = run (only_word word (codes "run") is)
-no_word word run history check (command.RunSeed seed) is = absurd (cc (is.words_are))
-no_word word run history check command.History is = history (only_word word (codes "history") is)
-no_word word run history check command.Check is = check (only_word word (codes "check") is)
+-- one word that is none of the four
+pub no_word : (word : List ℕ) → (word ≡ codes "run" → ⊥) → (word ≡ codes "history" → ⊥) → (word ≡ codes "check" → ⊥) → (word ≡ codes "trace" → ⊥) → (some : Command) → IsSpelled some (word ∷ []) → ⊥
+no_word word run history check trace command.Run is = run (only_word word (codes "run") is)
+no_word word run history check trace (command.RunSeed seed) is = absurd (cc (is.words_are))
+no_word word run history check trace command.History is = history (only_word word (codes "history") is)
+no_word word run history check trace command.Check is = check (only_word word (codes "check") is)
+no_word word run history check trace command.Trace is = trace (only_word word (codes "trace") is)
 
 first_word : (a b c x y z : List ℕ) → a ∷ b ∷ c ∷ [] ≡ x ∷ y ∷ z ∷ [] → a ≡ x
 first_word a b c x y z e = cc
@@ -30,12 +31,14 @@ no_first a b c other command.Run is = absurd (cc)
 no_first a b c other (command.RunSeed seed) is = other (first_word a b c (codes "run") (codes "--seed") is.digits is.words_are)
 no_first a b c other command.History is = absurd (cc)
 no_first a b c other command.Check is = absurd (cc)
+no_first a b c other command.Trace is = absurd (cc)
 
 pub no_second : (a b c : List ℕ) → (b ≡ codes "--seed" → ⊥) → (some : Command) → IsSpelled some (a ∷ b ∷ c ∷ []) → ⊥
 no_second a b c other command.Run is = absurd (cc)
 no_second a b c other (command.RunSeed seed) is = other (second_word a b c (codes "run") (codes "--seed") is.digits is.words_are)
 no_second a b c other command.History is = absurd (cc)
 no_second a b c other command.Check is = absurd (cc)
+no_second a b c other command.Trace is = absurd (cc)
 
 -- or end with no number
 pub no_number : (a b c : List ℕ) → IsNumberOf c None → (some : Command) → IsSpelled some (a ∷ b ∷ c ∷ []) → ⊥
@@ -43,6 +46,7 @@ no_number a b c none command.Run is = absurd (cc)
 no_number a b c none (command.RunSeed seed) is = none seed (subst (λ (digits : List ℕ). IsNumber digits seed) (sym (third_word a b c (codes "run") (codes "--seed") is.digits is.words_are)) is.number)
 no_number a b c none command.History is = absurd (cc)
 no_number a b c none command.Check is = absurd (cc)
+no_number a b c none command.Trace is = absurd (cc)
 
 -- what digits spell is no less than what stands before them
 pub grows : (value : ℕ) (digits : List ℕ) → value ≤ value_from value digits

@@ -52,6 +52,7 @@ IsSpelled command.Run words = words ≡ codes "run" ∷ []
 IsSpelled (command.RunSeed seed) words = IsSeeded words seed
 IsSpelled command.History words = words ≡ codes "history" ∷ []
 IsSpelled command.Check words = words ≡ codes "check" ∷ []
+IsSpelled command.Trace words = words ≡ codes "trace" ∷ []
 
 -- the command that words spell; none exactly where they spell none
 abbrev pub ComesTo : List (List ℕ) → Option Command → Type 0

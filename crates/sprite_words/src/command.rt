@@ -14,6 +14,8 @@ pub enum Command {
     History,
     /// `check`: a history is judged.
     Check,
+    /// `trace`: the same as `run`, with the trace printed.
+    Trace,
 }
 
 /// The command that the words behind the program's name spell; None exactly where they spell none. The number of `run --seed` has 1 to
@@ -41,6 +43,9 @@ fn one_word(word: &String) -> Option<Command>
     }
     if is_word(word, "check") {
         return Some(Command::Check);
+    }
+    if is_word(word, "trace") {
+        return Some(Command::Trace);
     }
     None
 }

@@ -45,7 +45,8 @@ program = \"p\"
 
 const HELLO_OUTPUT: &[u8] = b"pid 1001 hello c1 exit 0\n| hello\n";
 
-const USAGE: &[u8] = b"usage: sprite run | run --seed N | run --stats | history | load N | check\n";
+const USAGE: &[u8] =
+    b"usage: sprite run | run --seed N | run --stats | history | load N | check | trace\n";
 
 /// What a call of the program left: its status, what it wrote, and how many records its trace has, if it ran.
 #[derive(Drop)]
