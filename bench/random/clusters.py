@@ -125,7 +125,7 @@ def call(words, given):
 
 
 def verdict(program_path, judge, file, words):
-    """The status of a run, and whether all is as it has to be."""
+    """The status of the last run of the file, whether all is as it has to be, and what was said last. With a judge the last run is that of `trace`."""
     status, said = call([program_path, *words], file)
     if status not in (0, 4, 5) or not judge:
         return status, status in (0, 4, 5), said
