@@ -12,15 +12,15 @@ use Rattle.turn_gate.specs.Steps.{or_zero, dealer, dealt, joined, spent_view}
 use Rattle.turn_gate.proofs.SmallLaws.{total_set, total_snoc, at_end, put, put_here, put_else, moved, moved_here, moved_else, in_append, in_front, in_back, in_one, items_append, some_is, none_not, one_some, or_else_is}
 use Rattle.turn_gate.proofs.RuleLaws.{K, lies_else}
 
-module _ {V O I : Type 0} (origin : V → O) (logof : V → List (ℕ × I)) (o : O) (op : List (ℕ × I)) where
+module _ {V O I : Type 0} (origin : V → O) (logof : V → List (ℕ × I)) (holds : V → Type 0) (o : O) (op : List (ℕ × I)) where
   abbrev T : Facts I → ℕ → View O I → Type 0
   T f id v = Tied o op f id v
 
-  lies_longer : (log : List (ℕ × I)) (homes : List (maybe.Option (Option V))) (views more : List (View O I)) (h : ℕ) → Lies origin logof o log homes views h → Lies origin logof o log homes (views ++ more) h
+  lies_longer : (log : List (ℕ × I)) (homes : List (maybe.Option (Option V))) (views more : List (View O I)) (h : ℕ) → Lies origin logof holds o log homes views h → Lies origin logof holds o log homes (views ++ more) h
   lies_longer log homes views more zero l = l
   lies_longer log homes views more (suc j) l = (l.0, (l.1.0, at_longer views more j l.1.0 l.1.1, l.1.2, l.1.3))
 
-  pub deals : (id : ℕ) (v : View O I) (n : ℕ) → v.origin ≢ None → v.ticket ≡ None → v.log ≡ None → v.tally ≡ Some n → n < 16 → Splits (K origin logof o op) id v (dealer v) (dealt v)
+  pub deals : (id : ℕ) (v : View O I) (n : ℕ) → v.origin ≢ None → v.ticket ≡ None → v.log ≡ None → v.tally ≡ Some n → n < 16 → Splits (K origin logof holds o op) id v (dealer v) (dealt v)
   deals id v n live idle lacks tally room s k at =
       let f = k.facts in let left = dealer v in let w = dealt v in let views : List (View O I) = set s.views id left in let place : ℕ = length views in
       let g : Facts I = record { next = f.next; serving = f.serving; drawn = f.drawn; tally = suc f.tally; teller = f.teller; keeper = put f.keeper (suc f.tally) place; log = f.log; added = f.added; holder = f.holder } in
@@ -81,11 +81,11 @@ module _ {V O I : Type 0} (origin : V → O) (logof : V → List (ℕ × I)) (o 
         most = (omega arith);
         grown = k.grown;
         no_strangers = λ m out. k.no_strangers m (⊎_elim (λ (z : m ≡ 0). inl z) (λ (z : suc f.tally < m). inr (omega arith)) out);
-        lies = lies_longer f.log s.homes views (w ∷ []) f.holder (lies_else origin logof o op f.log s.homes s.views id v left f.holder at lacks k.lies);
+        lies = lies_longer f.log s.homes views (w ∷ []) f.holder (lies_else origin logof holds o op f.log s.homes s.views id v left f.holder at lacks k.lies);
         each = each;
       }
 
-  pub joins : (id : ℕ) (v : View O I) (other : ℕ) (w : View O I) → v.origin ≢ None → v.log ≡ None → w.ticket ≡ None → w.log ≡ None → Joins (K origin logof o op) id v other w (joined v w) spent_view
+  pub joins : (id : ℕ) (v : View O I) (other : ℕ) (w : View O I) → v.origin ≢ None → v.log ≡ None → w.ticket ≡ None → w.log ≡ None → Joins (K origin logof holds o op) id v other w (joined v w) spent_view
   joins id v other w live lacks idle empty s k at apart there =
       let f = k.facts in let both = joined v w in let views : List (View O I) = set s.views id both in
       let at_other : get_elem? s.views other ≡ some w = sym (set_else s.views id other both apart) ∙ there in
@@ -151,13 +151,13 @@ module _ {V O I : Type 0} (origin : V → O) (logof : V → List (ℕ × I)) (o 
         most = k.most;
         grown = k.grown;
         no_strangers = k.no_strangers;
-        lies = lies_else origin logof o op f.log s.homes views other w spent_view f.holder there empty (lies_else origin logof o op f.log s.homes s.views id v both f.holder at lacks k.lies);
+        lies = lies_else origin logof holds o op f.log s.homes views other w spent_view f.holder there empty (lies_else origin logof holds o op f.log s.homes s.views id v both f.holder at lacks k.lies);
         each = each;
       }
 
   -- where a seat keeps all numbers and has not the value, the value is at home
   all_home : (f : Facts I) (homes : List (maybe.Option (Option V))) (views : List (View O I)) (id : ℕ) (v : View O I) (h : ℕ) → Each o op f views → get_elem? views id ≡ some v → v.log ≡ None
-      → ((m : ℕ) → 1 ≤ m → m ≤ f.tally → In m v.keeps) → Lies origin logof o f.log homes views h → Lies origin logof o f.log homes views zero
+      → ((m : ℕ) → 1 ≤ m → m ≤ f.tally → In m v.keeps) → Lies origin logof holds o f.log homes views h → Lies origin logof holds o f.log homes views zero
   all_home f homes views id v zero each at lacks all l = l
   all_home f homes views id v (suc j) each at lacks all l =
       let u = l.1.0 in let his = each j u l.1.1 in let kept = his.kept u.number (his.from_start l.1.3).2 in
@@ -166,10 +166,10 @@ module _ {V O I : Type 0} (origin : V → O) (logof : V → List (ℕ × I)) (o 
 
   -- what a seat that keeps all numbers, up to n, learns at the end
   abbrev pub Over : View O I → ℕ → List (Option V) → Type 0
-  Over v n xs = (x : V) × (get_elem? xs 0 ≡ some (Some x)) × (origin x ≡ o)
+  Over v n xs = (x : V) × (get_elem? xs 0 ≡ some (Some x)) × (origin x ≡ o) × holds x
       × ((added : List (ℕ × I)) × (logof x ≡ op ++ added) × (v.seen ≤ length (logof x)) × ((m : ℕ) → In m v.keeps → items_of m added ≡ items_of m v.items) × ((m : ℕ) → (m ≡ 0) ⊎ (n < m) → items_of m added ≡ []))
 
-  pub ends : (id : ℕ) (v : View O I) (n : ℕ) → v.log ≡ None → v.tally ≡ Some n → ((m : ℕ) → 1 ≤ m → m ≤ n → In m v.keeps) → (ws : List ℕ) (xs : List (Option V)) → Final (Seen (K origin logof o op) id v) ws xs → Over v n xs
+  pub ends : (id : ℕ) (v : View O I) (n : ℕ) → v.log ≡ None → v.tally ≡ Some n → ((m : ℕ) → 1 ≤ m → m ≤ n → In m v.keeps) → (ws : List ℕ) (xs : List (Option V)) → Final (Seen (K origin logof holds o op) id v) ws xs → Over v n xs
   ends id v n lacks tally all ws xs fin =
       let s = fin.0 in let k = fin.1.0 in let at = fin.1.1 in let f = k.facts in let mine = k.each id v at in
       let full : n ≡ f.tally = (mine.tells n tally).0 in
@@ -178,6 +178,7 @@ module _ {V O I : Type 0} (origin : V → O) (logof : V → List (ℕ × I)) (o 
         x,
         fin.4 0 (Some x) (ap (λ h. get_elem? h 0) home.1),
         home.2,
+        home.4,
         (
           f.added,
           home.3 ∙ k.grown,
@@ -188,9 +189,9 @@ module _ {V O I : Type 0} (origin : V → O) (logof : V → List (ℕ × I)) (o 
       )
 
 -- the rule holds of a new gate
-pub begins : {V O I : Type 0} (origin : V → O) (logof : V → List (ℕ × I)) (x : V) (n : ℕ) → n ≡ length (logof x) → n < 2 ^ 64
-    → K origin logof (origin x) (logof x) (opening (0 ∷ 0 ∷ n ∷ []) (Some x ∷ []) (first_view (origin x) (logof x)))
-begins {V} {O} {I} origin logof x n is small =
+pub begins : {V O I : Type 0} (origin : V → O) (logof : V → List (ℕ × I)) (holds : V → Type 0) (x : V) (n : ℕ) → holds x → n ≡ length (logof x) → n < 2 ^ 64
+    → K origin logof holds (origin x) (logof x) (opening (0 ∷ 0 ∷ n ∷ []) (Some x ∷ []) (first_view (origin x) (logof x)))
+begins {V} {O} {I} origin logof holds x n good is small =
     let first : View O I = first_view (origin x) (logof x) in
     let f : Facts I = record { next = 0; serving = 0; drawn = λ _. 0; tally = 1; teller = 0; keeper = λ _. 0; log = logof x; added = []; holder = 0 } in
     let tied : Tied (origin x) (logof x) f 0 first = record {
@@ -211,7 +212,7 @@ begins {V} {O} {I} origin logof x n is small =
       most = (omega arith);
       grown = sym (append-nil (logof x));
       no_strangers = λ m out. refl;
-      lies = (x, refl, refl, refl);
+      lies = (x, refl, refl, refl, good);
       each = λ j u e. only j u e tied;
     }
   where
@@ -219,8 +220,8 @@ begins {V} {O} {I} origin logof x n is small =
     only {O} {I} {o} {op} {f} {first} zero u e t = subst (λ (z : View O I). Tied o op f 0 z) (some-injective first u e) t
     only (suc j) u e t = absurd (some-ne-none u (sym e))
 
-pub begins_as : {V O I : Type 0} (origin : V → O) (logof : V → List (ℕ × I)) (about x : V) (n : ℕ) (xs : List (Option V)) → about ≡ x → xs ≡ Some x ∷ [] → n ≡ length (logof x) → n < 2 ^ 64
-    → K origin logof (origin about) (logof about) (opening (0 ∷ 0 ∷ n ∷ []) xs (first_view (origin about) (logof about)))
-begins_as {V} origin logof about x n xs e items is small =
-    subst (λ (z : V). K origin logof (origin z) (logof z) (opening (0 ∷ 0 ∷ n ∷ []) xs (first_view (origin z) (logof z)))) (sym e)
-    (subst (λ (l : List (Option V)). K origin logof (origin x) (logof x) (opening (0 ∷ 0 ∷ n ∷ []) l (first_view (origin x) (logof x)))) (sym items) (begins origin logof x n is small))
+pub begins_as : {V O I : Type 0} (origin : V → O) (logof : V → List (ℕ × I)) (holds : V → Type 0) (about x : V) (n : ℕ) (xs : List (Option V)) → holds x → about ≡ x → xs ≡ Some x ∷ [] → n ≡ length (logof x) → n < 2 ^ 64
+    → K origin logof holds (origin about) (logof about) (opening (0 ∷ 0 ∷ n ∷ []) xs (first_view (origin about) (logof about)))
+begins_as {V} origin logof holds about x n xs good e items is small =
+    subst (λ (z : V). K origin logof holds (origin z) (logof z) (opening (0 ∷ 0 ∷ n ∷ []) xs (first_view (origin z) (logof z)))) (sym e)
+    (subst (λ (l : List (Option V)). K origin logof holds (origin x) (logof x) (opening (0 ∷ 0 ∷ n ∷ []) l (first_view (origin x) (logof x)))) (sym items) (begins origin logof holds x n good is small))

@@ -57,20 +57,21 @@ module _ {O I : Type 0} where
       e)
 
 -- what the seat that keeps all numbers learns, said of each seat
-pub ended : {V O I : Type 0} (origin : V → O) (logof : V → List (ℕ × I)) (o : O) (op : List (ℕ × I)) (vs : List (View O I)) (xs : List (Option V)) → IsAll vs → Over origin logof o op (gathered vs) (length vs) xs
-    → (x : V) × (get_elem? xs 0 ≡ some (Some x)) × Ended o op (origin x) (logof x) vs
-ended origin logof o op [] xs all over = absurd all
-ended {V} {O} {I} origin logof o op (v ∷ ws) xs all over =
-    let x = over.0 in let added = over.3.0 in let g : View O I = gathered_to v ws in let plain = all.0.0 in let ord = all.0.1 in (
+pub ended : {V O I : Type 0} (origin : V → O) (logof : V → List (ℕ × I)) (holds : V → Type 0) (o : O) (op : List (ℕ × I)) (vs : List (View O I)) (xs : List (Option V)) → IsAll vs → Over origin logof holds o op (gathered vs) (length vs) xs
+    → (x : V) × (get_elem? xs 0 ≡ some (Some x)) × Ended o op (origin x) (logof x) vs × holds x
+ended origin logof holds o op [] xs all over = absurd all
+ended {V} {O} {I} origin logof holds o op (v ∷ ws) xs all over =
+    let x = over.0 in let added = over.4.0 in let g : View O I = gathered_to v ws in let plain = all.0.0 in let ord = all.0.1 in (
       x,
       over.1,
       record {
         from_start = over.2;
         added = added;
-        grown = over.3.1;
-        strangers = over.3.4;
-        seats = λ i u e. at v ws added (logof x) i u e plain ord over.3.3 over.3.2;
+        grown = over.4.1;
+        strangers = over.4.4;
+        seats = λ i u e. at v ws added (logof x) i u e plain ord over.4.3 over.4.2;
       },
+      over.3,
     )
   where
     at : {O I : Type 0} (v : View O I) (ws : List (View O I)) (added log : List (ℕ × I)) (i : ℕ) (u : View O I) → get_elem? (v ∷ ws) i ≡ some u → IsPlain 1 v → Ordered 1 ws
@@ -92,14 +93,14 @@ keeps_each v ws m plain ord low high = dite (ℕ_discrete m 1)
     (λ ne. keeps_all 1 v ws m ord (omega arith) (omega arith))
 
 -- what closing the table says when all seats have joined
-pub finished : {V O I : Type 0} (origin : V → O) (logof : V → List (ℕ × I)) (o : O) (op : List (ℕ × I)) (vs : List (View O I)) (id : ℕ) (me : Me (Option V) (View O I)) (words : List ℕ) (xs : List (Option V)) → IsAll vs → IsIdle me → me.0 ≡ gathered vs
-    → Final (Seen (K origin logof o op) id me.0) words xs → (x : V) × (get_elem? xs 0 ≡ some (Some x)) × Ended o op (origin x) (logof x) vs
-finished origin logof o op [] id me words xs all idle is fin = absurd all
-finished {V} {O} {I} origin logof o op (v ∷ ws) id me words xs all idle is fin =
+pub finished : {V O I : Type 0} (origin : V → O) (logof : V → List (ℕ × I)) (holds : V → Type 0) (o : O) (op : List (ℕ × I)) (vs : List (View O I)) (id : ℕ) (me : Me (Option V) (View O I)) (words : List ℕ) (xs : List (Option V)) → IsAll vs → IsIdle me → me.0 ≡ gathered vs
+    → Final (Seen (K origin logof holds o op) id me.0) words xs → (x : V) × (get_elem? xs 0 ≡ some (Some x)) × Ended o op (origin x) (logof x) vs × holds x
+finished origin logof holds o op [] id me words xs all idle is fin = absurd all
+finished {V} {O} {I} origin logof holds o op (v ∷ ws) id me words xs all idle is fin =
     let g : View O I = gathered (v ∷ ws) in
     let lacks : g.log ≡ None = ap (λ (z : View O I). z.log) (sym is) ∙ idle.2 in
-    let fin' = subst (λ (z : View O I). Final (Seen (K origin logof o op) id z) words xs) is fin in
-    ended origin logof o op (v ∷ ws) xs all (ends origin logof o op id g (suc (length ws)) lacks (tally_stays v ws (suc (length ws)) all.1) (λ m low high. keeps_each v ws m all.0.0 all.0.1 low high) words xs fin')
+    let fin' = subst (λ (z : View O I). Final (Seen (K origin logof holds o op) id z) words xs) is fin in
+    ended origin logof holds o op (v ∷ ws) xs all (ends origin logof holds o op id g (suc (length ws)) lacks (tally_stays v ws (suc (length ws)) all.1) (λ m low high. keeps_each v ws m all.0.0 all.0.1 low high) words xs fin')
 
 pub taken_is : {V : Type 0} (xs : List (Option V)) (x : V) (r : Option V) → get_elem? xs 0 ≡ some (Some x) → get_elem? xs 0 ≡ some r → r ≡ Some x
 taken_is xs x r a b = some-injective r (Some x) (sym b ∙ a)
@@ -113,3 +114,6 @@ gathered_on f v w g all rest x e is new = ap (λ z. gathered_to z (map f rest)) 
 
 pub ended_at : {V O I : Type 0} (origin : V → O) (logof : V → List (ℕ × I)) (o : O) (op : List (ℕ × I)) (vs : List (View O I)) (x y : V) (r : Option V) → r ≡ Some x → r ≡ Some y → Ended o op (origin x) (logof x) vs → Ended o op (origin y) (logof y) vs
 ended_at {V} origin logof o op vs x y r a b e = subst (λ (z : V). Ended o op (origin z) (logof z) vs) (some_is x y (sym a ∙ b)) e
+
+pub holds_at : {V : Type 0} (holds : V → Type 0) (x y : V) (r : Option V) → r ≡ Some x → r ≡ Some y → holds x → holds y
+holds_at holds x y r a b h = subst holds (some_is x y (sym a ∙ b)) h

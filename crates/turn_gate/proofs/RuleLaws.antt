@@ -8,7 +8,7 @@ use Rattle.atomic_table.proofs.Lists.{at_set, set_else}
 use Rattle.turn_gate.specs.declared.view.View.{View}
 use Rattle.turn_gate.specs.Rule.{Facts, Tied, Each, Lies, Kept}
 
-module _ {V O I : Type 0} (origin : V → O) (logof : V → List (ℕ × I)) (o : O) (op : List (ℕ × I)) where
+module _ {V O I : Type 0} (origin : V → O) (logof : V → List (ℕ × I)) (holds : V → Type 0) (o : O) (op : List (ℕ × I)) where
   abbrev pub St : Type 0
   St = State (Option V) (View O I)
 
@@ -16,7 +16,7 @@ module _ {V O I : Type 0} (origin : V → O) (logof : V → List (ℕ × I)) (o 
   M = Me (Option V) (View O I)
 
   abbrev pub K : St → Type 0
-  K = Kept origin logof o op
+  K = Kept origin logof holds o op
 
   abbrev pub T : Facts I → ℕ → View O I → Type 0
   T f id v = Tied o op f id v
@@ -33,15 +33,15 @@ module _ {V O I : Type 0} (origin : V → O) (logof : V → List (ℕ × I)) (o 
   same_view views i j u v a b e = some-injective u v (sym a ∙ ap (λ k. get_elem? views k) e ∙ b)
 
   -- the view of a seat that has not the value may change
-  pub lies_else : (log : List (ℕ × I)) (homes : List (maybe.Option (Option V))) (views : List (View O I)) (id : ℕ) (v w : View O I) (h : ℕ) → get_elem? views id ≡ some v → v.log ≡ None → Lies origin logof o log homes views h
-      → Lies origin logof o log homes (set views id w) h
+  pub lies_else : (log : List (ℕ × I)) (homes : List (maybe.Option (Option V))) (views : List (View O I)) (id : ℕ) (v w : View O I) (h : ℕ) → get_elem? views id ≡ some v → v.log ≡ None → Lies origin logof holds o log homes views h
+      → Lies origin logof holds o log homes (set views id w) h
   lies_else log homes views id v w zero at lacks l = l
   lies_else log homes views id v w (suc j) at lacks l =
       let u = l.1.0 in let apart : j ≢ id = λ e. l.1.2 (ap (λ (z : View O I). z.log) (same_view views id j u v l.1.1 at e) ∙ lacks) in (l.0, (u, set_else views id j w apart ∙ l.1.1, l.1.2, l.1.3))
 
   -- where the ticket that is served is of a seat that has not the value, the value is at home
   pub at_home : (f : Facts I) (homes : List (maybe.Option (Option V))) (views : List (View O I)) (id : ℕ) (v : View O I) (h : ℕ) → Each o op f views → get_elem? views id ≡ some v → v.log ≡ None → f.drawn f.serving ≡ id
-      → Lies origin logof o f.log homes views h → Lies origin logof o f.log homes views zero
+      → Lies origin logof holds o f.log homes views h → Lies origin logof holds o f.log homes views zero
   at_home f homes views id v zero all at lacks drew l = l
   at_home f homes views id v (suc j) all at lacks drew l =
       let u = l.1.0 in let his = all j u l.1.1 in let held = his.held l.1.2 in let same : j ≡ id = sym (his.waits f.serving held.1).2 ∙ drew in

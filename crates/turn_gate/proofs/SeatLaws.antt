@@ -48,13 +48,13 @@ every_head P xs ys y e all = (subst (λ l. All P l) e all) zero y (omega arith)
 pub every_tail : {A : Type 0} (P : A → Type 0) (xs ys : List A) (y : A) → xs ≡ y ∷ ys → All P xs → All P ys
 every_tail P xs ys y e all = λ k d low. (subst (λ l. All P l) e all) (suc k) d (omega arith)
 
-pub deals_as : {V O I : Type 0} (origin : V → O) (logof : V → List (ℕ × I)) (o : O) (op : List (ℕ × I)) (id : ℕ) (v : View O I) (n : ℕ) → v ≡ opener o op n → n < 16 → Splits (K origin logof o op) id v (dealer v) (dealt v)
-deals_as {V} {O} {I} origin logof o op id v n e room = subst (λ (z : View O I). Splits (K origin logof o op) id z (dealer z) (dealt z)) (sym e) (deals origin logof o op id (opener o op n) n (some_not o) refl refl refl room)
+pub deals_as : {V O I : Type 0} (origin : V → O) (logof : V → List (ℕ × I)) (holds : V → Type 0) (o : O) (op : List (ℕ × I)) (id : ℕ) (v : View O I) (n : ℕ) → v ≡ opener o op n → n < 16 → Splits (K origin logof holds o op) id v (dealer v) (dealt v)
+deals_as {V} {O} {I} origin logof holds o op id v n e room = subst (λ (z : View O I). Splits (K origin logof holds o op) id z (dealer z) (dealt z)) (sym e) (deals origin logof holds o op id (opener o op n) n (some_not o) refl refl refl room)
 
 -- the seat after all have joined so far, and one more
-pub joins_as : {V O I : Type 0} (origin : V → O) (logof : V → List (ℕ × I)) (o : O) (op : List (ℕ × I)) (id : ℕ) (me : Me (Option V) (View O I)) (other : ℕ) (him : Me (Option V) (View O I)) → IsIdle me → IsIdle him
-    → Joins (K origin logof o op) id me.0 other him.0 (joined me.0 him.0) spent_view
-joins_as origin logof o op id me other him idle his = joins origin logof o op id me.0 other him.0 idle.0 idle.2 his.1 his.2
+pub joins_as : {V O I : Type 0} (origin : V → O) (logof : V → List (ℕ × I)) (holds : V → Type 0) (o : O) (op : List (ℕ × I)) (id : ℕ) (me : Me (Option V) (View O I)) (other : ℕ) (him : Me (Option V) (View O I)) → IsIdle me → IsIdle him
+    → Joins (K origin logof holds o op) id me.0 other him.0 (joined me.0 him.0) spent_view
+joins_as origin logof holds o op id me other him idle his = joins origin logof holds o op id me.0 other him.0 idle.0 idle.2 his.1 his.2
 
 pub idle_joined : {S O I : Type 0} (me after : Me S (View O I)) (w : View O I) → IsIdle me → after ≡ (joined me.0 w, me.1) → IsIdle after
 idle_joined {S} {O} {I} me after w idle e = subst (λ (m : Me S (View O I)). IsIdle m) (sym e) idle

@@ -13,7 +13,7 @@ use Rattle.turn_gate.specs.Steps.{or_nil, log_of, with_ticket, counted, Grows, T
 use Rattle.turn_gate.proofs.SmallLaws.{total_set, ticketed_below, set_at, put, put_here, put_else, items_append, items_else, drop_front, some_is, some_not, none_not, one_some, next_word, more_word, same_value}
 use Rattle.turn_gate.proofs.RuleLaws.{K, each_set, lies_else, at_home}
 
-module _ {V O I : Type 0} (origin : V → O) (logof : V → List (ℕ × I)) (o : O) (op : List (ℕ × I)) where
+module _ {V O I : Type 0} (origin : V → O) (logof : V → List (ℕ × I)) (holds : V → Type 0) (o : O) (op : List (ℕ × I)) where
   abbrev St : Type 0
   St = State (Option V) (View O I)
 
@@ -24,7 +24,7 @@ module _ {V O I : Type 0} (origin : V → O) (logof : V → List (ℕ × I)) (o 
   T f id v = Tied o op f id v
 
   abbrev KK : St → Type 0
-  KK = K origin logof o op
+  KK = K origin logof holds o op
 
   pub draws : (slots id : ℕ) (me : M) → IsIdle me → Allows KK slots id me 0 (λ n. (n + 1) % 2 ^ 64) (λ n m. Draws me n m)
   draws slots id me idle s k wide at small =
@@ -70,8 +70,8 @@ module _ {V O I : Type 0} (origin : V → O) (logof : V → List (ℕ × I)) (o 
           most = k.most;
           grown = k.grown;
           no_strangers = k.no_strangers;
-          lies = lies_else origin logof o op f.log s.homes s.views id v w f.holder at idle.2 k.lies;
-          each = each_set origin logof o op f g s.views id w k.each own others;
+          lies = lies_else origin logof holds o op f.log s.homes s.views id v w f.holder at idle.2 k.lies;
+          each = each_set origin logof holds o op f g s.views id w k.each own others;
         },
         (f.next, ap (λ ws. slice_index ws 0) k.words, refl),
       )
@@ -80,7 +80,7 @@ module _ {V O I : Type 0} (origin : V → O) (logof : V → List (ℕ × I)) (o 
   abbrev Goes : St → ℕ → ℕ → M → ℕ → (M → Type 0) → Type 0
   Goes s word id me n then = (w : View O I) × (a : Act (Option V)) × Valid s.homes me.1 a × KK (stepped s word n id me.1 w a) × then (w, carried_after me.1 a)
 
-  misses : (s : St) (k : KK s) (id t : ℕ) (me : M) → get_elem? s.views id ≡ some me.0 → me.0.ticket ≡ Some t → slice_index s.words 1 ≢ t % 2 ^ 64 → Goes s 1 id me (slice_index s.words 1) (λ m. Looks origin logof me (slice_index s.words 1) m)
+  misses : (s : St) (k : KK s) (id t : ℕ) (me : M) → get_elem? s.views id ≡ some me.0 → me.0.ticket ≡ Some t → slice_index s.words 1 ≢ t % 2 ^ 64 → Goes s 1 id me (slice_index s.words 1) (λ m. Looks origin logof holds me (slice_index s.words 1) m)
   misses s k id t me at ticket apart = (
     me.0,
     keeps,
@@ -100,7 +100,7 @@ module _ {V O I : Type 0} (origin : V → O) (logof : V → List (ℕ × I)) (o 
   )
 
   hits : (s : St) (k : KK s) (id t : ℕ) (me : M) → me.0.origin ≢ None → me.0.log ≡ None → get_elem? s.views id ≡ some me.0 → me.0.ticket ≡ Some t → slice_index s.words 1 ≡ t % 2 ^ 64
-      → Goes s 1 id me (slice_index s.words 1) (λ m. Looks origin logof me (slice_index s.words 1) m)
+      → Goes s 1 id me (slice_index s.words 1) (λ m. Looks origin logof holds me (slice_index s.words 1) m)
   hits s k id t me live lacks at ticket hit =
       let v = me.0 in let f = k.facts in
       let mine = k.each id v at in let waits = mine.waits t ticket in
@@ -112,7 +112,7 @@ module _ {V O I : Type 0} (origin : V → O) (logof : V → List (ℕ × I)) (o 
       let near : t < f.serving + 2 ^ 64 = omega arith in
       let served : f.serving ≡ t = one_turn f.serving t (2 ^ 64) low near (sym (ap (λ ws. slice_index ws 1) k.words) ∙ hit) in
       let drew : f.drawn f.serving ≡ id = ap f.drawn served ∙ waits.2 in
-      let home = at_home origin logof o op f s.homes s.views id v f.holder k.each at lacks drew k.lies in
+      let home = at_home origin logof holds o op f s.homes s.views id v f.holder k.each at lacks drew k.lies in
       let x = home.0 in let w = with_ticket v (Some t) (Some (logof x)) in
       let g : Facts I = record { next = f.next; serving = f.serving; drawn = f.drawn; tally = f.tally; teller = f.teller; keeper = f.keeper; log = f.log; added = f.added; holder = suc id } in
       let was : ticketed v ≡ 1 = ap (λ z. one z) ticket in
@@ -160,15 +160,15 @@ module _ {V O I : Type 0} (origin : V → O) (logof : V → List (ℕ × I)) (o 
           grown = k.grown;
           no_strangers = k.no_strangers;
           lies = (ap (λ h. set h 0 none) home.1, (w, set_at s.views id v w at, some_not (logof x), live));
-          each = each_set origin logof o op f g s.views id w k.each own others;
+          each = each_set origin logof holds o op f g s.views id w k.each own others;
         },
         λ z is. (
-          (λ _. (x, (λ i. (with_ticket v (Some (some_is t z (sym ticket ∙ is) i)) (Some (logof x)), (0, Some x) ∷ me.1)), told)),
+          (λ _. (x, (λ i. (with_ticket v (Some (some_is t z (sym ticket ∙ is) i)) (Some (logof x)), (0, Some x) ∷ me.1)), told, home.4)),
           (λ miss. absurd (miss (hit ∙ ap (λ n. n % 2 ^ 64) (some_is t z (sym ticket ∙ is))))),
         ),
       )
 
-  pub looks : (slots id t : ℕ) (me : M) → me.0.origin ≢ None → me.0.log ≡ None → me.0.ticket ≡ Some t → Allows KK slots id me 1 (λ n. n) (λ n m. Looks origin logof me n m)
+  pub looks : (slots id t : ℕ) (me : M) → me.0.origin ≢ None → me.0.log ≡ None → me.0.ticket ≡ Some t → Allows KK slots id me 1 (λ n. n) (λ n m. Looks origin logof holds me n m)
   looks slots id t me live lacks ticket s k wide at small = dite (ℕ_discrete (slice_index s.words 1) (t % 2 ^ 64)) (λ e. hits s k id t me live lacks at ticket e) (λ ne. misses s k id t me at ticket ne)
 
   pub counts : (slots id : ℕ) (me : M) (x : V) (extra : ℕ) → IsServed me (Some x) → Grows me.0.number (log_of me.0) (logof x) → length (log_of me.0) + extra ≡ length (logof x)
@@ -221,19 +221,19 @@ module _ {V O I : Type 0} (origin : V → O) (logof : V → List (ℕ × I)) (o 
           most = k.most;
           grown = grows.1 ∙ ap (λ l. l ++ new) (log ∙ k.grown) ∙ append_assoc op f.added new;
           no_strangers = λ n out. nothing n (λ e. ⊎_elim (λ (z : n ≡ 0). absurd (omega arith)) (λ (z : f.tally < n). absurd (omega arith)) out) ∙ k.no_strangers n out;
-          lies = ((subst (λ h. Lies origin logof o f.log s.homes s.views h) has.0 k.lies).0, (w, set_at s.views id v w at, some_not (logof x), served.0));
-          each = each_set origin logof o op f g s.views id w k.each own others;
+          lies = ((subst (λ h. Lies origin logof holds o f.log s.homes s.views h) has.0 k.lies).0, (w, set_at s.views id v w at, some_not (logof x), served.0));
+          each = each_set origin logof holds o op f g s.views id w k.each own others;
         },
         λ y is. ap (λ (z : V). (counted v (logof z), me.1)) (same_value me.1 x y served.2 is),
       )
 
-  pub raises : (slots id : ℕ) (me : M) (x : V) → IsServed me (Some x) → Some (origin x) ≡ me.0.origin → log_of me.0 ≡ logof x → Allows KK slots id me 1 (λ n. (n + 1) % 2 ^ 64) (λ n m. Raises me m)
-  raises slots id me x served from all s k wide at small =
+  pub raises : (slots id : ℕ) (me : M) (x : V) → IsServed me (Some x) → holds x → Some (origin x) ≡ me.0.origin → log_of me.0 ≡ logof x → Allows KK slots id me 1 (λ n. (n + 1) % 2 ^ 64) (λ n m. Raises me m)
+  raises slots id me x served good from all s k wide at small =
       let v = me.0 in let f = k.facts in let w = with_ticket v None None in
       let g : Facts I = record { next = f.next; serving = suc f.serving; drawn = f.drawn; tally = f.tally; teller = f.teller; keeper = f.keeper; log = f.log; added = f.added; holder = 0 } in
       let mine = k.each id v at in let has = mine.held served.1 in
       let turn : v.ticket ≡ Some f.serving = has.1 in
-      let away = subst (λ h. Lies origin logof o f.log s.homes s.views h) has.0 k.lies in
+      let away = subst (λ h. Lies origin logof holds o f.log s.homes s.views h) has.0 k.lies in
       let was : ticketed v ≡ 1 = ap (λ z. one z) turn in
       let lived : living v ≡ 1 = ap (λ z. one_or z (one v.origin)) turn in
       let lives : living w ≡ 1 = one_some v.origin served.0 in
@@ -274,8 +274,8 @@ module _ {V O I : Type 0} (origin : V → O) (logof : V → List (ℕ × I)) (o 
           most = k.most;
           grown = k.grown;
           no_strangers = k.no_strangers;
-          lies = (x, ap (λ c. put_back s.homes c) served.2 ∙ ap (λ h. set h 0 (some (Some x))) away.0, some_is (origin x) o (from ∙ (mine.from_start served.0).0), sym all ∙ ap (λ l. or_nil l) has.2);
-          each = each_set origin logof o op f g s.views id w k.each own others;
+          lies = (x, ap (λ c. put_back s.homes c) served.2 ∙ ap (λ h. set h 0 (some (Some x))) away.0, some_is (origin x) o (from ∙ (mine.from_start served.0).0), sym all ∙ ap (λ l. or_nil l) has.2, good);
+          each = each_set origin logof holds o op f g s.views id w k.each own others;
         },
         refl,
       )

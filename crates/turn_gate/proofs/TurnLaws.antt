@@ -15,14 +15,15 @@ pub front : {S : Type 0} (c : List (ℕ × S)) (y : S) → c ≡ (0, y) ∷ [] �
 front c y e = e ∙ ap (λ z. (0, y) ∷ rest z) (sym e)
 
 -- what the look tells a seat whose ticket is served
-pub got : {V O I : Type 0} (origin : V → O) (logof : V → List (ℕ × I)) (t : ℕ) (v : View O I) (me m : Me (Option V) (View O I)) (found : ℕ) → me ≡ (with_ticket v (Some t) None, []) → Looks origin logof me found m → found ≡ t % 2 ^ 64
-    → (x : V) × (m ≡ (with_ticket v (Some t) (Some (logof x)), (0, Some x) ∷ [])) × Told (origin x) (logof x) v
-got {V} {O} {I} origin logof t v me m found e looked hit =
+pub got : {V O I : Type 0} (origin : V → O) (logof : V → List (ℕ × I)) (holds : V → Type 0) (t : ℕ) (v : View O I) (me m : Me (Option V) (View O I)) (found : ℕ) → me ≡ (with_ticket v (Some t) None, []) → Looks origin logof holds me found m → found ≡ t % 2 ^ 64
+    → (x : V) × (m ≡ (with_ticket v (Some t) (Some (logof x)), (0, Some x) ∷ [])) × Told (origin x) (logof x) v × holds x
+got {V} {O} {I} origin logof holds t v me m found e looked hit =
     let r = (looked t (ap (λ (z : Me (Option V) (View O I)). z.0.ticket) e)).0 hit in let x = r.0 in
     let told = subst (λ (z : Me (Option V) (View O I)). Told (origin x) (logof x) z.0) e r.2 in (
       x,
       r.1 ∙ ap (λ (z : Me (Option V) (View O I)). (with_ticket z.0 (Some t) (Some (logof x)), (0, Some x) ∷ z.1)) e,
       record { from_start = told.from_start; saw = told.saw; added = told.added; grown = told.grown; stand = told.stand },
+      r.3,
     )
 
 -- the seat after the count
@@ -78,25 +79,25 @@ later_on u v w a b = record {
   seen = le_trans a.seen b.seen;
 }
 
-module _ {V O I : Type 0} (origin : V → O) (logof : V → List (ℕ × I)) (o : O) (op : List (ℕ × I)) where
+module _ {V O I : Type 0} (origin : V → O) (logof : V → List (ℕ × I)) (holds : V → Type 0) (o : O) (op : List (ℕ × I)) where
   abbrev M : Type 0
   M = Me (Option V) (View O I)
 
   -- the look of a seat that drew this ticket
-  pub looks_as : (slots id t : ℕ) (v : View O I) (me : M) → v.origin ≢ None → me ≡ (with_ticket v (Some t) None, []) → Allows (K origin logof o op) slots id me 1 (λ n. n) (λ n m. Looks origin logof me n m)
-  looks_as slots id t v me live e = subst (λ (m : M). Allows (K origin logof o op) slots id m 1 (λ n. n) (λ n m'. Looks origin logof m n m')) (sym e) (looks origin logof o op slots id t (with_ticket v (Some t) None, []) live refl refl)
+  pub looks_as : (slots id t : ℕ) (v : View O I) (me : M) → v.origin ≢ None → me ≡ (with_ticket v (Some t) None, []) → Allows (K origin logof holds o op) slots id me 1 (λ n. n) (λ n m. Looks origin logof holds me n m)
+  looks_as slots id t v me live e = subst (λ (m : M). Allows (K origin logof holds o op) slots id m 1 (λ n. n) (λ n m'. Looks origin logof holds m n m')) (sym e) (looks origin logof holds o op slots id t (with_ticket v (Some t) None, []) live refl refl)
 
   -- the count, with the value put in the slot
   pub counts_as : (slots id : ℕ) (before me : M) (x : V) (extra : ℕ) → IsServed before None → me ≡ (before.0, (0, Some x) ∷ rest before.1) → Grows before.0.number (log_of before.0) (logof x) → length (log_of before.0) + extra ≡ length (logof x)
-      → Allows (K origin logof o op) slots id me 2 (λ n. (n + extra) % 2 ^ 64) (λ n m. Counts logof me m)
+      → Allows (K origin logof holds o op) slots id me 2 (λ n. (n + extra) % 2 ^ 64) (λ n m. Counts logof me m)
   counts_as slots id before me x extra served e grows long =
       let now : M = (before.0, (0, Some x) ∷ rest before.1) in
-      subst (λ (m : M). Allows (K origin logof o op) slots id m 2 (λ n. (n + extra) % 2 ^ 64) (λ n m'. Counts logof m m')) (sym e)
-      (counts origin logof o op slots id now x extra (served.0, served.1, ap (λ c. (0, Some x) ∷ rest c) served.2) grows long)
+      subst (λ (m : M). Allows (K origin logof holds o op) slots id m 2 (λ n. (n + extra) % 2 ^ 64) (λ n m'. Counts logof m m')) (sym e)
+      (counts origin logof holds o op slots id now x extra (served.0, served.1, ap (λ c. (0, Some x) ∷ rest c) served.2) grows long)
 
-  pub raises_as : (slots id : ℕ) (before me m : M) (x : V) → IsServed before None → me ≡ (before.0, (0, Some x) ∷ rest before.1) → Counts logof me m → Some (origin x) ≡ before.0.origin
-      → Allows (K origin logof o op) slots id m 1 (λ n. (n + 1) % 2 ^ 64) (λ n m'. Raises m m')
-  raises_as slots id before me m x served e told from =
+  pub raises_as : (slots id : ℕ) (before me m : M) (x : V) → IsServed before None → me ≡ (before.0, (0, Some x) ∷ rest before.1) → Counts logof me m → holds x → Some (origin x) ≡ before.0.origin
+      → Allows (K origin logof holds o op) slots id m 1 (λ n. (n + 1) % 2 ^ 64) (λ n m'. Raises m m')
+  raises_as slots id before me m x served e told good from =
       let now : M = (counted before.0 (logof x), (0, Some x) ∷ []) in
-      subst (λ (z : M). Allows (K origin logof o op) slots id z 1 (λ n. (n + 1) % 2 ^ 64) (λ n m'. Raises z m')) (sym (after_count logof before me m x served e told))
-      (raises origin logof o op slots id now x (served.0, some_not (logof x), refl) from refl)
+      subst (λ (z : M). Allows (K origin logof holds o op) slots id z 1 (λ n. (n + 1) % 2 ^ 64) (λ n m'. Raises z m')) (sym (after_count logof before me m x served e told))
+      (raises origin logof holds o op slots id now x (served.0, some_not (logof x), refl) good from refl)

@@ -79,13 +79,13 @@ pub record Tied {O I : Type 0} (o : O) (op : List (ℕ × I)) (f : Facts I) (id 
 abbrev pub Each : {O I : Type 0} → O → List (ℕ × I) → Facts I → List (View O I) → Type 0
 Each o op f views = (id : ℕ) (v : _) → get_elem? views id ≡ some v → Tied o op f id v
 
--- where the value is: in its slot, with the origin and the log, or with a seat
-abbrev pub Lies : {V O I : Type 0} → (V → O) → (V → List (ℕ × I)) → O → List (ℕ × I) → List (maybe.Option (Option V)) → List (View O I) → ℕ → Type 0
-Lies origin logof o log homes views zero = (x : _) × (homes ≡ some (Some x) ∷ []) × (origin x ≡ o) × (logof x ≡ log)
-Lies origin logof o log homes views (suc j) = (homes ≡ none ∷ []) × ((v : _) × (get_elem? views j ≡ some v) × (v.log ≢ None) × (v.origin ≢ None))
+-- where the value is: in its slot, with the origin and the log, and with what holds of it, or with a seat
+abbrev pub Lies : {V O I : Type 0} → (V → O) → (V → List (ℕ × I)) → (V → Type 0) → O → List (ℕ × I) → List (maybe.Option (Option V)) → List (View O I) → ℕ → Type 0
+Lies origin logof holds o log homes views zero = (x : _) × (homes ≡ some (Some x) ∷ []) × (origin x ≡ o) × (logof x ≡ log) × holds x
+Lies origin logof holds o log homes views (suc j) = (homes ≡ none ∷ []) × ((v : _) × (get_elem? views j ≡ some v) × (v.log ≢ None) × (v.origin ≢ None))
 
 -- the rule, for a gate whose value began with this origin and this log
-pub record Kept {V O I : Type 0} (origin : V → O) (logof : V → List (ℕ × I)) (o : O) (op : List (ℕ × I)) (s : State (Option V) (View O I)) : Type 0 where
+pub record Kept {V O I : Type 0} (origin : V → O) (logof : V → List (ℕ × I)) (holds : V → Type 0) (o : O) (op : List (ℕ × I)) (s : State (Option V) (View O I)) : Type 0 where
   pub facts : Facts I
   pub words : s.words ≡ facts.next % 2 ^ 64 ∷ facts.serving % 2 ^ 64 ∷ length facts.log % 2 ^ 64 ∷ []
   pub waiting : facts.next ≡ facts.serving + total ticketed s.views
@@ -93,5 +93,5 @@ pub record Kept {V O I : Type 0} (origin : V → O) (logof : V → List (ℕ × 
   pub most : facts.tally ≤ 16
   pub grown : facts.log ≡ op ++ facts.added
   pub no_strangers : (n : ℕ) → (n ≡ 0) ⊎ (facts.tally < n) → items_of n facts.added ≡ []
-  pub lies : Lies origin logof o facts.log s.homes s.views facts.holder
+  pub lies : Lies origin logof holds o facts.log s.homes s.views facts.holder
   pub each : Each o op facts s.views

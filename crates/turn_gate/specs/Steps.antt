@@ -71,11 +71,11 @@ abbrev pub Draws : {S O I : Type 0} → Me S (View O I) → ℕ → Me S (View O
 Draws m found n = (t : ℕ) × (found ≡ t % 2 ^ 64) × (n ≡ (with_ticket m.0 (Some t) None, m.1))
 
 -- with its own ticket found the seat has the value; else all is as before
-abbrev pub Looks : {V O I : Type 0} → (V → O) → (V → List (ℕ × I)) → Me (Option V) (View O I) → ℕ → Me (Option V) (View O I) → Type 0
-Looks origin logof m found n =
+abbrev pub Looks : {V O I : Type 0} → (V → O) → (V → List (ℕ × I)) → (V → Type 0) → Me (Option V) (View O I) → ℕ → Me (Option V) (View O I) → Type 0
+Looks origin logof holds m found n =
     (t : ℕ)
     → m.0.ticket ≡ Some t
-    → (found ≡ t % 2 ^ 64 → (x : _) × (n ≡ (with_ticket m.0 (Some t) (Some (logof x)), (0, Some x) ∷ m.1)) × Told (origin x) (logof x) m.0) × (found ≢ t % 2 ^ 64 → n ≡ m)
+    → (found ≡ t % 2 ^ 64 → (x : _) × (n ≡ (with_ticket m.0 (Some t) (Some (logof x)), (0, Some x) ∷ m.1)) × Told (origin x) (logof x) m.0 × holds x) × (found ≢ t % 2 ^ 64 → n ≡ m)
 
 -- the items that the value in the slot has more than the seat's log are the seat's
 abbrev pub Counts : {V O I : Type 0} → (V → List (ℕ × I)) → Me (Option V) (View O I) → Me (Option V) (View O I) → Type 0

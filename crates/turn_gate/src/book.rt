@@ -13,6 +13,9 @@ pub trait Book {
     // What never changes.
     ghost origin: { Self → Self.Origin };
 
+    // What is always true of it.
+    ghost holds: { Self → Type 0 };
+
     // The log, which only grows: each item stands with the number of the seat that added it.
     ghost log: { Self → List (ℕ × Self.Item) };
 

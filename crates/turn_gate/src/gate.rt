@@ -29,7 +29,8 @@ impl<V: Book> Gate<V> {
     /// A gate with this value, and that many seats, from 1 to 16, in order of their numbers from 1 on. Where memory is wanting
     /// the value comes back.
     pub fn start(alloc: Global, value: V, seats: u8) -> Result<(Gate<V>, Vec<Seat<V>>), V>
-        requires { (1 ≤ seats) × (seats ≤ 16) }
+        requires few { (1 ≤ seats) × (seats ≤ 16) }
+        requires holds { V.holds value }
         ensures value { IfOk result (λ r. r.0.table.shared.key.value ≡ value) }
         ensures table { IfOk result (λ r. All (λ s. s.token.table_id ≡ r.0.table.shared.table_id) r.1.items) }
         ensures seats { IfOk result (λ r. map (λ s. s.token.me.0) r.1.items ≡ seats_of (V.origin value) (V.log value) seats) }
@@ -95,11 +96,12 @@ impl<V: Book> Gate<V> {
 
     /// The seat draws a ticket and waits for its turn; it may wait for ever, and takes no memory. The value then has the
     /// origin of the start, and its log is no shorter than the seat saw; past the opening log it has of this seat's items
-    /// those that the seat added, in order.
+    /// those that the seat added, in order. What is always true of the value is true of it.
     pub fn take<R: Wait>(&self, rt: &R, seat: Seat<V>) -> Turn<V>
         requires { seat.token.table_id ≡ self.now.table.shared.table_id }
         ensures table { result.token.table_id ≡ seat.token.table_id }
         ensures view { Taken V.origin V.log result.value seat.token.me.0 result.token.me.0 }
+        ensures holds { V.holds result.value }
         ensures later { Later seat.token.me.0 result.token.me.0 }
     {
         let Seat { number, mut token } = seat;
@@ -125,11 +127,12 @@ impl<V: Book> Gate<V> {
         unreachable!()
     }
 
-    /// The value goes back, and the turn to the next ticket. The value must have kept its origin, and its log must have grown
-    /// by items of this seat's number alone. These are then the seat's, and it has seen the whole log.
+    /// The value goes back, and the turn to the next ticket. The value must have kept its origin and what is always true of
+    /// it, and its log must have grown by items of this seat's number alone. These are then the seat's, and it has seen the whole log.
     pub fn put(&self, turn: Turn<V>) -> Seat<V>
         requires table { turn.token.table_id ≡ self.now.table.shared.table_id }
         requires origin { Some (V.origin turn.value) ≡ turn.token.me.0.origin }
+        requires holds { V.holds turn.value }
         requires log { Grows turn.token.me.0.number (log_of turn.token.me.0) (V.log turn.value) }
         ensures table { result.token.table_id ≡ turn.token.table_id }
         ensures view { result.token.me.0 ≡ done turn.token.me.0 (V.log turn.value) }
@@ -154,11 +157,12 @@ impl<V: Book> Gate<V> {
 
     /// The value, when all seats have come back, in order of their numbers. It has the origin of the start; its log is the
     /// opening log and then items of the seats alone; each seat's items stand in it each once, in order; and it is at least
-    /// as long as any seat saw. It takes no memory.
+    /// as long as any seat saw. What is always true of the value is true of it. It takes no memory.
     pub fn finish(self, mut seats: Vec<Seat<V>>) -> V
         requires table { All (λ s. s.token.table_id ≡ self.table.shared.table_id) seats.items }
         requires all { IsAll (map (λ s. s.token.me.0) seats.items) }
-        ensures { Ended (V.origin self.table.shared.key.value) (V.log self.table.shared.key.value) (V.origin result) (V.log result) (map (λ s. s.token.me.0) seats.items) }
+        ensures ended { Ended (V.origin self.table.shared.key.value) (V.log self.table.shared.key.value) (V.origin result) (V.log result) (map (λ s. s.token.me.0) seats.items) }
+        ensures holds { V.holds result }
     {
         let Gate { table } = self;
         let Seat {

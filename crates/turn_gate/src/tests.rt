@@ -24,6 +24,8 @@ impl Book for Ledger {
 
     ghost origin = { λ s. s.title };
 
+    ghost holds = { λ s. s.title ≡ 7 };
+
     ghost log = { λ s. s.lines.items };
 
     fn length(&self) -> u64 {

@@ -33,7 +33,7 @@ pub struct Turns;
 impl<V: Book> TableRule<Option<V>, View<V::Origin, V::Item>, Snapshot<V>> for Turns {
     ghost use Rattle.turn_gate.specs.Rule.{Kept, first_view};
 
-    ghost holds = { λ k. Kept V.origin V.log (V.origin k.value) (V.log k.value) };
+    ghost holds = { λ k. Kept V.origin V.log V.holds (V.origin k.value) (V.log k.value) };
 
     ghost first = { λ k. first_view (V.origin k.value) (V.log k.value) };
 }
@@ -53,7 +53,7 @@ pub struct Look;
 impl<V: Book> Play<Option<V>, View<V::Origin, V::Item>> for Look {
     ghost use Rattle.turn_gate.specs.Steps.{Looks};
 
-    ghost then = { λ step m found n. Looks V.origin V.log m found n };
+    ghost then = { λ step m found n. Looks V.origin V.log V.holds m found n };
 }
 
 /// The count of items is raised, with the value in the slot.

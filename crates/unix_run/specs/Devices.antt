@@ -1,20 +1,10 @@
 -- Parts of the calls on devices that code has functions of their own for.
-use Rattle.std.specs.Prelude.{ℕ, List, [], ◌∷◌, Some}
+use Rattle.std.specs.Prelude.{ℕ, List}
 use Rattle.unix_calls.specs.declared.description.Description.{Description}
-use Rattle.unix_calls.specs.declared.state.Ask.{Ask}
-use Rattle.unix_calls.specs.declared.state.Device.{Device}
 use Rattle.unix_calls.specs.declared.state.Process.{Process}
 use Rattle.unix_calls.specs.State.{Unix, device_at}
 use Rattle.unix_calls.specs.Answers.{Outcome}
 use Rattle.unix_calls.specs.DeviceCalls.{get_from, put_to, with_device_of}
-
--- a device whose first ask is in hand
-abbrev pub taken_by : Device → List Ask → Device
-taken_by device [] = device
-taken_by device (ask ∷ asks) = record device { asks = asks; in_hand = Some ask }
-
-abbrev pub first_taken : Device → Device
-first_taken device = taken_by device device.asks
 
 -- the first ask of the device that the entry at that place made
 abbrev pub get_at : Description → Unix → Process → ℕ → ℕ → Outcome

@@ -1,5 +1,5 @@
 -- Whether an entry is made, by parts.
-use Rattle.std.specs.Prelude.{◌≡◌, ◌==◌, ℕ, Bool, true, false, ◌&&◌, not, if◌then◌else◌, List, Option, Some, None, slice_get}
+use Rattle.std.specs.Prelude.{◌≡◌, ℕ, Bool, true, false, ◌&&◌, not, if◌then◌else◌, List, Option, Some, None, slice_get}
 use Rattle.std.specs.Option.{is_some, option_map}
 use Rattle.sprite_ids.specs.declared.errno.Errno.TheVariants as errno
 use Rattle.sprite_ids.specs.declared.running.Ending.TheVariants as ending
@@ -7,7 +7,6 @@ use Rattle.process_machine.specs.declared.call.Call.{Call}
 use Rattle.process_machine.specs.declared.call.Reply.{Reply}
 use Rattle.process_machine.specs.declared.call.Reply.TheVariants.{Value, Error}
 use Rattle.unix_calls.specs.declared.description.Description.{Description}
-use Rattle.unix_calls.specs.declared.state.Answer.{Answer}
 use Rattle.unix_calls.specs.declared.state.Device.{Device}
 use Rattle.unix_calls.specs.declared.state.Process.{Process}
 use Rattle.unix_calls.specs.State.{Unix, device_at, no_descriptors, with_process}
@@ -57,12 +56,6 @@ done_in c alive reply u p (Some device) = done_with c u p device reply (due_from
 
 abbrev pub ends_ask : Description → ℕ → Bool → Reply → Unix → Process → Option Unix
 ends_ask c place alive reply u p = done_in c alive reply u p (device_at u.devices place)
-
--- whether the answer that stands there is for the process
-pub record IsFor (answers : List Answer) (at pid : ℕ) (is : Bool) : Type 0 where
-  pub answer : Answer
-  pub there : slice_get answers at ≡ Some answer
-  pub test : (answer.pid == pid) ≡ is
 
 -- a step of the process that stands there is made or not, and leaves the state `after` with these processes
 pub record MakesAmong (c : Description) (step : Unix → Process → Option Unix) (w : World) (ps : List Process) (at : ℕ) (is : Bool) (after : World) (qs : List Process) : Type 0 where

@@ -1,9 +1,9 @@
-ghost use Rattle.std.specs.Prelude.{◌≡◌, ◌<◌, ◌∷◌, ◌++◌, ◌==◌, [], None, Some, IfOk, OnOk};
+ghost use Rattle.std.specs.Prelude.{◌≡◌, ◌<◌, ◌++◌, ◌==◌, Some, IfOk, OnOk};
 ghost use Rattle.std.specs.List.{position};
 ghost use Rattle.byteorder.specs.Endian.{little_bytes};
 ghost use Rattle.unix_calls.specs.DeviceCalls.{answer_of, asked_bytes, errno_of, ioctl, kind_of, most_of, pd_get, pd_put, reply_of};
 ghost use Rattle.unix_calls.specs.declared.state.Device.{Device};
-ghost use Rattle.unix_run.specs.Devices.{first_taken, get_at, put_at};
+ghost use Rattle.unix_run.specs.Devices.{get_at, put_at};
 ghost use Rattle.unix_run.specs.Coming.{Comes};
 
 use crate::answers::{answer, give_value, refuse};
@@ -12,7 +12,7 @@ use byteorder::{ByteOrder, LittleEndian};
 use process_machine::{Call, Reply};
 use sprite_ids::{Bytes, Errno, NoMemory};
 use std::alloc::Global;
-use unix_calls::{Answer, Description, Device, Object, Process};
+use unix_calls::{Answer, Description, Object, Process};
 use unix_world::{World, stream_of};
 
 /// `ioctl fd command addr len`: a device's master answers. BadFd; Invalid: a file; BadMode: a master's stream (Welch and Ousterhout
@@ -34,13 +34,6 @@ pub(crate) fn ioctl(
         Object::OfDevice(place) => Ok(Came::GoesTo(place)),
         Object::OfMaster(_) => Ok(refuse(c, p, Errno::BadMode)),
     }
-}
-
-/// Where the device stands that the entry at that place made.
-pub(crate) fn place_of(devices: &[Device], place: u32) -> Option<usize>
-    ensures { result ≡ position (λ (d : Device). d.place == place) devices.now }
-{
-    devices.iter().position(|device| device.place == place)
 }
 
 // The kind of an asked call: 1 read, 2 write, 3 ioctl.
@@ -109,7 +102,7 @@ pub(crate) fn pd_get(
     let Object::OfMaster(place) = stream.object else {
         return Ok(refuse(c, p, Errno::BadMode));
     };
-    match place_of(world.devices.as_slice(), place) {
+    match world.devices.place_of(place) {
         None => Ok(refuse(c, p, Errno::BadMode)),
         Some(at) => get_at(alloc, c, world, p, max, place, at),
     }
@@ -143,7 +136,7 @@ fn get_at(
     if max < second {
         return Ok(refuse(c, p, Errno::Invalid));
     }
-    take_first(world.devices.at_mut(at));
+    world.devices.take_ask(at);
     Ok(answer(
         c,
         p,
@@ -153,15 +146,6 @@ fn get_at(
             bytes,
         },
     ))
-}
-
-// The first ask comes into the master's hand.
-fn take_first(device: &mut Device)
-    ensures { device.new ≡ first_taken device.old }
-{
-    if !device.asks.is_empty() {
-        device.in_hand = Some(device.asks.remove(0));
-    }
 }
 
 // How many bytes an answer may have.
@@ -252,7 +236,7 @@ pub(crate) fn pd_put(
     let Object::OfMaster(place) = stream.object else {
         return Ok(refuse(c, p, Errno::BadMode));
     };
-    match place_of(world.devices.as_slice(), place) {
+    match world.devices.place_of(place) {
         None => Ok(refuse(c, p, Errno::BadMode)),
         Some(at) => put_at(alloc, c, world, p, bytes, number, place, at),
     }
@@ -280,15 +264,6 @@ fn put_at(
     let Some(reply) = answer_of(alloc, &ask.call, bytes, number)? else {
         return Ok(refuse(c, p, Errno::Invalid));
     };
-    leave(world.devices.at_mut(at), Answer { pid, reply })?;
+    world.devices.leave(at, Answer { pid, reply })?;
     Ok(give_value(alloc, c, p, 0))
-}
-
-// The answer is left, and no ask is in hand.
-fn leave(device: &mut Device, answer: Answer) -> Result<(), NoMemory>
-    ensures { OnOk result (device.new ≡ record device.old { in_hand = None; answers = device.old.answers ++ answer ∷ [] }) }
-{
-    device.answers.push(answer)?;
-    device.in_hand = None;
-    Ok(())
 }

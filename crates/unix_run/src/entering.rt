@@ -1,13 +1,12 @@
-ghost use Rattle.std.specs.Prelude.{◌≡◌, ◌<◌, ◌+◌, ◌∷◌, ◌++◌, [], IfOk, OnOk, length, remove};
+ghost use Rattle.std.specs.Prelude.{◌≡◌, ◌<◌, ◌+◌, IfOk};
 ghost use Rattle.std.specs.Option.{option_map};
-ghost use Rattle.unix_calls.specs.DeviceCalls.{answer_for, without_answer};
-ghost use Rattle.unix_run.specs.Entering.{Dies, IsFor, Makes, asks_at, ends_ask, is_due};
+ghost use Rattle.unix_calls.specs.DeviceCalls.{answer_for};
+ghost use Rattle.unix_run.specs.Entering.{Dies, Makes, asks_at, ends_ask, is_due};
 
 use crate::answers::reply_to;
-use crate::devices::place_of;
 use crate::same::same_reply;
 use process_machine::{Call, Reply};
-use sprite_ids::{Copying, Ending, Errno, Items, NoMemory, Pid};
+use sprite_ids::{Copying, Ending, Errno, NoMemory, Pid};
 use std::alloc::Global;
 use unix_calls::{Answer, Ask, Description, Device, Process};
 use unix_world::World;
@@ -36,11 +35,11 @@ pub(crate) fn ask(
     requires { p.old.calls < 4294967295 }
     ensures { IfOk result (λ made. Makes c.now (asks_at place call.now) world.old p.old made world.new p.new) }
 {
-    match place_of(world.devices.as_slice(), place) {
+    match world.devices.place_of(place) {
         None => Ok(false),
         Some(at) => {
             let ask = ask_of(alloc, p, call)?;
-            add_ask(world.devices.at_mut(at), ask)?;
+            world.devices.add_ask(at, ask)?;
             p.asking = Some(place);
             Ok(true)
         }
@@ -59,13 +58,6 @@ fn ask_of(alloc: Global, p: &Process, call: &Call) -> Result<Ask, NoMemory>
     })
 }
 
-// Behind the others.
-fn add_ask(device: &mut Device, ask: Ask) -> Result<(), NoMemory>
-    ensures { OnOk result (device.new ≡ record device.old { asks = device.old.asks ++ ask ∷ [] }) }
-{
-    device.asks.push(ask)
-}
-
 /// The end of an ask: the answer is the one that was left for the process, or NoServer where the device isn't alive and none was.
 pub(crate) fn end_ask(
     c: &Description,
@@ -78,13 +70,13 @@ pub(crate) fn end_ask(
     requires { p.old.calls < 4294967295 }
     ensures { Makes c.now (ends_ask c.now place alive reply.now) world.old p.old result world.new p.new }
 {
-    let Some(at) = place_of(world.devices.as_slice(), place) else {
+    let Some(at) = world.devices.place_of(place) else {
         return false;
     };
     if !is_due(world.devices.at(at), p.pid, alive, reply) {
         return false;
     }
-    drop_answers(&mut world.devices.at_mut(at).answers, p.pid);
+    world.devices.drop_answers(at, p.pid);
     reply_to(c, p, reply);
     true
 }
@@ -109,34 +101,4 @@ fn answer_for(answers: &[Answer], pid: Pid) -> Option<&Reply>
         }
     }
     None
-}
-
-// Takes away the answers that were left for the process.
-fn drop_answers(answers: &mut Items<Answer>, pid: Pid)
-    ensures { answers.new ≡ without_answer pid answers.old }
-{
-    let mut at = 0;
-    while at < answers.len() {
-        if is_for(answers.as_slice(), at, pid) {
-            drop_at(answers, at);
-        } else {
-            at += 1;
-        }
-    }
-}
-
-// Whether the answer that stands there is for the process.
-fn is_for(answers: &[Answer], at: usize, pid: Pid) -> bool
-    requires { at < length answers.now }
-    ensures { IsFor answers.now at pid result }
-{
-    answers[at].pid == pid
-}
-
-// Takes the answer away that stands there.
-fn drop_at(answers: &mut Items<Answer>, at: usize)
-    requires { at < length answers.old }
-    ensures { answers.new ≡ remove answers.old at }
-{
-    let _gone = answers.remove(at);
 }

@@ -13,10 +13,8 @@ use process_machine::Reply;
 use sprite_ids::{Errno, NoMemory};
 use sprite_paths::{Path, PathEnd};
 use std::alloc::Global;
-use unix_calls::{Description, Named, Node, Process};
-use unix_world::{
-    World, above, add_name, count_below, is_full, listing, node_at, remove_name, walk,
-};
+use unix_calls::{Description, Node, Process};
+use unix_world::{NameTree, World, above};
 
 /// The path of a text, from the process's cwd; none where the text is no path.
 pub(crate) fn path_of(alloc: Global, p: &Process, text: &[u8]) -> Result<Option<Path>, NoMemory>
@@ -43,13 +41,13 @@ pub(crate) fn stat(
     let Some(path) = path_of(alloc, p, text)? else {
         return Ok(refuse(c, p, Errno::BadName));
     };
-    if let Some(errno) = walk(world.nodes.as_slice(), path.parts()) {
+    if let Some(errno) = world.nodes.walk(path.parts()) {
         return Ok(refuse(c, p, errno));
     }
-    match node_at(world.nodes.as_slice(), path.parts()) {
+    match world.nodes.node_at(path.parts()) {
         None => Ok(refuse(c, p, Errno::NoEntry)),
         Some(Node::Directory) => {
-            let second = count_below(world.nodes.as_slice(), path.parts()) as u64;
+            let second = world.nodes.count_below(path.parts()) as u64;
             Ok(give_two(alloc, c, p, 2, second))
         }
         Some(Node::FileNode(_)) => Ok(give_value(alloc, c, p, 1)),
@@ -74,7 +72,7 @@ pub(crate) fn mkdir(
     if let Some(errno) = new_refusal(world, &path) {
         return Ok(refuse(c, p, errno));
     }
-    add_name(alloc, &mut world.nodes, path.parts(), Node::Directory)?;
+    world.nodes.add(alloc, path.parts(), Node::Directory)?;
     Ok(give_value(alloc, c, p, 0))
 }
 
@@ -82,14 +80,14 @@ pub(crate) fn mkdir(
 pub(crate) fn new_refusal(world: &World, path: &Path) -> Option<Errno>
     ensures { result ≡ new_refusal (bare world.now) path.now }
 {
-    let nodes = world.nodes.as_slice();
-    if let Some(errno) = walk(nodes, path.parts()) {
+    let nodes = &world.nodes;
+    if let Some(errno) = nodes.walk(path.parts()) {
         return Some(errno);
     }
-    if node_at(nodes, path.parts()).is_some() {
+    if nodes.node_at(path.parts()).is_some() {
         return Some(Errno::Exists);
     }
-    if is_full(nodes, above(path.parts())) {
+    if nodes.is_full(above(path.parts())) {
         return Some(Errno::TooMany);
     }
     None
@@ -112,7 +110,7 @@ pub(crate) fn rmdir(
     if let Some(errno) = rmdir_refusal(c, world, &path) {
         return Ok(refuse(c, p, errno));
     }
-    remove_name(&mut world.nodes, path.parts());
+    world.nodes.remove(path.parts());
     Ok(give_value(alloc, c, p, 0))
 }
 
@@ -123,13 +121,13 @@ fn rmdir_refusal(c: &Description, world: &World, path: &Path) -> Option<Errno>
     if begins_domain(c, path) {
         return Some(Errno::Busy);
     }
-    let nodes = world.nodes.as_slice();
-    if let Some(errno) = walk(nodes, path.parts()) {
+    let nodes = &world.nodes;
+    if let Some(errno) = nodes.walk(path.parts()) {
         return Some(errno);
     }
-    match node_at(nodes, path.parts()) {
+    match nodes.node_at(path.parts()) {
         None => Some(Errno::NoEntry),
-        Some(Node::Directory) if count_below(nodes, path.parts()) > 0 => Some(Errno::NotEmpty),
+        Some(Node::Directory) if nodes.count_below(path.parts()) > 0 => Some(Errno::NotEmpty),
         Some(Node::Directory) => None,
         Some(_) => Some(Errno::NotDir),
     }
@@ -139,11 +137,11 @@ fn rmdir_refusal(c: &Description, world: &World, path: &Path) -> Option<Errno>
 fn directory_refusal(world: &World, path: &Path) -> Option<Errno>
     ensures { result ≡ chdir_refusal (bare world.now) path.now }
 {
-    let nodes = world.nodes.as_slice();
-    if let Some(errno) = walk(nodes, path.parts()) {
+    let nodes = &world.nodes;
+    if let Some(errno) = nodes.walk(path.parts()) {
         return Some(errno);
     }
-    match node_at(nodes, path.parts()) {
+    match nodes.node_at(path.parts()) {
         None => Some(Errno::NoEntry),
         Some(Node::Directory) => None,
         Some(_) => Some(Errno::NotDir),
@@ -191,7 +189,7 @@ pub(crate) fn unlink(
     if let Some(errno) = unlink_refusal(world, &path) {
         return Ok(refuse(c, p, errno));
     }
-    remove_name(&mut world.nodes, path.parts());
+    world.nodes.remove(path.parts());
     Ok(give_value(alloc, c, p, 0))
 }
 
@@ -199,11 +197,11 @@ pub(crate) fn unlink(
 fn unlink_refusal(world: &World, path: &Path) -> Option<Errno>
     ensures { result ≡ unlink_refusal (bare world.now) path.now }
 {
-    let nodes = world.nodes.as_slice();
-    if let Some(errno) = walk(nodes, path.parts()) {
+    let nodes = &world.nodes;
+    if let Some(errno) = nodes.walk(path.parts()) {
         return Some(errno);
     }
-    match node_at(nodes, path.parts()) {
+    match nodes.node_at(path.parts()) {
         None => Some(Errno::NoEntry),
         Some(Node::Directory) => Some(Errno::IsDir),
         Some(_) => None,
@@ -249,9 +247,9 @@ fn rename_at(
     if let Some(errno) = rename_refusal(c, world, old, new) {
         return Ok(refuse(c, p, errno));
     }
-    if let Some(node) = node_at(world.nodes.as_slice(), old.parts()) {
-        remove_name(&mut world.nodes, old.parts());
-        add_name(alloc, &mut world.nodes, new.parts(), node)?;
+    if let Some(node) = world.nodes.node_at(old.parts()) {
+        world.nodes.remove(old.parts());
+        world.nodes.add(alloc, new.parts(), node)?;
     }
     Ok(give_value(alloc, c, p, 0))
 }
@@ -264,11 +262,11 @@ fn rename_refusal(c: &Description, world: &World, old: &Path, new: &Path) -> Opt
     if c.domain_of(old) != c.domain_of(new) {
         return Some(Errno::XDev);
     }
-    let nodes = world.nodes.as_slice();
-    if let Some(errno) = walk(nodes, old.parts()) {
+    let nodes = &world.nodes;
+    if let Some(errno) = nodes.walk(old.parts()) {
         return Some(errno);
     }
-    match node_at(nodes, old.parts()) {
+    match nodes.node_at(old.parts()) {
         None => Some(Errno::NoEntry),
         Some(Node::Directory) => Some(Errno::IsDir),
         Some(_) => place_refusal(nodes, old, new),
@@ -276,16 +274,16 @@ fn rename_refusal(c: &Description, world: &World, old: &Path, new: &Path) -> Opt
 }
 
 // Why the new path isn't free for what stands at the old one. Walk; Exists; TooMany: another directory that is full.
-fn place_refusal(nodes: &[Named], old: &Path, new: &Path) -> Option<Errno>
+fn place_refusal(nodes: &NameTree, old: &Path, new: &Path) -> Option<Errno>
     ensures { result ≡ place_refusal nodes.now old.now new.now }
 {
-    if let Some(errno) = walk(nodes, new.parts()) {
+    if let Some(errno) = nodes.walk(new.parts()) {
         return Some(errno);
     }
-    if node_at(nodes, new.parts()).is_some() {
+    if nodes.node_at(new.parts()).is_some() {
         return Some(Errno::Exists);
     }
-    if above(old.parts()) != above(new.parts()) && is_full(nodes, above(new.parts())) {
+    if above(old.parts()) != above(new.parts()) && nodes.is_full(above(new.parts())) {
         return Some(Errno::TooMany);
     }
     None
@@ -307,10 +305,10 @@ pub(crate) fn list(
     let Some(path) = path_of(alloc, p, text)? else {
         return Ok(refuse(c, p, Errno::BadName));
     };
-    if let Some(errno) = walk(world.nodes.as_slice(), path.parts()) {
+    if let Some(errno) = world.nodes.walk(path.parts()) {
         return Ok(refuse(c, p, errno));
     }
-    match node_at(world.nodes.as_slice(), path.parts()) {
+    match world.nodes.node_at(path.parts()) {
         None => Ok(refuse(c, p, Errno::NoEntry)),
         Some(Node::Directory) => list_directory(alloc, c, world, p, &path, max),
         Some(_) => Ok(refuse(c, p, Errno::NotDir)),
@@ -329,7 +327,7 @@ fn list_directory(
     requires { p.old.calls < 4294967295 }
     ensures { IfOk result (λ came. Comes c.now (λ u q. lists c.now u q path.now max) world.old p.old came world.new p.new) }
 {
-    let bytes = listing(alloc, world.nodes.as_slice(), path.parts())?;
+    let bytes = world.nodes.listing(alloc, path.parts())?;
     let first = bytes.len() as u64;
     if max < first {
         return Ok(refuse(c, p, Errno::Invalid));

@@ -14,7 +14,7 @@ use sprite_ids::{Bytes, Errno, Items, Mode, NoMemory};
 use sprite_paths::Path;
 use std::alloc::Global;
 use unix_calls::{Description, Device, File, FileName, Flags, Node, Object, Process, Stream};
-use unix_world::{Files, World, above, add_name, free_descriptor, is_full, node_at, walk};
+use unix_world::{Devices, Files, World, above, free_descriptor};
 
 // The mode of two bits: 1 read, 2 write, 3 both.
 fn mode_of(bits: u64) -> Option<Mode>
@@ -99,10 +99,10 @@ fn open_at(
     requires descriptor { fd < length p.old.descriptors }
     ensures { IfOk result (λ came. Comes c.now (λ u q. open_at c.now u q fd flags.now path.now) world.old p.old came world.new p.new) }
 {
-    if let Some(errno) = walk(world.nodes.as_slice(), path.parts()) {
+    if let Some(errno) = world.nodes.walk(path.parts()) {
         return Ok(refuse(c, p, errno));
     }
-    match node_at(world.nodes.as_slice(), path.parts()) {
+    match world.nodes.node_at(path.parts()) {
         None => create_file(alloc, c, world, p, fd, flags, path),
         Some(Node::Directory) => Ok(refuse(c, p, Errno::IsDir)),
         Some(Node::FileNode(name)) => open_named(alloc, c, world, p, fd, flags, name),
@@ -174,13 +174,13 @@ fn create_file(
     if !flags.creates {
         return Ok(refuse(c, p, Errno::NoEntry));
     }
-    if is_full(world.nodes.as_slice(), above(path.parts())) {
+    if world.nodes.is_full(above(path.parts())) {
         return Ok(refuse(c, p, Errno::TooMany));
     }
     let name = FileName::Made(world.entries);
     let bytes = Bytes::new(alloc);
     world.files.push(File { name, bytes })?;
-    add_name(alloc, &mut world.nodes, path.parts(), Node::FileNode(name))?;
+    world.nodes.add(alloc, path.parts(), Node::FileNode(name))?;
     add_stream(
         alloc,
         c,
@@ -260,12 +260,9 @@ fn make_at(
     }
     let place = world.entries;
     add_device(alloc, &mut world.devices, place)?;
-    add_name(
-        alloc,
-        &mut world.nodes,
-        path.parts(),
-        Node::DeviceNode(place),
-    )?;
+    world
+        .nodes
+        .add(alloc, path.parts(), Node::DeviceNode(place))?;
     add_stream(
         alloc,
         c,
@@ -279,7 +276,7 @@ fn make_at(
 }
 
 // A device with no ask and no answer.
-fn add_device(alloc: Global, devices: &mut Items<Device>, place: u32) -> Result<(), NoMemory>
+fn add_device(alloc: Global, devices: &mut Devices, place: u32) -> Result<(), NoMemory>
     ensures { OnOk result (devices.new ≡ devices.old ++ record { place = place; asks = []; in_hand = None; answers = [] } ∷ []) }
 {
     let asks = Items::new(alloc);

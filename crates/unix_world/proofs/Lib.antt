@@ -2,6 +2,9 @@ pub mod BootLaws
 pub mod ChangeLaws
 pub mod ContentLaws
 pub mod DeviceLaws
+pub mod KeyLaws
+pub mod OrderLaws
 pub mod PlaceLaws
 pub mod ProcessLaws
+pub mod SeekLaws
 pub mod TreeLaws

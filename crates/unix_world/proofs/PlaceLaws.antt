@@ -26,7 +26,7 @@ pub record Sought {X : Type 0} (R : X → X → Type 0) (same : X → Bool) (Low
   pub behind : (x y : X) → R x y → High x → same y ≡ false
 
 -- two places of a list in its order
-ordered_pair : {X : Type 0} (R : X → X → Type 0) (xs : List X) (i j : ℕ) (x y : X) → Ordered R xs → i < j → slice_get xs i ≡ Some x → slice_get xs j ≡ Some y → R x y
+pub ordered_pair : {X : Type 0} (R : X → X → Type 0) (xs : List X) (i j : ℕ) (x y : X) → Ordered R xs → i < j → slice_get xs i ≡ Some x → slice_get xs j ≡ Some y → R x y
 ordered_pair R [] i j x y h less got other = absurd (omega (arith, get_within [] i x got))
 ordered_pair R (z ∷ zs) zero zero x y h less got other = absurd (omega (arith, less))
 ordered_pair R (z ∷ zs) zero (suc j) x y h less got other = subst (λ w. R w y) (some_is z x got) (each_get (R z) zs j y h.0 other)
@@ -85,7 +85,7 @@ outside_high R same Low High xs low high middle x s h got is out =
     }
 
 -- where all is outside nothing is found
-none_passes : {X : Type 0} (same : X → Bool) (xs : List X) → ((i : ℕ) (x : X) → slice_get xs i ≡ Some x → same x ≡ false) → list_any same xs ≡ false
+pub none_passes : {X : Type 0} (same : X → Bool) (xs : List X) → ((i : ℕ) (x : X) → slice_get xs i ≡ Some x → same x ≡ false) → list_any same xs ≡ false
 none_passes same [] h = refl
 none_passes same (x ∷ xs) h =
     ap (λ (b : Bool). b || list_any same xs) (h 0 x refl) ∙ none_passes same xs (λ i y got. h (suc i) y got)
@@ -99,7 +99,7 @@ pub outside_any : {X : Type 0} (same : X → Bool) (xs : List X) (low high : ℕ
 outside_any same xs low high out met =
     none_passes same xs (λ i x got. at_neither same xs low high i x out met got (compared i low))
 
-none_by : (o : Option ℕ) → is_some o ≡ false → o ≡ None
+pub none_by : (o : Option ℕ) → is_some o ≡ false → o ≡ None
 none_by None h = refl
 none_by (Some i) h = absurd (true≢false h)
 

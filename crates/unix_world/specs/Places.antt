@@ -1,6 +1,7 @@
 -- Lists that stand in the order by which their items are looked up.
 use Rattle.std.specs.Prelude.{◌≡◌, ◌<◌, ◌≤◌, ℕ, Bool, true, false, List, [], ◌∷◌, length, nat_lt, Some, slice_get, ◌+◌}
 use Rattle.std.specs.List.{AllByRecursion}
+use Rattle.unix_calls.specs.declared.state.Device.{Device}
 use Rattle.unix_calls.specs.declared.state.File.{File}
 use Rattle.unix_calls.specs.declared.state.FileName.{FileName}
 use Rattle.unix_calls.specs.declared.state.FileName.TheVariants.{Boot, Made}
@@ -29,6 +30,10 @@ pub record Outside {X : Type 0} (same : X → Bool) (xs : List X) (low high : �
 -- the order of streams: by the entries that made them
 abbrev pub IsOlder : Stream → Stream → Type 0
 IsOlder s t = s.place < t.place
+
+-- the order of devices: by the entries that made them
+abbrev pub IsEarlier : Device → Device → Type 0
+IsEarlier d e = d.place < e.place
 
 -- the order of files: those of the cluster file's lines, by line, and then those that entries made, by entry
 abbrev pub is_before : FileName → FileName → Bool

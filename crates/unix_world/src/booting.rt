@@ -10,18 +10,19 @@ ghost use Rattle.unix_world.specs.Among.{Ascending};
 ghost use Rattle.unix_world.specs.Starts.{with_line};
 ghost use Rattle.unix_world.specs.Worlds.{unix_of};
 
+use crate::devices::Devices;
 use crate::files::Files;
 use crate::processes::{next_pid, put};
 use crate::programs::program_at;
 use crate::streams::Streams;
-use crate::tree::{above, add_name, node_at};
+use crate::tree::{NameTree, above};
 use crate::world::World;
 use process_machine::Image;
 use sprite_ids::{Bytes, Items, Kernel, NoMemory, Pid};
 use sprite_paths::Path;
 use std::alloc::Global;
 use unix_calls::{
-    Description, File, FileLine, FileName, KernelLine, Named, Node, Process, ProgramLine, StartLine,
+    Description, File, FileLine, FileName, KernelLine, Node, Process, ProgramLine, StartLine,
 };
 
 /// The one-kernel Unix at its start: the state, and the processes by ascending number. There are a directory at each domain and
@@ -43,7 +44,7 @@ pub fn boot(alloc: Global, c: &Description) -> Result<(World, Items<Process>), N
         nodes,
         files,
         streams: Streams::new(alloc),
-        devices: Items::new(alloc),
+        devices: Devices::new(alloc),
         ticks,
         limit: limit_of(c.version),
         entries: 0,
@@ -52,10 +53,10 @@ pub fn boot(alloc: Global, c: &Description) -> Result<(World, Items<Process>), N
 }
 
 // A directory at each domain of the kernels and above it.
-fn root_names(alloc: Global, lines: &[KernelLine]) -> Result<Items<Named>, NoMemory>
+fn root_names(alloc: Global, lines: &[KernelLine]) -> Result<NameTree, NoMemory>
     ensures { IfOk result (λ nodes. nodes ≡ with_roots (roots_of lines.now) []) }
 {
-    let mut nodes = Items::new(alloc);
+    let mut nodes = NameTree::new(alloc);
     for line in lines {
         add_roots(alloc, &mut nodes, line.serves.as_slice())?;
     }
@@ -63,7 +64,7 @@ fn root_names(alloc: Global, lines: &[KernelLine]) -> Result<Items<Named>, NoMem
 }
 
 // Puts a directory at each of these paths and above it.
-fn add_roots(alloc: Global, nodes: &mut Items<Named>, roots: &[Path]) -> Result<(), NoMemory>
+fn add_roots(alloc: Global, nodes: &mut NameTree, roots: &[Path]) -> Result<(), NoMemory>
     ensures { OnOk result (nodes.new ≡ with_roots roots.now nodes.old) }
 {
     for root in roots {
@@ -73,7 +74,7 @@ fn add_roots(alloc: Global, nodes: &mut Items<Named>, roots: &[Path]) -> Result<
 }
 
 // Puts a directory at the path and above it, where nothing stands.
-fn add_directories(alloc: Global, nodes: &mut Items<Named>, path: &[Bytes]) -> Result<(), NoMemory>
+fn add_directories(alloc: Global, nodes: &mut NameTree, path: &[Bytes]) -> Result<(), NoMemory>
     ensures { OnOk result (nodes.new ≡ with_directories path.now nodes.old) }
 {
     for count in 0..path.len() {
@@ -84,19 +85,19 @@ fn add_directories(alloc: Global, nodes: &mut Items<Named>, path: &[Bytes]) -> R
 }
 
 // Puts a directory at the path, where nothing stands.
-fn add_directory(alloc: Global, nodes: &mut Items<Named>, path: &[Bytes]) -> Result<(), NoMemory>
+fn add_directory(alloc: Global, nodes: &mut NameTree, path: &[Bytes]) -> Result<(), NoMemory>
     ensures { OnOk result (nodes.new ≡ with_directory path.now nodes.old) }
 {
-    if node_at(nodes.as_slice(), path).is_some() {
+    if nodes.node_at(path).is_some() {
         return Ok(());
     }
-    add_name(alloc, nodes, path, Node::Directory)
+    nodes.add(alloc, path, Node::Directory)
 }
 
 // Makes the files of the lines.
 fn add_files(
     alloc: Global,
-    nodes: &mut Items<Named>,
+    nodes: &mut NameTree,
     files: &mut Files,
     lines: &[FileLine],
 ) -> Result<(), NoMemory>
@@ -112,7 +113,7 @@ fn add_files(
 // Makes the file of the line at that place; a line that joins another's file makes none.
 fn add_line(
     alloc: Global,
-    nodes: &mut Items<Named>,
+    nodes: &mut NameTree,
     files: &mut Files,
     lines: &[FileLine],
     place: u32,
@@ -131,7 +132,7 @@ fn add_line(
 // Makes a file of these bytes, with the directories above it.
 fn add_file(
     alloc: Global,
-    nodes: &mut Items<Named>,
+    nodes: &mut NameTree,
     files: &mut Files,
     place: u32,
     path: &[Bytes],
@@ -141,7 +142,7 @@ fn add_file(
 {
     let name = FileName::Boot(place);
     add_directories(alloc, nodes, above(path))?;
-    add_name(alloc, nodes, path, Node::FileNode(name))?;
+    nodes.add(alloc, path, Node::FileNode(name))?;
     files.push(File { name, bytes })
 }
 

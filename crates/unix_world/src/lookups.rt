@@ -4,9 +4,10 @@ ghost use Rattle.unix_calls.specs.declared.state.Device.{Device};
 ghost use Rattle.unix_calls.specs.State.{free_descriptor, free_from, holds_master_of, is_master_of, joined_option, leads_to_master};
 ghost use Rattle.unix_world.specs.Worlds.{stream_of_fd};
 
+use crate::devices::Devices;
 use crate::streams::Streams;
 use crate::world::World;
-use unix_calls::{Device, Object, Process, Stream};
+use unix_calls::{Object, Process, Stream};
 
 /// The stream that a descriptor of the process leads to.
 pub fn stream_of(world: &World, p: &Process, fd: u64) -> Option<Stream>
@@ -79,13 +80,13 @@ fn is_master(world: &World, descriptor: Option<u32>) -> bool
         return false;
     };
     match world.streams.at_place(place) {
-        Some(stream) => has_master(world.devices.as_slice(), stream.object),
+        Some(stream) => has_master(&world.devices, stream.object),
         None => false,
     }
 }
 
 // Whether a stream is the master's of one of the devices.
-fn has_master(devices: &[Device], object: Object) -> bool
+fn has_master(devices: &Devices, object: Object) -> bool
     ensures { result ≡ list_any (λ (d : Device). is_master_of d.place object) devices.now }
 {
     match object {
@@ -96,15 +97,10 @@ fn has_master(devices: &[Device], object: Object) -> bool
 }
 
 // Whether one of the devices was made by the entry at that place.
-fn has_place(devices: &[Device], place: u32) -> bool
+fn has_place(devices: &Devices, place: u32) -> bool
     ensures { result ≡ list_any (λ (d : Device). place == d.place) devices.now }
 {
-    for device in devices {
-        if place == device.place {
-            return true;
-        }
-    }
-    false
+    devices.place_of(place).is_some()
 }
 
 /// Whether the process holds a master stream of the device that the entry at that place made.

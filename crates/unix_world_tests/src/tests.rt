@@ -178,10 +178,11 @@ fn has_name(
     path: &[u8],
     node: Node,
 ) -> Result<bool, NoMemory> {
-    if at >= world.nodes.len() {
+    let nodes = world.nodes.as_slice();
+    if at >= nodes.len() {
         return Ok(false);
     }
-    let named = world.nodes.at(at);
+    let named = &nodes[at];
     let text = text_of(alloc, named.path.as_slice())?;
     Ok(named.node == node && text.as_slice() == path)
 }
@@ -251,7 +252,7 @@ fn first_other(
     processes: &[Process],
     limit: u32,
 ) -> Result<Option<Part>, NoMemory> {
-    if world.nodes.len() != NAMES.len() || first_other_name(alloc, world)?.is_some() {
+    if world.nodes.as_slice().len() != NAMES.len() || first_other_name(alloc, world)?.is_some() {
         return Ok(Some(Part::Names));
     }
     if world.files.as_slice().len() != FILES.len() || first_other_file(world).is_some() {

@@ -9,7 +9,8 @@ use Rattle.unix_calls.specs.declared.state.Process.{Process}
 use Rattle.unix_calls.specs.State.{with_process}
 use Rattle.unix_calls.specs.Answers.{Answered, replied}
 use Rattle.unix_calls.specs.DeviceCalls.{asked_bytes, kind_of, taken}
-use Rattle.unix_run.specs.Devices.{first_taken, get_at, taken_by}
+use Rattle.unix_run.specs.Devices.{get_at}
+use Rattle.unix_world.specs.Devices.{first_taken, taken_by}
 use Rattle.unix_world.specs.Worlds.{unix_of}
 use Rattle.unix_world.proofs.ChangeLaws.{device_there}
 use Rattle.unix_run.proofs.DeviceLaws.{comes_answered, get_busy, get_waits, get_invalid, get_takes, head_is, place_there, put_device}
@@ -64,11 +65,11 @@ returns c =
     let found = device_there c.args.place w.devices c.args.at d c.requires.there c.at-device.ensures in
     let long = c.len-second.ensures ∙ ap length c.in_ok-bytes.ensures in
     let reply = ap₂ (λ (first second : ℕ). Value first second c.in_ok-bytes.bytes) c.kind_of-first.ensures long ∙ ap (λ (bytes : List ℕ). Value (kind_of ask.call) (length asked) bytes) c.in_ok-bytes.ensures in
-    let same = some_is c.at_mut.result.now d (sym c.at_mut.ensures.value ∙ c.at-device.ensures) in
-    let new = c.take_first.ensures ∙ ap first_taken same ∙ ap (taken_by d) (head_is d.asks ask c.at-ask.ensures) in
-    let devices = ap (slice_set w.devices c.args.at) new ∙ put_device c.args.place w.devices c.args.at d (taken d ask asks) c.requires.there c.at-device.ensures (place_there c.args.place w.devices c.args.at d c.requires.there c.at-device.ensures) in
+    let same = some_is c.take_ask.ensures.device d (sym c.take_ask.ensures.there ∙ c.at-device.ensures) in
+    let new = ap first_taken same ∙ ap (taken_by d) (head_is d.asks ask c.at-ask.ensures) in
+    let devices = c.take_ask.ensures.set ∙ ap (slice_set w.devices c.args.at) new ∙ put_device c.args.place w.devices c.args.at d (taken d ask asks) c.requires.there c.at-device.ensures (place_there c.args.place w.devices c.args.at d c.requires.there c.at-device.ensures) in
     let process = c.answer.ensures.process ∙ ap (replied c.args.c.now c.args.p.now) reply in
-    comes_answered c.args.c.now (λ u q. get_at c.args.c.now u q c.args.max c.args.place) w c.args.p.now R c.answer.result (record w { devices = slice_set w.devices c.args.at c.take_first.new.device }) c.answer.new.p
+    comes_answered c.args.c.now (λ u q. get_at c.args.c.now u q c.args.max c.args.place) w c.args.p.now R c.answer.result (record w { devices = c.take_ask.new.self }) c.answer.new.p
     (c.answer.ensures.came ∙ ap came.Answered reply)
     (λ ps. get_takes c.args.c.now (unix_of c.args.c.now w ps) c.args.p.now c.args.max c.args.place d ask asks found (sym c.is_some.ensures ∙ c.if-is_some.false) (head_is d.asks ask c.at-ask.ensures)
     (le-ltb c.args.max (length asked) (subst (λ (n : ℕ). n ≤ c.args.max) long c.if-max-second.false))

@@ -1,9 +1,6 @@
 use Rattle.std.proofs.Common.{refl, sym, ap, ◌∙◌}
-use Rattle.std.specs.Prelude.{◌==◌}
-use Rattle.std.specs.List.{position}
 use Rattle.sprite_ids.specs.declared.errno.Errno.TheVariants as errno
 use Rattle.process_machine.specs.declared.call.Reply.TheVariants.{Error}
-use Rattle.unix_calls.specs.declared.state.Device.{Device}
 use Rattle.unix_calls.specs.declared.state.Process.{Process}
 use Rattle.unix_calls.specs.State.{with_process}
 use Rattle.unix_calls.specs.Answers.{Answered}
@@ -16,7 +13,7 @@ use Rattle.unix_run.proofs.devices.pd_get.Goals as goal
 pub returns-in-None : goal.returns-in-None
 returns-in-None c =
     let w = c.args.world.now in
-    let place = ap (position (λ (d : Device). d.place == c.in-OfMaster.place)) (sym c.as_slice.ensures) ∙ sym c.place_of.ensures ∙ c.in-None.is in
+    let place = sym c.place_of.ensures ∙ c.in-None.is in
     let none = no_device c.in-OfMaster.place w.devices place in
     let found = sym c.stream_of.ensures.stream ∙ c.in-Some.is in
     comes_answered c.args.c.now (λ u q. pd_get c.args.c.now u q c.args.fd c.args.max) w c.args.p.now (Error errno.BadMode) c.refuse-in-None.result w c.refuse-in-None.new.p

@@ -44,10 +44,10 @@ returns c =
     let ask = c.in-Some.ask in
     let reply = c.in-Some-2.reply in
     let found = device_there c.args.place w.devices c.args.at d c.requires.there c.at.ensures in
-    let same = some_is c.at_mut.result.now d (sym c.at_mut.ensures.value ∙ c.at.ensures) in
-    let new = c.in_ok-leave.ensures ∙ ap (λ (e : Device). left e ask reply) same in
-    let devices = ap (slice_set w.devices c.args.at) new ∙ put_device c.args.place w.devices c.args.at d (left d ask reply) c.requires.there c.at.ensures (place_there c.args.place w.devices c.args.at d c.requires.there c.at.ensures) in
-    comes_answered c.args.c.now (λ u q. put_at c.args.c.now u q c.args.bytes.now c.args.number c.args.place) w c.args.p.now (value 0) c.give_value.result (record w { devices = slice_set w.devices c.args.at c.leave.new.device }) c.give_value.new.p
+    let same = some_is c.in_ok-leave.ensures.device d (sym c.in_ok-leave.ensures.there ∙ c.at.ensures) in
+    let new = ap (λ (e : Device). left e ask reply) same in
+    let devices = c.in_ok-leave.ensures.set ∙ ap (slice_set w.devices c.args.at) new ∙ put_device c.args.place w.devices c.args.at d (left d ask reply) c.requires.there c.at.ensures (place_there c.args.place w.devices c.args.at d c.requires.there c.at.ensures) in
+    comes_answered c.args.c.now (λ u q. put_at c.args.c.now u q c.args.bytes.now c.args.number c.args.place) w c.args.p.now (value 0) c.give_value.result (record w { devices = c.leave.new.self }) c.give_value.new.p
     c.give_value.ensures.came
     (λ ps. put_held c.args.c.now (unix_of c.args.c.now w ps) c.args.p.now c.args.bytes.now c.args.number c.args.place d ask (Some reply) found c.in-Some.is (sym c.in-Some-2.is ∙ c.in_ok-reply.ensures)
     ∙ ap₂ (λ (q : Process) (ds : List Device). Answered (value 0) (with_process q (record (unix_of c.args.c.now w ps) { devices = ds }))) (sym c.give_value.ensures.process) (sym devices))

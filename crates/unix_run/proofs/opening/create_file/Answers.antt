@@ -19,10 +19,10 @@ returns c =
     let flags = c.args.flags.now in
     let path = c.args.path.now in
     let made = Made w.entries in
-    let full = ap₂ is_full (sym c.as_slice.ensures) (sym (c.above.ensures ∙ ap above c.parts.ensures.parts)) ∙ sym c.is_full.ensures ∙ c.if-is_full.false in
+    let full = ap (is_full w.nodes) (sym (c.above.ensures ∙ ap above c.parts.ensures.parts)) ∙ sym c.is_full.ensures ∙ c.if-is_full.false in
     let files = c.in_ok-push.ensures ∙ ap (λ (bytes : List ℕ). w.files ++ record { name = made; bytes = bytes } ∷ []) c.new-bytes.ensures in
-    let nodes = c.in_ok-add_name.ensures ∙ ap (λ (parts : List (List ℕ)). with_name (record { path = parts; node = FileNode made }) w.nodes) c.parts-2.ensures.parts in
-    let between = record w { files = c.push.new.self; nodes = c.add_name.new.nodes } in
+    let nodes = c.in_ok-add.ensures ∙ ap (λ (parts : List (List ℕ)). with_name (record { path = parts; node = FileNode made }) w.nodes) c.parts-2.ensures.parts in
+    let between = record w { files = c.push.new.self; nodes = c.add.new.self } in
     if_both c.add_stream.result
     (λ told h answered. comes_from d (λ u q. creates_file d u q c.args.fd flags path) (λ u q. opened d u q c.args.fd (OfFile made) flags.mode flags.appends) w between p (value c.args.fd) told c.add_stream.new.world c.add_stream.new.p
     (λ ps. creates d (unix_of d w ps) p c.args.fd flags path c.if-not-flags.false full

@@ -18,8 +18,8 @@ returns c =
     let p = c.args.p.now in
     let path = c.args.path.now in
     let free = sym c.new_refusal.ensures ∙ c.in_default.is in
-    let nodes = c.in_ok-add_name.ensures ∙ ap (λ (parts : List (List ℕ)). with_name (record { path = parts; node = DeviceNode w.entries }) w.nodes) c.parts.ensures.parts in
-    let between = record w { devices = c.add_device.new.devices; nodes = c.add_name.new.nodes } in
+    let nodes = c.in_ok-add.ensures ∙ ap (λ (parts : List (List ℕ)). with_name (record { path = parts; node = DeviceNode w.entries }) w.nodes) c.parts.ensures.parts in
+    let between = record w { devices = c.add_device.new.devices; nodes = c.add.new.self } in
     if_both c.add_stream.result
     (λ told h answered. comes_from d (λ u q. make_at d u q c.args.fd path) (λ u q. opened d u q c.args.fd (OfMaster w.entries) mode.Both false) w between p (value c.args.fd) told c.add_stream.new.world c.add_stream.new.p
     (λ ps. makes d (unix_of d w ps) p c.args.fd path free

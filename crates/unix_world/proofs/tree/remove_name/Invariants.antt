@@ -1,9 +1,9 @@
-use Rattle.std.proofs.Common.{◌≡◌, ◌++◌, ◌-◌, drop, take, length}
-use Rattle.unix_calls.specs.Tree.{without_name}
+use Rattle.std.proofs.Common.{length}
+use Rattle.unix_world.proofs.TreeLaws.{Goes}
 use Rattle.unix_world.proofs.tree.remove_name.Given as goal
 
-abbrev pub invariant-loop-at : goal.invariant-loop-at
-invariant-loop-at l = take l.at l.nodes ++ without_name l.path (drop l.at l.nodes) ≡ without_name l.path l.fn.nodes
+abbrev pub invariant-loop-nodes : goal.invariant-loop-nodes
+invariant-loop-nodes l = Goes l.path l.at l.fn.nodes l.nodes
 
-abbrev pub decreases-loop-at : goal.decreases-loop-at
-decreases-loop-at l = length l.nodes - l.at
+abbrev pub decreases-loop-nodes : goal.decreases-loop-nodes
+decreases-loop-nodes l = length l.nodes

@@ -6,12 +6,12 @@ pub fetch_add-requires : goal.fetch_add-requires
 fetch_add-requires g c = (
   search rules,
   search rules,
-  counts_as _ _ _ _ _ c.exchange.new.seat.id c.args.turn.token.me c.exchange.new.seat.me c.args.turn.value (c.length.result - c.args.turn.before) c.args.turn.served c.exchange.ensures.3 c.requires.log
+  counts_as _ _ _ _ _ _ c.exchange.new.seat.id c.args.turn.token.me c.exchange.new.seat.me c.args.turn.value (c.length.result - c.args.turn.before) c.args.turn.served c.exchange.ensures.3 c.requires.log
       (longer _ _ _ _ _ c.requires.log.1 c.length.ensures c.args.turn.counted),
 )
 
 pub fetch_add-requires-2 : goal.fetch_add-requires-2
-fetch_add-requires-2 g c = (search rules, search rules, raises_as _ _ _ _ _ c.fetch_add.new.seat.id c.args.turn.token.me c.exchange.new.seat.me c.fetch_add.new.seat.me c.args.turn.value c.args.turn.served c.exchange.ensures.3 c.fetch_add.ensures.2 c.requires.origin)
+fetch_add-requires-2 g c = (search rules, search rules, raises_as _ _ _ _ _ _ c.fetch_add.new.seat.id c.args.turn.token.me c.exchange.new.seat.me c.fetch_add.new.seat.me c.args.turn.value c.args.turn.served c.exchange.ensures.3 c.fetch_add.ensures.2 c.requires.holds c.requires.origin)
 
 pub invariant_of-result : goal.invariant_of-result
 invariant_of-result g c =

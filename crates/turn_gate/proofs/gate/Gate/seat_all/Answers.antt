@@ -6,7 +6,7 @@ use Rattle.turn_gate.proofs.gate.Gate.seat_all.Goals as goal
 pub split_seat-token-requires : goal.split_seat-token-requires
 split_seat-token-requires g c =
     let i = c.loop-tally.invariant in
-    (i.table, search rules, deals_as _ _ _ _ c.loop-tally.first.id c.loop-tally.first.me.0 c.loop-tally.tally (ap (λ z. z.0) i.first) (search rules))
+    (i.table, search rules, deals_as _ _ _ _ _ c.loop-tally.first.id c.loop-tally.first.me.0 c.loop-tally.tally (ap (λ z. z.0) i.first) (search rules))
 
 pub loop-tally-preserved : goal.loop-tally-preserved
 loop-tally-preserved g c =

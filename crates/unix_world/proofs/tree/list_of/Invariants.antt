@@ -1,7 +1,7 @@
 use Rattle.std.proofs.Common.{◌≡◌, ◌∷◌, ◌++◌, [], drop}
 use Rattle.std.specs.List.{flat_map}
 use Rattle.unix_calls.specs.Tree.{names_in}
-use Rattle.unix_world.proofs.tree.listing.Given as goal
+use Rattle.unix_world.proofs.tree.list_of.Given as goal
 
 abbrev pub invariant-loop-named : goal.invariant-loop-named
 invariant-loop-named l =

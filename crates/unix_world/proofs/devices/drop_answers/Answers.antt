@@ -1,9 +1,9 @@
-use Rattle.std.proofs.Common.{◌≡◌, ◌<◌, ◌+◌, ◌++◌, ℕ, suc, List, drop, length, take, true, false, sym, ap, subst, ◌∙◌, arith}
+use Rattle.std.proofs.Common.{◌≡◌, ◌<◌, ◌+◌, ◌++◌, ℕ, suc, List, drop, length, take, true, false, sym, subst, ◌∙◌, arith}
 use Rattle.unix_calls.specs.declared.state.Answer.{Answer}
 use Rattle.unix_calls.specs.DeviceCalls.{without_answer}
-use Rattle.unix_run.specs.Entering.{IsFor}
-use Rattle.unix_run.proofs.EnteringLaws.{drop_one, keep_one}
-use Rattle.unix_run.proofs.entering.drop_answers.Goals as goal
+use Rattle.unix_world.specs.Devices.{IsFor}
+use Rattle.unix_world.proofs.DeviceLaws.{drop_one, keep_one}
+use Rattle.unix_world.proofs.devices.drop_answers.Goals as goal
 
 pub loop-at-preserved-then-is_for : goal.loop-at-preserved-then-is_for
 loop-at-preserved-then-is_for c =

@@ -1,6 +1,6 @@
 use Rattle.std.proofs.Common.{◌≡◌, ◌≤◌, ◌+◌, drop, length}
 use Rattle.unix_calls.specs.Tree.{names_in}
-use Rattle.unix_world.proofs.tree.count_below.Given as goal
+use Rattle.unix_world.proofs.tree.count_in.Given as goal
 
 abbrev pub invariant-loop-named : goal.invariant-loop-named
 invariant-loop-named l =
