@@ -1,11 +1,13 @@
 -- What a trace keeps beside its records, when one is put at its end.
-use Rattle.std.proofs.Common.{◌≡◌, ℕ, ◌+◌, ◌<◌, ◌==◌, List, [], ◌∷◌, ◌++◌, cond, ap, sym, subst, ◌∙◌, arith, length, slice_index, slice_set}
+use Rattle.std.proofs.Common.{◌≡◌, ℕ, ◌+◌, ◌<◌, ◌==◌, List, [], ◌∷◌, ◌++◌, cond, ap, sym, subst, ◌∙◌, arith, append-nil, append_assoc, length, slice_index, slice_set}
 use Rattle.std.proofs.lemmas.List.{get_or-set_same, get_or-set_other, length-set}
 use Rattle.std.proofs.lemmas.List.Sums.{sum_by-append}
+use Rattle.unix_calls.specs.declared.event.Event.{Event}
+use Rattle.unix_calls.specs.declared.event.Event.TheVariants as event
 use Rattle.unix_calls.specs.declared.event.Rec.{Rec}
 use Rattle.call_journal.specs.declared.counts.Tally.{Tally}
 use Rattle.call_journal.specs.Units.{units_of_event, units_of, kind_of, count_of}
-use Rattle.call_journal.specs.Counts.{AreCounts, AreTold}
+use Rattle.call_journal.specs.Counts.{AreCounts, AreTold, tally_after, tally_more}
 
 -- one unit and those of the data for one more record
 pub units_of-more : (trace : List Rec) (rec : Rec) → units_of (trace ++ rec ∷ []) ≡ units_of trace + units_of_event rec.event
@@ -27,9 +29,46 @@ counted trace rec counts few h = record {
   each = λ kind within. raised counts (kind_of rec.event) kind (rw h.all few) ∙ ap (λ n. n + cond (kind_of rec.event == kind) 1 0) (h.each kind within) ∙ sym (count_of-more kind trace rec);
 }
 
+-- there are no more kinds than are counted
+kind_few : (e : Event) → kind_of e < 21
+kind_few (event.Burst pid count) = omega arith
+kind_few (event.Issue pid number call) = omega arith
+kind_few (event.Enter entry) = omega arith
+kind_few (event.Return pid number reply) = omega arith
+kind_few (event.Send tx to about kind) = omega arith
+kind_few (event.Fault a b met) = omega arith
+kind_few (event.Deliver tx from reply about) = omega arith
+kind_few (event.Expire tx last) = omega arith
+kind_few (event.Grant file to stamp mode) = omega arith
+kind_few (event.Callback file to stamp kind) = omega arith
+kind_few (event.Mode file stamp mode) = omega arith
+kind_few (event.Filled file block) = omega arith
+kind_few (event.Dropped file block cause) = omega arith
+kind_few (event.Dirtied file block) = omega arith
+kind_few (event.WroteBack file block) = omega arith
+kind_few (event.Opened file stream kernel mode) = omega arith
+kind_few (event.Closed file stream kernel mode) = omega arith
+kind_few (event.Shared file stream) = omega arith
+kind_few (event.Learned prefix server) = omega arith
+kind_few (event.Freeze pid) = omega arith
+kind_few (event.Thaw pid) = omega arith
+
 -- the tally of one more record
-pub told : (trace : List Rec) (rec : Rec) (before later : Tally) → kind_of rec.event < 21 → AreTold trace before → later.units ≡ before.units + units_of_event rec.event → later.counts ≡ slice_set before.counts (kind_of rec.event) (slice_index before.counts (kind_of rec.event) + 1) → AreTold (trace ++ rec ∷ []) later
-told trace rec before later few h units counts = record {
-  are_units = units ∙ ap (λ n. n + units_of_event rec.event) h.are_units ∙ sym (units_of-more trace rec);
-  are_counts = subst (AreCounts (trace ++ rec ∷ [])) (sym counts) (counted trace rec before.counts few h.are_counts);
+told_more : (trace : List Rec) (rec : Rec) (before : Tally) → AreTold trace before → AreTold (trace ++ rec ∷ []) (tally_more before rec.event)
+told_more trace rec before h = record {
+  are_units = ap (λ n. n + units_of_event rec.event) h.are_units ∙ sym (units_of-more trace rec);
+  are_counts = counted trace rec before.counts (kind_few rec.event) h.are_counts;
 }
+
+pub told : (trace : List Rec) (rec : Rec) (before later : Tally) → AreTold trace before → later ≡ tally_more before rec.event → AreTold (trace ++ rec ∷ []) later
+told trace rec before later h is = subst (AreTold (trace ++ rec ∷ [])) (sym is) (told_more trace rec before h)
+
+-- the tally of some more records
+told_after : (trace recs : List Rec) (before : Tally) → AreTold trace before → AreTold (trace ++ recs) (tally_after before recs)
+told_after trace [] before h = subst (λ all. AreTold all before) (sym (append-nil trace)) h
+told_after trace (rec ∷ recs) before h =
+    subst (λ all. AreTold all (tally_after (tally_more before rec.event) recs)) (append_assoc trace (rec ∷ []) recs)
+    (told_after (trace ++ rec ∷ []) recs (tally_more before rec.event) (told_more trace rec before h))
+
+pub told_all : (trace recs : List Rec) (before later : Tally) → AreTold trace before → later ≡ tally_after before recs → AreTold (trace ++ recs) later
+told_all trace recs before later h is = subst (AreTold (trace ++ recs)) (sym is) (told_after trace recs before h)

@@ -1,4 +1,5 @@
-ghost use Rattle.std.specs.Prelude.{◌≡◌, ◌+◌, ◌<◌, IfSome, replicate, slice_index, slice_set};
+ghost use Rattle.std.specs.Prelude.{◌≡◌, ◌<◌, IfSome, replicate};
+ghost use Rattle.call_journal.specs.Counts.{tally_more};
 ghost use Rattle.call_journal.specs.Units.{bytes_of_call, bytes_of_reply, data_of, units_of_event, kind_of};
 
 use process_machine::{Call, Reply};
@@ -28,9 +29,7 @@ impl Tally {
 
     /// With one event more; None where a number is more than 64 bits tell.
     pub fn with(&self, event: &Event) -> Option<Tally>
-        ensures units { IfSome result (λ t. t.units ≡ self.now.units + units_of_event event.now) }
-        ensures few { kind_of event.now < 21 }
-        ensures counts { IfSome result (λ t. t.counts ≡ slice_set self.now.counts (kind_of event.now) (slice_index self.now.counts (kind_of event.now) + 1)) }
+        ensures { IfSome result (λ t. t ≡ tally_more self.now event.now) }
     {
         let kind = kind_of(event);
         let mut counts = self.counts;

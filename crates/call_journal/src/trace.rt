@@ -1,7 +1,7 @@
-ghost use Rattle.std.specs.Prelude.{◌≡◌, ◌∷◌, ◌++◌, [], IfOk, OnOk, OnErr};
+ghost use Rattle.std.specs.Prelude.{◌≡◌, ◌∷◌, ◌++◌, [], IfOk, IfSome, OnOk, OnErr};
 ghost use Rattle.call_journal.specs.Journal.{journal_of};
 ghost use Rattle.call_journal.specs.Units.{units_of};
-ghost use Rattle.call_journal.specs.Counts.{AreCounts};
+ghost use Rattle.call_journal.specs.Counts.{AreCounts, tally_after};
 
 use crate::counts::Tally;
 use sprite_ids::{Copying, Items, NoMemory};
@@ -53,6 +53,21 @@ impl Trace {
         Ok(())
     }
 
+    /// Puts records at the end, in their order. After want of memory, the one error, the trace is as before; it also comes where
+    /// the units are more than a number of 64 bits tells, which no memory holds.
+    pub fn append(&mut self, recs: Items<Rec>) -> Result<(), NoMemory>
+        ensures ok { OnOk result (self.new ≡ self.old ++ recs) }
+        ensures err { OnErr result (self.new ≡ self.old) }
+    {
+        let Some(told) = tally_of(self.tally, recs.as_slice()) else {
+            return Err(NoMemory);
+        };
+        let mut recs = recs.into_vec();
+        self.records.append(&mut recs)?;
+        self.tally = told;
+        Ok(())
+    }
+
     /// The records, lent.
     pub fn records(&self) -> &[Rec]
         ensures { result.now ≡ self.now }
@@ -81,6 +96,17 @@ impl Trace {
     {
         entries(alloc, self.records.as_slice())
     }
+}
+
+// A tally with these records more; None where a number is more than 64 bits tell.
+fn tally_of(before: Tally, recs: &[Rec]) -> Option<Tally>
+    ensures { IfSome result (λ tally. tally ≡ tally_after before recs.now) }
+{
+    let mut tally = before;
+    for rec in recs {
+        tally = tally.with(&rec.event)?;
+    }
+    Some(tally)
 }
 
 fn entries(alloc: Global, records: &[Rec]) -> Result<Items<Entry>, NoMemory>

@@ -1,6 +1,1 @@
-pub mod ServerLaws
-pub mod LinkLaws
-pub mod FaultLaws
-pub mod ActLaws
-pub mod OpenLaws
-pub mod BootLaws
+pub mod StepLaws

@@ -1,38 +1,41 @@
 -- How a run stands.
 use Rattle.std.specs.Prelude.{ℕ, zero, suc, ◌≤◌, ◌==◌, List, ◌+◌, Bool, false, ◌||◌, not, if◌then◌else◌, nat_le, length}
 use Rattle.std.specs.List.{list_all}
-use Rattle.std.specs.Option.{is_some}
 use Rattle.sprite_ids.specs.declared.Finish.{Finish}
 use Rattle.sprite_ids.specs.declared.Finish.TheVariants as finish
-use Rattle.kernel_rpc.specs.Machine.{Machine, is_quiet}
+use Rattle.kernel_rpc.specs.Machine.{Machine}
 use Rattle.unix_calls.specs.declared.Description.{Description}
 use Rattle.unix_calls.specs.declared.Rec.{Rec}
 use Rattle.call_journal.specs.Units.{units_of}
-use Rattle.sprite_cluster.specs.declared.state.State.{State}
-use Rattle.sprite_cluster.specs.Kernels.{has_ended}
-use Rattle.sprite_cluster.specs.States.{due_at}
-use Rattle.sprite_cluster.specs.Bursts.{runnable_at}
+use Rattle.cluster_kernels.specs.declared.State.{State}
+use Rattle.cluster_kernels.specs.Kernels.{has_ended}
+use Rattle.cluster_packets.specs.Choosing.{choices_at}
+use Rattle.cluster_bursts.specs.Bursts.{has_job_at}
 
--- whether something can happen at the kernel: a block is due, or a process can run
-abbrev pub is_busy : State → ℕ → Bool
-is_busy s kernel = is_some (due_at kernel s) || not (length (runnable_at kernel s) == 0)
+-- whether something can happen at the kernel: it has a choice, or a process can run
+abbrev pub is_busy : Machine → State → ℕ → Bool
+is_busy machine s kernel = has_job_at kernel s || not (length (choices_at kernel s machine) == 0)
 
 -- whether something can happen at one of the first kernels
-abbrev pub are_busy : ℕ → State → Bool
-are_busy zero s = false
-are_busy (suc n) s = are_busy n s || is_busy s (n + 1)
+abbrev pub are_busy : ℕ → Machine → State → Bool
+are_busy zero machine s = false
+are_busy (suc n) machine s = are_busy n machine s || is_busy machine s (n + 1)
 
--- whether something can happen: a packet is in flight, a timer may fire, a burst is out, a block is due or a process can run
-abbrev pub may_go_on : State → Machine → Bool
-may_go_on s machine = not (is_quiet machine) || (not (length s.out == 0) || are_busy 16 s)
+-- whether something can happen in a cluster of so many kernels: a burst is out, a kernel has a choice, or a process can run
+abbrev pub may_go_on : ℕ → Machine → State → Bool
+may_go_on kernels machine s = not (length s.out == 0) || are_busy kernels machine s
 
--- how a run stands: the first that holds
-abbrev pub finish_of : Description → State → Machine → Finish
-finish_of c s machine =
+-- how a run stands that has memory: the first that holds
+abbrev pub finish_of : Description → List Rec → Machine → State → Finish
+finish_of c trace machine s =
     if list_all has_ended s.kernels then finish.AllEnded
-    else if nat_le c.budget (units_of s.trace) then finish.Budget
-    else if may_go_on s machine then finish.Running
+    else if nat_le c.budget (units_of trace) then finish.Budget
+    else if may_go_on (length c.kernels) machine s then finish.Running
     else finish.Stalled
+
+-- and any run
+abbrev pub stands_so : Bool → Description → List Rec → Machine → State → Finish
+stands_so closed c trace machine s = if closed then finish.OutOfMemory else finish_of c trace machine s
 
 -- where the run stands so, its budget is spent
 abbrev pub IsSpent : Description → List Rec → Finish → Type 0

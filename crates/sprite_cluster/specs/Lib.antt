@@ -1,11 +1,3 @@
-pub mod Kernels
-pub mod States
-pub mod Noted
-pub mod Booted
-pub mod Links
-pub mod Faults
-pub mod Acts
-pub mod Choosing
-pub mod Bursts
 pub mod Finishing
-pub mod Moments
+pub mod Logs
+pub mod Steps

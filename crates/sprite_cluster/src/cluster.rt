@@ -1,41 +1,45 @@
-ghost use Rattle.std.specs.Prelude.{◌≡◌, ◌<◌, ◌==◌, false, IfErr, IfOk, length, not};
+ghost use Rattle.std.specs.Prelude.{◌≡◌, ◌≢◌, ◌++◌, ◌<◌, false, true, [], IfErr, IfOk, OnErr, OnOk, length};
+ghost use Rattle.std.specs.Option.{is_some};
 ghost use Rattle.unix_calls.specs.Lawful.{Lawful};
-ghost use Rattle.call_journal.specs.Units.{units_of};
 ghost use Rattle.kernel_rpc.specs.Machine.{idle};
 ghost use Rattle.link_plan.specs.Counts.{Stay};
-ghost use Rattle.sprite_cluster.specs.Booted.{IsBooted};
-ghost use Rattle.sprite_cluster.specs.Bursts.{begun_by, job_at, EndsSo, runnable_at};
-ghost use Rattle.sprite_cluster.specs.Choosing.{choices_at};
-ghost use Rattle.sprite_cluster.specs.Faults.{ToldWhileOpen};
-ghost use Rattle.sprite_cluster.specs.Finishing.{IsSpent};
-ghost use Rattle.sprite_cluster.specs.Moments.{StandsSo};
+ghost use Rattle.cluster_kernels.specs.Booted.{IsBooted};
+ghost use Rattle.cluster_packets.specs.Choosing.{choices_at};
+ghost use Rattle.cluster_bursts.specs.Bursts.{begun_by, has_job_at, job_at, EndsSo};
+ghost use Rattle.sprite_cluster.specs.Finishing.{stands_so};
+ghost use Rattle.sprite_cluster.specs.Logs.{records_of};
+ghost use Rattle.sprite_cluster.specs.Steps.{begun_turn, EndedSo, Moved};
 
-use crate::boot::boot;
-use crate::bursts::{begin_burst, finish_burst, runnable};
-use crate::choice::{Burst, Choice, EndBurst, Job};
-use crate::choosing::choices;
-use crate::delivery::happen;
 use crate::finishing::finish;
-use crate::state::State;
-use call_journal::Closed;
+use crate::writing::write;
+use call_journal::{Closed, Trace};
+use cluster_bursts::{Burst, Job};
+use cluster_kernels::State;
+use cluster_packets::Choice;
 use kernel_rpc::Wire;
+use kernel_threads::EndBurst;
 use link_plan::Link;
 use sprite_ids::{Finish, Items, Kernel, NoMemory};
 use std::alloc::Global;
+use std::snapshot::Snapshot;
 use unix_calls::Description;
 use wire_format::Packet;
 
 /// A cluster of kernels with the packets between them, which goes on one kernel's step at a time (this project).
 ///
-/// After want of memory in a call the cluster is closed: its finish is `OutOfMemory`.
+/// After want of memory in a call the cluster is closed: its trace is the one before the call, and its finish is `OutOfMemory`.
 #[derive(Drop)]
 pub struct Cluster<L: Link> {
     /// What is run.
     pub description: Description,
-    /// The kernels, and what they did so far.
+    /// The kernels.
     pub state: State,
     /// The remote calls that aren't finished and the copies of packets in flight, over the link.
     pub wire: Wire<Packet, L>,
+    /// What the kernels did, in its order.
+    pub trace: Trace,
+    /// The link as it was before the boot.
+    pub begun: Snapshot<L>,
     /// Whether memory was wanting.
     pub closed: bool,
 }
@@ -48,19 +52,24 @@ impl<L: Link> Cluster<L> {
         ensures open { IfOk result (λ cluster. cluster.closed ≡ false) }
         ensures booted { IfOk result (λ cluster. IsBooted description cluster.state) }
         ensures idle { IfOk result (λ cluster. cluster.wire.machine ≡ idle) }
+        ensures nothing_written { IfOk result (λ cluster. cluster.trace ≡ []) }
+        ensures begun { IfOk result (λ cluster. cluster.begun.value ≡ link) }
         ensures counts { IfOk result (λ cluster. Stay (L.faults link) (L.asked link) (L.faults cluster.wire.link) (L.asked cluster.wire.link)) }
         ensures given_back { IfErr result (λ back. Stay (L.faults link) (L.asked link) (L.faults back) (L.asked back)) }
     {
+        let begun = Snapshot::of(&link);
         let mut link = link;
         let Ok(()) = link.load(alloc, &description.plan) else {
             return Err(link);
         };
         let wire = Wire::new(alloc, link)?;
-        match boot(alloc, &description) {
+        match cluster_kernels::boot(alloc, &description) {
             Ok(state) => Ok(Cluster {
                 description,
                 state,
                 wire,
+                trace: Trace::new(alloc),
+                begun,
                 closed: false,
             }),
             Err(NoMemory) => Err(wire.into_link()),
@@ -72,12 +81,13 @@ impl<L: Link> Cluster<L> {
     /// of memory.
     pub fn choices(&mut self, alloc: Global, kernel: Kernel) -> Result<Items<Choice>, NoMemory>
         ensures choices { IfOk result (λ choices. choices ≡ choices_at kernel self.old.state self.old.wire.machine) }
-        ensures same { self.new.description ≡ self.old.description }
-        ensures state { self.new.state ≡ self.old.state }
-        ensures wire { self.new.wire ≡ self.old.wire }
-        ensures told { ToldWhileOpen L.faults self.old.closed self.new.closed self.old.wire.link self.new.wire.link self.old.state.trace self.new.state.trace }
+        ensures ok { OnOk result (self.new ≡ self.old) }
+        ensures err { OnErr result (self.new.closed ≡ true) }
+        ensures description { self.new.description ≡ self.old.description }
+        ensures begun { self.new.begun ≡ self.old.begun }
+        ensures trace { self.new.trace ≡ self.old.trace }
     {
-        match choices(alloc, &self.state, &self.wire, kernel) {
+        match cluster_packets::choices(alloc, &self.state, &self.wire, kernel) {
             Ok(choices) => Ok(choices),
             Err(NoMemory) => {
                 self.closed = true;
@@ -89,10 +99,15 @@ impl<L: Link> Cluster<L> {
     /// The choice, one of the kernel's, happens. The one error is want of memory.
     pub fn step(&mut self, alloc: Global, kernel: Kernel, choice: Choice) -> Result<(), NoMemory>
         requires lawful { Lawful self.old.description }
-        ensures same { self.new.description ≡ self.old.description }
-        ensures told { ToldWhileOpen L.faults self.old.closed self.new.closed self.old.wire.link self.new.wire.link self.old.state.trace self.new.state.trace }
+        ensures ok { OnOk result (Moved L.faults L.asked kernel self.old.wire.machine self.old.wire.link self.new.wire.link self.old.state self.new.state self.old.trace self.new.trace) }
+        ensures open { OnOk result (self.new.closed ≡ self.old.closed) }
+        ensures err { OnErr result (self.new.closed ≡ true) }
+        ensures err_trace { OnErr result (self.new.trace ≡ self.old.trace) }
+        ensures description { self.new.description ≡ self.old.description }
+        ensures begun { self.new.begun ≡ self.old.begun }
     {
-        let done = happen(
+        self.state.begin_turn(alloc);
+        let happened = cluster_packets::happen(
             alloc,
             &self.description,
             &mut self.state,
@@ -100,8 +115,47 @@ impl<L: Link> Cluster<L> {
             kernel,
             choice,
         );
-        match done {
+        match happened {
+            Ok(()) => self.write(alloc, kernel),
+            Err(NoMemory) => {
+                self.closed = true;
+                Err(NoMemory)
+            }
+        }
+    }
+
+    // What the kernel told since its turn began stands in the trace. The one error is want of memory, and then the cluster is closed.
+    fn write(&mut self, alloc: Global, kernel: Kernel) -> Result<(), NoMemory>
+        ensures written { OnOk result (self.new.trace ≡ self.old.trace ++ records_of kernel self.old.state.told) }
+        ensures some { OnOk result (0 < length self.old.state.told) }
+        ensures state { OnOk result (self.new.state ≡ begun_turn self.old.state) }
+        ensures open { OnOk result (self.new.closed ≡ self.old.closed) }
+        ensures err { OnErr result (self.new.closed ≡ true) }
+        ensures err_trace { OnErr result (self.new.trace ≡ self.old.trace) }
+        ensures description { self.new.description ≡ self.old.description }
+        ensures begun { self.new.begun ≡ self.old.begun }
+        ensures wire { self.new.wire ≡ self.old.wire }
+    {
+        match write(alloc, &mut self.trace, kernel, &mut self.state.told) {
             Ok(()) => Ok(()),
+            Err(NoMemory) => {
+                self.closed = true;
+                Err(NoMemory)
+            }
+        }
+    }
+
+    /// Whether a process at the kernel can run and has no burst out. The one error is want of memory.
+    pub fn has_job(&mut self, alloc: Global, kernel: Kernel) -> Result<bool, NoMemory>
+        ensures has { IfOk result (λ has. has ≡ has_job_at kernel self.old.state) }
+        ensures ok { OnOk result (self.new ≡ self.old) }
+        ensures err { OnErr result (self.new.closed ≡ true) }
+        ensures description { self.new.description ≡ self.old.description }
+        ensures begun { self.new.begun ≡ self.old.begun }
+        ensures trace { self.new.trace ≡ self.old.trace }
+    {
+        match cluster_bursts::has_job(alloc, &self.state, kernel) {
+            Ok(has) => Ok(has),
             Err(NoMemory) => {
                 self.closed = true;
                 Err(NoMemory)
@@ -113,12 +167,16 @@ impl<L: Link> Cluster<L> {
     /// From now on its burst is out. The one error is want of memory.
     pub fn begin_burst(&mut self, alloc: Global, kernel: Kernel) -> Result<Option<Job>, NoMemory>
         ensures job { IfOk result (λ job. job ≡ job_at self.old.description kernel self.old.state) }
+        ensures has { IfOk result (λ job. is_some job ≡ has_job_at kernel self.old.state) }
         ensures state { IfOk result (λ job. self.new.state ≡ begun_by kernel job self.old.state) }
-        ensures same { self.new.description ≡ self.old.description }
+        ensures open { OnOk result (self.new.closed ≡ self.old.closed) }
+        ensures err { OnErr result (self.new.closed ≡ true) }
+        ensures description { self.new.description ≡ self.old.description }
+        ensures begun { self.new.begun ≡ self.old.begun }
+        ensures trace { self.new.trace ≡ self.old.trace }
         ensures wire { self.new.wire ≡ self.old.wire }
-        ensures told { ToldWhileOpen L.faults self.old.closed self.new.closed self.old.wire.link self.new.wire.link self.old.state.trace self.new.state.trace }
     {
-        match begin_burst(alloc, &self.description, &mut self.state, kernel) {
+        match cluster_bursts::begin_burst(alloc, &self.description, &mut self.state, kernel) {
             Ok(job) => Ok(job),
             Err(NoMemory) => {
                 self.closed = true;
@@ -136,10 +194,15 @@ impl<L: Link> Cluster<L> {
     ) -> Result<EndBurst, NoMemory>
         requires lawful { Lawful self.old.description }
         requires ends { EndsSo burst }
-        ensures same { self.new.description ≡ self.old.description }
-        ensures told { ToldWhileOpen L.faults self.old.closed self.new.closed self.old.wire.link self.new.wire.link self.old.state.trace self.new.state.trace }
+        ensures ok { IfOk result (λ end. EndedSo L.faults L.asked kernel burst end self.old.wire.link self.new.wire.link self.old.state self.new.state self.old.trace self.new.trace) }
+        ensures open { OnOk result (self.new.closed ≡ self.old.closed) }
+        ensures err { OnErr result (self.new.closed ≡ true) }
+        ensures err_trace { OnErr result (self.new.trace ≡ self.old.trace) }
+        ensures description { self.new.description ≡ self.old.description }
+        ensures begun { self.new.begun ≡ self.old.begun }
     {
-        let ended = finish_burst(
+        self.state.begin_turn(alloc);
+        let ended = cluster_bursts::end_burst(
             alloc,
             &self.description,
             &mut self.state,
@@ -148,7 +211,11 @@ impl<L: Link> Cluster<L> {
             burst,
         );
         match ended {
-            Ok(ended) => Ok(ended),
+            Ok(true) => {
+                self.write(alloc, kernel)?;
+                Ok(EndBurst::Taken)
+            }
+            Ok(false) => Ok(EndBurst::Stale),
             Err(NoMemory) => {
                 self.closed = true;
                 Err(NoMemory)
@@ -156,55 +223,48 @@ impl<L: Link> Cluster<L> {
         }
     }
 
-    /// Whether a process at the kernel can run and has no burst out. The one error is want of memory.
-    pub fn has_job(&self, alloc: Global, kernel: Kernel) -> Result<bool, NoMemory>
-        ensures { IfOk result (λ has. has ≡ not (length (runnable_at kernel self.now.state) == 0)) }
-    {
-        let pids = runnable(alloc, &self.state, kernel)?;
-        Ok(pids.len() != 0)
-    }
-
-    /// How the run stands: the first that holds of `OutOfMemory`, `AllEnded`, `Budget`, `Running` and `Stalled`. It is `OutOfMemory`
-    /// also where memory is wanting to find that out.
-    pub fn finish(&self, alloc: Global) -> Finish
-        ensures stands { StandsSo self.now.closed self.now.description self.now.state self.now.wire.machine result }
-        ensures spent { IsSpent self.now.description self.now.state.trace result }
-        ensures goes_on { result ≡ Finish.Running → units_of self.now.state.trace < self.now.description.budget }
+    /// How the run stands: the first that holds of `OutOfMemory`, `AllEnded`, `Budget`, `Running` and `Stalled`. Where memory is
+    /// wanting to find that out, the cluster is closed.
+    pub fn finish(&mut self, alloc: Global) -> Finish
+        ensures stands { result ≡ stands_so self.new.closed self.new.description self.new.trace self.new.wire.machine self.new.state }
+        ensures ok { result ≢ Finish.OutOfMemory → self.new ≡ self.old }
+        ensures description { self.new.description ≡ self.old.description }
+        ensures begun { self.new.begun ≡ self.old.begun }
+        ensures trace { self.new.trace ≡ self.old.trace }
+        ensures closed { self.old.closed ≡ true → self.new.closed ≡ true }
+        ensures open { self.new.closed ≡ false → self.new ≡ self.old }
     {
         if self.closed {
             return Finish::OutOfMemory;
         }
-        match finish(alloc, &self.description, &self.state, &self.wire) {
+        match finish(
+            alloc,
+            &self.description,
+            &self.trace,
+            &self.wire,
+            &self.state,
+        ) {
             Ok(finish) => finish,
-            Err(NoMemory) => Finish::OutOfMemory,
+            Err(NoMemory) => {
+                self.closed = true;
+                Finish::OutOfMemory
+            }
         }
-    }
-
-    /// How much the run has cost so far, as `Trace::units` tells.
-    pub fn units(&self) -> u64
-        ensures { result ≡ units_of self.now.state.trace }
-    {
-        self.state.trace.units()
     }
 
     /// The run as it stands, with that finish, and the link.
     pub fn close(self, finish: Finish) -> (Closed, L)
-        ensures closed { result.0 ≡ record { description = self.description; trace = self.state.trace; finish = finish } }
+        ensures closed { result.0 ≡ record { description = self.description; trace = self.trace; finish = finish } }
         ensures link { result.1 ≡ self.wire.link }
     {
         let Cluster {
             description,
-            state,
+            state: _state,
             wire,
+            trace,
+            begun: _begun,
             closed: _closed,
         } = self;
-        let State {
-            kernels: _kernels,
-            steps: _steps,
-            last: _last,
-            out: _out,
-            trace,
-        } = state;
         let closed = Closed {
             description,
             trace,

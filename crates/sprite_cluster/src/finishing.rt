@@ -1,11 +1,13 @@
-ghost use Rattle.std.specs.Prelude.{◌≡◌, ◌<◌, ◌≤◌, ◌+◌, IfOk};
+ghost use Rattle.std.specs.Prelude.{◌≡◌, ◌<◌, ◌≤◌, ◌+◌, ◌==◌, IfOk, length, not};
 ghost use Rattle.std.specs.List.{list_all};
-ghost use Rattle.sprite_cluster.specs.Finishing.{are_busy, finish_of, is_busy, may_go_on, IsSpent};
-ghost use Rattle.sprite_cluster.specs.Kernels.{has_ended};
+ghost use Rattle.cluster_kernels.specs.Kernels.{has_ended};
+ghost use Rattle.cluster_packets.specs.Choosing.{choices_at};
+ghost use Rattle.sprite_cluster.specs.Finishing.{are_busy, finish_of, is_busy, may_go_on};
 
-use crate::bursts::runnable;
-use crate::kernel_state::{KernelState, has_ended};
-use crate::state::State;
+use call_journal::Trace;
+use cluster_bursts::has_job;
+use cluster_kernels::{KernelState, State, has_ended};
+use cluster_packets::choices;
 use kernel_rpc::Wire;
 use link_plan::Link;
 use sprite_ids::{Finish, Kernel, NoMemory};
@@ -17,19 +19,19 @@ use wire_format::Packet;
 pub(crate) fn finish<L: Link>(
     alloc: Global,
     c: &Description,
-    state: &State,
+    trace: &Trace,
     wire: &Wire<Packet, L>,
+    state: &State,
 ) -> Result<Finish, NoMemory>
-    ensures stands { IfOk result (λ finish. finish ≡ finish_of c.now state.now wire.now.machine) }
-    ensures spent { IfOk result (IsSpent c.now state.now.trace) }
+    ensures { IfOk result (λ finish. finish ≡ finish_of c.now trace.now wire.now.machine state.now) }
 {
     if have_ended(state.kernels.as_slice()) {
         return Ok(Finish::AllEnded);
     }
-    if u64::from(c.budget) <= state.trace.units() {
+    if u64::from(c.budget) <= trace.units() {
         return Ok(Finish::Budget);
     }
-    if may_go_on(alloc, state, wire)? {
+    if may_go_on(alloc, c.kernels.len(), wire, state)? {
         return Ok(Finish::Running);
     }
     Ok(Finish::Stalled)
@@ -42,52 +44,73 @@ fn have_ended(kernels: &[KernelState]) -> bool
     kernels.iter().all(|kernel| has_ended(kernel))
 }
 
-// Whether something can happen. The one error is want of memory.
+// Whether something can happen in a cluster of so many kernels. The one error is want of memory; it is also the answer where they are
+// more than 16, which never comes.
 fn may_go_on<L: Link>(
     alloc: Global,
-    state: &State,
+    kernels: usize,
     wire: &Wire<Packet, L>,
+    state: &State,
 ) -> Result<bool, NoMemory>
-    ensures { IfOk result (λ may. may ≡ may_go_on state.now wire.now.machine) }
+    ensures { IfOk result (λ may. may ≡ may_go_on kernels wire.now.machine state.now) }
 {
-    if !wire.quiet() || state.out.len() != 0 {
+    if state.out.len() != 0 {
         return Ok(true);
     }
-    are_busy(alloc, state, 16)
+    let count = u8::try_from(kernels).or(Err(NoMemory))?;
+    if count > 16 {
+        return Err(NoMemory);
+    }
+    are_busy(alloc, count, wire, state)
 }
 
 // Whether something can happen at one of the first kernels. The one error is want of memory.
-fn are_busy(alloc: Global, state: &State, count: u8) -> Result<bool, NoMemory>
+fn are_busy<L: Link>(
+    alloc: Global,
+    count: u8,
+    wire: &Wire<Packet, L>,
+    state: &State,
+) -> Result<bool, NoMemory>
     requires { count ≤ 16 }
-    ensures { IfOk result (λ busy. busy ≡ are_busy count state.now) }
+    ensures { IfOk result (λ busy. busy ≡ are_busy count wire.now.machine state.now) }
 {
     let mut busy = false;
     for before in 0..count {
         if !busy {
-            busy = is_busy_after(alloc, state, before)?;
+            busy = is_busy_after(alloc, before, wire, state)?;
         }
     }
     Ok(busy)
 }
 
 // Whether something can happen at the kernel behind so many. The one error is want of memory.
-fn is_busy_after(alloc: Global, state: &State, before: u8) -> Result<bool, NoMemory>
+fn is_busy_after<L: Link>(
+    alloc: Global,
+    before: u8,
+    wire: &Wire<Packet, L>,
+    state: &State,
+) -> Result<bool, NoMemory>
     requires { before < 16 }
-    ensures { IfOk result (λ busy. busy ≡ is_busy state.now (before + 1)) }
+    ensures { IfOk result (λ busy. busy ≡ is_busy wire.now.machine state.now (before + 1)) }
 {
     let Some(kernel) = Kernel::new(before + 1) else {
         unreachable!()
     };
-    is_busy(alloc, state, kernel)
+    is_busy(alloc, kernel, wire, state)
 }
 
-/// Whether something can happen at the kernel: a block is due, or a process can run. The one error is want of memory.
-fn is_busy(alloc: Global, state: &State, kernel: Kernel) -> Result<bool, NoMemory>
-    ensures { IfOk result (λ busy. busy ≡ is_busy state.now kernel) }
+// Whether something can happen at the kernel: a process can run, or it has a choice. The one error is want of memory.
+fn is_busy<L: Link>(
+    alloc: Global,
+    kernel: Kernel,
+    wire: &Wire<Packet, L>,
+    state: &State,
+) -> Result<bool, NoMemory>
+    ensures { IfOk result (λ busy. busy ≡ is_busy wire.now.machine state.now kernel) }
 {
-    if state.due(kernel).is_some() {
+    if has_job(alloc, state, kernel)? {
         return Ok(true);
     }
-    let pids = runnable(alloc, state, kernel)?;
-    Ok(pids.len() != 0)
+    let choices = choices(alloc, state, wire, kernel)?;
+    Ok(!choices.is_empty())
 }

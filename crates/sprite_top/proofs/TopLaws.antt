@@ -17,17 +17,12 @@ use Rattle.history_check.specs.declared.judgement.Judgement.TheVariants as judge
 use Rattle.sprite_top.specs.Judged.{TextCauses, judgement_status}
 use Rattle.sprite_words.specs.declared.Command.TheVariants as command
 use Rattle.sprite_words.specs.Words.{IsSpelled}
-use Rattle.sprite_top.specs.Top.{AsksFor, TellsFaults, is_want, printed, status_of, Causes, FileCauses, ClusterCauses}
+use Rattle.sprite_top.specs.Top.{AsksFor, TellsFaults, printed, status_of, Causes, FileCauses, ClusterCauses}
 use Rattle.sprite_ids.specs.declared.running.Finish.{Finish}
 use Rattle.sprite_ids.specs.declared.running.Finish.TheVariants as finish
 use Rattle.call_journal.specs.Journal.{journal_of}
 use Rattle.run_judge.specs.Judged.{IsJudged}
-use Rattle.kernel_rpc.specs.Machine.{Machine}
-use Rattle.unix_calls.specs.declared.Rec.{Rec}
-use Rattle.sprite_cluster.specs.declared.state.State.{State}
-use Rattle.sprite_cluster.specs.Faults.{ToldWhileOpen, faults_between}
 use Rattle.sprite_cluster.specs.Finishing.{IsSpent}
-use Rattle.sprite_cluster.specs.Moments.{StandsSo}
 
 -- what is due for a whole file is due for words that ask for it, whose source was read to its end
 of_file : (print : Printing) (state : Status) (words : List (List ℕ)) (left left_after : Option (List ℕ)) (faults faults_after : ℕ) (came : List ℕ) (closed : Option Closed) (due : List ℕ) → AsksFor print words → Consumes left left_after came → IsAtEnd left_after → length came ≤ 1048576 → FileCauses print state came closed due → Causes state words left left_after faults faults_after closed due
@@ -184,23 +179,3 @@ accepted print run output due spent j is = accepted_at print run.description run
 pub none_tells : {L : Type 0} (faults : L → ℕ → ℕ → ℕ) (before after : L) (r : Result Answer NoMemory) → IfOk r (λ a. a.closed ≡ None) → IfOk r (λ a. TellsFaults faults before after a.closed)
 none_tells faults before after (Ok a) none = subst (TellsFaults faults before after) (sym none) tt
 none_tells faults before after (Err e) none = none
-
--- a run whose memory was enough is open at its end
-still_open : (closed : Bool) (c : Description) (s : State) (machine : Machine) (end : Finish) → is_want end ≡ false → StandsSo closed c s machine end → closed ≡ false
-still_open closed c s machine finish.OutOfMemory enough stands = absurd (cc)
-still_open closed c s machine finish.AllEnded enough stands = stands.0
-still_open closed c s machine finish.Budget enough stands = stands.0
-still_open closed c s machine finish.Stalled enough stands = stands.0
-still_open closed c s machine finish.Running enough stands = stands.0
-
--- so its trace tells of no more faults than the link counted
-pub run_tells : {L : Type 0} (faults : L → ℕ → ℕ → ℕ) (closed closed_after : Bool) (c : Description) (s : State) (machine : Machine) (end : Finish) (before after : L) (old new : List Rec) → is_want end ≡ false → StandsSo closed_after c s machine end → ToldWhileOpen faults closed closed_after before after old new → old ≡ [] → (a b : ℕ) → faults before a b + faults_between a b new ≤ faults after a b
-run_tells faults closed closed_after c s machine end before after old new enough stands told none a b =
-    (let here = (told (still_open closed_after c s machine end enough stands)).1 a b in
-    let empty : faults_between a b old ≡ 0 = ap (faults_between a b) none in omega arith)
-
-pub told_closed : {L : Type 0} (faults : L → ℕ → ℕ → ℕ) (before link after : L) (trace : List Rec) (run : Closed) → after ≡ link → run.trace ≡ trace → ((a b : ℕ) → faults before a b + faults_between a b trace ≤ faults link a b) → (a b : ℕ) → faults before a b + faults_between a b run.trace ≤ faults after a b
-told_closed faults before link after trace run same is told a b =
-    (let here = told a b in
-    let counts = ap (λ link. faults link a b) same in
-    let tells = ap (faults_between a b) is in omega arith)

@@ -24,8 +24,9 @@ use Rattle.run_judge.specs.declared.JudgedRun.TheVariants as judged
 use Rattle.run_judge.specs.declared.Refutation.TheVariants as refuted
 use Rattle.run_judge.specs.Ends.{EndsAs}
 use Rattle.run_judge.specs.Judged.{JudgesTo}
-use Rattle.sprite_cluster.specs.Faults.{faults_between}
 use Rattle.sprite_cluster.specs.Finishing.{IsSpent}
+use Rattle.sprite_cluster.specs.Logs.{Holds, faults_between}
+use Rattle.sprite_cluster.specs.declared.Cluster.{Cluster}
 use Rattle.sprite_top.specs.Judged.{numbered_line}
 use Rattle.unix_calls.specs.State.{Unix}
 use Rattle.unix_calls.specs.declared.Rec.{Rec}
@@ -112,9 +113,9 @@ pub record IsRefutedRun (c : Description) (closed : Option Closed) (due : List �
   pub line_is : due ≡ refuted_line verdict
 
 -- whether memory was wanting
-abbrev pub is_want : Finish → Bool
-is_want finish.OutOfMemory = true
-is_want _ = false
+abbrev pub is_out_of_memory : Finish → Bool
+is_out_of_memory finish.OutOfMemory = true
+is_out_of_memory _ = false
 
 -- of a run that was made: between any two kernels its trace tells of no more faults than by how many the link's count of these rose
 abbrev pub TellsFaults : {L : Type 0} → (L → ℕ → ℕ → ℕ) → L → L → Option Closed → Type 0
@@ -125,6 +126,12 @@ TellsFaults faults before after (Some run) = (a b : ℕ) → faults before a b +
 pub record IsRun (c : Description) (run : Closed) : Type 0 where
   pub same : run.description ≡ c
   pub spent : IsSpent c run.trace run.finish
+
+-- a cluster after a run of it: it is what it was, over the same link
+pub record IsSameRun {L : Type 0} (faults : L → ℕ → ℕ → ℕ) (old new : Cluster L) : Type 0 where
+  pub described : new.description ≡ old.description
+  pub begun_so : new.begun ≡ old.begun
+  pub holds : Holds faults new.description new.closed new.begun.value new.wire.link new.trace
 
 -- nothing was run, and that line is due
 pub record IsLine (closed : Option Closed) (due line : List ℕ) : Type 0 where

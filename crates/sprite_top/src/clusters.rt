@@ -1,23 +1,24 @@
-ghost use Rattle.std.specs.Prelude.{◌≡◌, ◌++◌, [], IfOk, Some, false};
+ghost use Rattle.std.specs.Prelude.{◌≡◌, ◌++◌, [], IfOk, Some};
 ghost use Rattle.trace_text.specs.Traces.{trace_of};
 ghost use Rattle.unix_calls.specs.Output.{last_line};
 ghost use Rattle.unix_calls.specs.Lawful.{Lawful};
 ghost use Rattle.call_journal.specs.Journal.{journal_of};
 ghost use Rattle.run_judge.specs.Judged.{IsJudged, JudgesTo};
-ghost use Rattle.sprite_cluster.specs.Faults.{ToldWhileOpen};
-ghost use Rattle.sprite_cluster.specs.Finishing.{IsSpent};
-ghost use Rattle.sprite_cluster.specs.Moments.{StandsSo};
-ghost use Rattle.sprite_top.specs.Top.{ClusterCauses, IsBroken, IsRun, TellsFaults, is_want, printed, status_of};
+ghost use Rattle.sprite_cluster.specs.Logs.{Holds};
+ghost use Rattle.sprite_top.specs.Top.{ClusterCauses, IsBroken, IsRun, IsSameRun, TellsFaults, is_out_of_memory, printed, status_of};
 
 use crate::judged::refuted_line;
 use crate::top::{Answer, Printing, Status, Turns};
 use call_journal::Closed;
+use kernel_threads::{Watch, run_seeded, run_threads};
 use link_plan::Link;
 use report_print::history;
 use run_judge::{JudgedRun, judge_run};
-use sprite_cluster::{Cluster, run_rounds, run_seeded};
+use sprite_cluster::Cluster;
 use sprite_ids::{Bytes, Finish, NoMemory};
 use std::alloc::Global;
+use std::sync::Wait;
+use std::thread::Threads;
 use trace_text::print_trace;
 use unix_calls::Description;
 
@@ -26,18 +27,20 @@ const MOST: u64 = 40_000_000_000;
 
 /// What is due for a described cluster, which is lawful: it is run over the link, which is handed back, its run is judged, and then
 /// printed. The one error is want of memory.
-pub(crate) fn answer_cluster<L: Link>(
+pub(crate) fn answer_cluster<R: Threads + Wait + Sync, L: Link + Send, W: Watch + Sync>(
+    rt: &R,
     alloc: Global,
     description: Description,
     print: Printing,
     turns: Turns,
     link: L,
+    watch: &W,
 ) -> (Result<Answer, NoMemory>, L)
     requires { Lawful description }
     ensures causes { IfOk result.0 (λ a. ClusterCauses print a.status description a.closed a.due) }
     ensures faults { IfOk result.0 (λ a. TellsFaults L.faults link result.1 a.closed) }
 {
-    let (closed, link) = run_cluster(alloc, description, turns, link);
+    let (closed, link) = run_cluster(rt, alloc, description, turns, link, watch);
     let answer = match closed {
         Ok(closed) => judge_closed(alloc, closed, print),
         Err(NoMemory) => Err(NoMemory),
@@ -46,64 +49,90 @@ pub(crate) fn answer_cluster<L: Link>(
 }
 
 // Runs the cluster over the link. The one error is want of memory.
-fn run_cluster<L: Link>(
+fn run_cluster<R: Threads + Wait + Sync, L: Link + Send, W: Watch + Sync>(
+    rt: &R,
     alloc: Global,
     description: Description,
     turns: Turns,
     link: L,
+    watch: &W,
 ) -> (Result<Closed, NoMemory>, L)
     requires { Lawful description }
     ensures run { IfOk result.0 (IsRun description) }
     ensures faults { IfOk result.0 (λ run. TellsFaults L.faults link result.1 (Some run)) }
 {
     match Cluster::boot(alloc, description, link) {
-        Ok(cluster) => run_booted(alloc, cluster, turns),
+        Ok(cluster) => run_booted(rt, alloc, cluster, turns, watch),
         Err(link) => (Err(NoMemory), link),
     }
 }
 
 // Runs a cluster that was booted. The one error is want of memory.
-fn run_booted<L: Link>(
+fn run_booted<R: Threads + Wait + Sync, L: Link + Send, W: Watch + Sync>(
+    rt: &R,
     alloc: Global,
     cluster: Cluster<L>,
     turns: Turns,
+    watch: &W,
 ) -> (Result<Closed, NoMemory>, L)
-    requires lawful { Lawful cluster.description }
-    requires open { cluster.closed ≡ false }
-    requires nothing_told { cluster.state.trace ≡ [] }
+    requires holds { Holds L.faults cluster.description cluster.closed cluster.begun.value cluster.wire.link cluster.trace }
+    requires none_out { cluster.state.out ≡ [] }
     ensures run { IfOk result.0 (IsRun cluster.description) }
-    ensures faults { IfOk result.0 (λ run. TellsFaults L.faults cluster.wire.link result.1 (Some run)) }
+    ensures faults { IfOk result.0 (λ run. TellsFaults L.faults cluster.begun.value result.1 (Some run)) }
+{
+    match run_by(rt, alloc, cluster, turns, watch) {
+        Ok(cluster) => close(alloc, cluster),
+        Err(cluster) => {
+            let (_closed, link) = cluster.close(Finish::OutOfMemory);
+            (Err(NoMemory), link)
+        }
+    }
+}
+
+// Runs the cluster in that order. The one error is want of memory, which hands the cluster back.
+#[tactic(auto, using(crate::proofs::RunLaws::same_run, crate::proofs::RunLaws::few_kernels))]
+fn run_by<R: Threads + Wait + Sync, L: Link + Send, W: Watch + Sync>(
+    rt: &R,
+    alloc: Global,
+    cluster: Cluster<L>,
+    turns: Turns,
+    watch: &W,
+) -> Result<Cluster<L>, Cluster<L>>
+    requires holds { Holds L.faults cluster.description cluster.closed cluster.begun.value cluster.wire.link cluster.trace }
+    requires none_out { cluster.state.out ≡ [] }
+    ensures { IfOk result (IsSameRun L.faults cluster) }
+{
+    let Ok(kernels) = u8::try_from(cluster.description.kernels.len()) else {
+        return Err(cluster);
+    };
+    match turns {
+        Turns::Threads => run_threads(rt, alloc, cluster, kernels, watch),
+        Turns::Seeded(seed) => Ok(run_seeded(alloc, cluster, kernels, seed)),
+    }
+}
+
+// The run of a cluster that came to its end. The one error is want of memory.
+fn close<L: Link>(alloc: Global, cluster: Cluster<L>) -> (Result<Closed, NoMemory>, L)
+    requires holds { Holds L.faults cluster.description cluster.closed cluster.begun.value cluster.wire.link cluster.trace }
+    ensures run { IfOk result.0 (IsRun cluster.description) }
+    ensures faults { IfOk result.0 (λ run. TellsFaults L.faults cluster.begun.value result.1 (Some run)) }
 {
     let mut cluster = cluster;
-    let finish = run_by(alloc, &mut cluster, turns);
+    let finish = cluster.finish(alloc);
     let (closed, link) = cluster.close(finish);
-    if is_want(finish) {
+    if is_out_of_memory(finish) {
         return (Err(NoMemory), link);
     }
     (Ok(closed), link)
 }
 
 // Whether memory was wanting.
-fn is_want(finish: Finish) -> bool
-    ensures { result ≡ is_want finish }
+fn is_out_of_memory(finish: Finish) -> bool
+    ensures { result ≡ is_out_of_memory finish }
 {
     match finish {
         Finish::OutOfMemory => true,
         Finish::AllEnded | Finish::Budget | Finish::Running | Finish::Stalled => false,
-    }
-}
-
-// Runs the cluster in that order, and tells how it stands then.
-fn run_by<L: Link>(alloc: Global, cluster: &mut Cluster<L>, turns: Turns) -> Finish
-    requires lawful { Lawful cluster.old.description }
-    ensures same { cluster.new.description ≡ cluster.old.description }
-    ensures told { ToldWhileOpen L.faults cluster.old.closed cluster.new.closed cluster.old.wire.link cluster.new.wire.link cluster.old.state.trace cluster.new.state.trace }
-    ensures stands { StandsSo cluster.new.closed cluster.new.description cluster.new.state cluster.new.wire.machine result }
-    ensures spent { IsSpent cluster.new.description cluster.new.state.trace result }
-{
-    match turns {
-        Turns::Rounds => run_rounds(alloc, cluster),
-        Turns::Seeded(seed) => run_seeded(alloc, cluster, seed),
     }
 }
 

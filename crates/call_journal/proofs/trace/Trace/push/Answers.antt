@@ -6,4 +6,4 @@ use Rattle.call_journal.proofs.trace.Trace.push.Goals as goal
 pub invariant_of-self-2 : goal.invariant_of-self-2
 invariant_of-self-2 c =
     subst (λ trace. AreTold trace c.in-Some.tally) (sym c.in_ok-push.ensures.items)
-    (told c.self.inside.records.items c.args.rec c.self.inside.tally c.in-Some.tally c.with.ensures.few c.self.invariant c.in-Some.ensures.units c.in-Some.ensures.counts)
+    (told c.self.inside.records.items c.args.rec c.self.inside.tally c.in-Some.tally c.self.invariant c.in-Some.ensures)

@@ -1,0 +1,116 @@
+-- The end of a burst tells of no more faults than the link counts, and takes one burst off those that are out.
+use Rattle.std.proofs.Common.{arith, ◌≡◌, ℕ, ◌+◌, ◌≤◌, Bool, true, false, cond, List, [], ◌∷◌, Option, Some, None, refl, sym, ap, subst, ◌∙◌, length}
+use Rattle.std.proofs.lemmas.Bool.{and_parts}
+use Rattle.std.specs.List.{list_any}
+use Rattle.process_machine.specs.Machine as images
+use Rattle.kernel_steps.specs.declared.Input.{Input}
+use Rattle.unix_calls.specs.declared.Event.TheVariants as events
+use Rattle.sprite_ids.specs.Lists.{less}
+use Rattle.cluster_kernels.specs.declared.KernelState.{KernelState}
+use Rattle.cluster_kernels.specs.declared.Said.{Said}
+use Rattle.cluster_kernels.specs.declared.State.{State}
+use Rattle.cluster_kernels.specs.States.{image_put_at, kernel_at, put_image}
+use Rattle.cluster_kernels.specs.Faults.{FaultsTold, faults_told}
+use Rattle.cluster_kernels.proofs.FaultLaws.{other_more}
+use Rattle.cluster_calls.proofs.TakenLaws.{nothing_told, out_taken, told_by, told_taken}
+use Rattle.cluster_bursts.specs.declared.ended.Ended.{Ended}
+use Rattle.cluster_bursts.specs.declared.ended.Ended.TheVariants as ended
+use Rattle.cluster_bursts.specs.declared.job.Burst.{Burst}
+use Rattle.cluster_bursts.specs.Bursts.{EndsAs, GoesOn, came_to, counts, has_counted, is_as_it_was, is_out, recorded, taken_back}
+use Rattle.cluster_bursts.specs.Ends.{Ends}
+use Rattle.cluster_bursts.specs.Links.{AskedThen}
+
+-- an image that is put tells nothing, and leaves the bursts that are out
+image_stays : (kernel pid : ℕ) (image : images.Machine) (s : State) → (put_image kernel pid image s).told ≡ s.told
+image_stays kernel pid image s = by_found (kernel_at kernel s)
+  where
+    by_found : (o : Option KernelState) → (image_put_at kernel pid image o s).told ≡ s.told
+    by_found None = refl
+    by_found (Some found) = refl
+
+out_stays : (kernel pid : ℕ) (image : images.Machine) (s : State) → (put_image kernel pid image s).out ≡ s.out
+out_stays kernel pid image s = by_found (kernel_at kernel s)
+  where
+    by_found : (o : Option KernelState) → (image_put_at kernel pid image o s).out ≡ s.out
+    by_found None = refl
+    by_found (Some found) = refl
+
+-- a kernel goes on with what a process came to, or with nothing
+told_on_with : {L : Type 0} (faults asked : L → ℕ → ℕ → ℕ) (kernel : ℕ) (input : Option Input) (what : Ended) (before after : L) (s t : State) → GoesOn kernel input what s t → AskedThen faults asked kernel before after what → FaultsTold faults before after s.told t.told
+told_on_with faults asked kernel (Some input) (ended.Took said) before after s t goes asks = told_by faults before after s.told _ t goes (told_taken faults asked kernel input said before after s asks)
+told_on_with faults asked kernel (Some input) ended.Done before after s t goes asks = absurd goes
+told_on_with faults asked kernel (Some input) ended.Stale before after s t goes asks = absurd goes
+told_on_with faults asked kernel None (ended.Took said) before after s t goes asks = absurd goes
+told_on_with faults asked kernel None ended.Done before after s t goes asks = nothing_told faults before after s t asks goes
+told_on_with faults asked kernel None ended.Stale before after s t goes asks = absurd goes
+
+-- behind a burst that is recorded
+told_recorded : {L : Type 0} (faults : L → ℕ → ℕ → ℕ) (kernel : ℕ) (b : Burst) (before after : L) (s t : State) → FaultsTold faults before after (put_image kernel b.pid b.to (recorded kernel b s)).told t.told → FaultsTold faults before after s.told t.told
+told_recorded faults kernel burst before after s t told a b =
+    (let same = ap (faults_told a b) (image_stays kernel burst.pid burst.to (recorded kernel burst s)) in
+    let here = other_more a b s.told (events.Burst burst.pid burst.count) refl in
+    let rest = told a b in omega arith)
+
+-- whatever becomes of a burst
+pub told_end : {L : Type 0} (faults asked : L → ℕ → ℕ → ℕ) (kernel : ℕ) (b : Burst) (what : Ended) (before after : L) (s t : State) → EndsAs kernel b what s t → AskedThen faults asked kernel before after what → FaultsTold faults before after s.told t.told
+told_end faults asked kernel b ended.Stale before after s t ends asks = told_by faults before after s.told (taken_back kernel b.pid s) t ends.1 (nothing_told faults before after s s asks refl)
+told_end faults asked kernel b ended.Done before after s t ends asks =
+    told_recorded faults kernel b before after s t (told_on_with faults asked kernel (came_to kernel b b.end (recorded kernel b s)) ended.Done before after (put_image kernel b.pid b.to (recorded kernel b s)) t ends.1 asks)
+told_end faults asked kernel b (ended.Took said) before after s t ends asks =
+    told_recorded faults kernel b before after s t (told_on_with faults asked kernel (came_to kernel b b.end (recorded kernel b s)) (ended.Took said) before after (put_image kernel b.pid b.to (recorded kernel b s)) t ends.1 asks)
+
+-- one item less, where there is one
+less_first : {X : Type 0} (p : X → Bool) (x : X) (xs : List X) (b : Bool) → p x ≡ b → list_any p (x ∷ xs) ≡ true → (list_any p xs ≡ true → length (less p xs) + 1 ≡ length xs) → length (cond {A = List X} b xs (x ∷ less p xs)) + 1 ≡ length (x ∷ xs)
+less_first p x xs true is some rest = omega arith
+less_first p x xs false is some rest = (let fewer = rest (cc (is, some)) in omega arith)
+
+less_one : {X : Type 0} (p : X → Bool) (xs : List X) → list_any p xs ≡ true → length (less p xs) + 1 ≡ length xs
+less_one p [] some = absurd (cc)
+less_one p (x ∷ xs) some = less_first p x xs (p x) refl some (less_one p xs)
+
+-- or at most one
+less_next : {X : Type 0} (p : X → Bool) (x : X) (xs : List X) (b : Bool) → (length (less p xs) ≤ length xs) × (length xs ≤ length (less p xs) + 1) → (length (cond {A = List X} b xs (x ∷ less p xs)) ≤ length (x ∷ xs)) × (length (x ∷ xs) ≤ length (cond {A = List X} b xs (x ∷ less p xs)) + 1)
+less_next p x xs true rest = (omega arith, omega arith)
+less_next p x xs false rest = (let low = rest.0 in let high = rest.1 in (omega arith, omega arith))
+
+less_few : {X : Type 0} (p : X → Bool) (xs : List X) → (length (less p xs) ≤ length xs) × (length xs ≤ length (less p xs) + 1)
+less_few p [] = (omega arith, omega arith)
+less_few p (x ∷ xs) = less_next p x xs (p x) (less_few p xs)
+
+-- what the process came to leaves them as they are
+out_goes_on : (kernel : ℕ) (input : Option Input) (what : Ended) (s t : State) → GoesOn kernel input what s t → t.out ≡ s.out
+out_goes_on kernel (Some input) (ended.Took said) s t goes = ap (λ (t : State). t.out) goes ∙ out_taken kernel input said s
+out_goes_on kernel (Some input) ended.Done s t goes = absurd goes
+out_goes_on kernel (Some input) ended.Stale s t goes = absurd goes
+out_goes_on kernel None (ended.Took said) s t goes = absurd goes
+out_goes_on kernel None ended.Done s t goes = ap (λ (t : State). t.out) goes
+out_goes_on kernel None ended.Stale s t goes = absurd goes
+
+-- a burst that counts is out no more
+out_behind : (kernel : ℕ) (b : Burst) (what : Ended) (s t : State) → list_any (is_out kernel b.pid) s.out ≡ true → GoesOn kernel (came_to kernel b b.end (recorded kernel b s)) what (put_image kernel b.pid b.to (recorded kernel b s)) t → length t.out + 1 ≡ length s.out
+out_behind kernel burst what s t some goes =
+    (let same = ap length (out_goes_on kernel (came_to kernel burst burst.end (recorded kernel burst s)) what (put_image kernel burst.pid burst.to (recorded kernel burst s)) t goes ∙ out_stays kernel burst.pid burst.to (recorded kernel burst s)) in
+    let one = less_one (is_out kernel burst.pid) s.out some in omega arith)
+
+out_counted : (kernel : ℕ) (b : Burst) (what : Ended) (s t : State) → EndsAs kernel b what s t → has_counted what ≡ true → length t.out + 1 ≡ length s.out
+out_counted kernel burst ended.Stale s t ends counted = absurd (cc)
+out_counted kernel burst ended.Done s t ends counted = out_behind kernel burst ended.Done s t (and_parts (list_any (is_out kernel burst.pid) s.out) (is_as_it_was kernel burst.pid burst.from (taken_back kernel burst.pid s)) ends.0).0 ends.1
+out_counted kernel burst (ended.Took said) s t ends counted = out_behind kernel burst (ended.Took said) s t (and_parts (list_any (is_out kernel burst.pid) s.out) (is_as_it_was kernel burst.pid burst.from (taken_back kernel burst.pid s)) ends.0).0 ends.1
+
+-- one that doesn't count takes one off at most, and tells nothing
+stale_stays : (kernel : ℕ) (b : Burst) (what : Ended) (s t : State) → EndsAs kernel b what s t → has_counted what ≡ false → (counts kernel b s ≡ false) × (t ≡ taken_back kernel b.pid s)
+stale_stays kernel burst ended.Stale s t ends counted = ends
+stale_stays kernel burst ended.Done s t ends counted = absurd (cc)
+stale_stays kernel burst (ended.Took said) s t ends counted = absurd (cc)
+
+pub told_ends : {L : Type 0} (faults asked : L → ℕ → ℕ → ℕ) (kernel : ℕ) (b : Burst) (counted : Bool) (before after : L) (s t : State) → Ends faults asked kernel b counted before after s t → FaultsTold faults before after s.told t.told
+told_ends faults asked kernel burst counted before after s t ends = told_end faults asked kernel burst ends.what before after s t ends.ends ends.asks
+
+pub out_ends : {L : Type 0} (faults asked : L → ℕ → ℕ → ℕ) (kernel : ℕ) (b : Burst) (before after : L) (s t : State) → Ends faults asked kernel b true before after s t → length t.out + 1 ≡ length s.out
+out_ends faults asked kernel burst before after s t ends = out_counted kernel burst ends.what s t ends.ends (sym ends.is_counted)
+
+pub stale_ends : {L : Type 0} (faults asked : L → ℕ → ℕ → ℕ) (kernel : ℕ) (b : Burst) (before after : L) (s t : State) → Ends faults asked kernel b false before after s t → (counts kernel b s ≡ false) × (t ≡ taken_back kernel b.pid s)
+stale_ends faults asked kernel burst before after s t ends = stale_stays kernel burst ends.what s t ends.ends (sym ends.is_counted)
+
+pub out_less : (kernel : ℕ) (b : Burst) (s : State) → (length (taken_back kernel b.pid s).out ≤ length s.out) × (length s.out ≤ length (taken_back kernel b.pid s).out + 1)
+out_less kernel burst s = less_few (is_out kernel burst.pid) s.out

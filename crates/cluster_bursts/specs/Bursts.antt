@@ -1,0 +1,142 @@
+-- The instructions that processes do.
+use Rattle.std.specs.Prelude.{◌≡◌, ℕ, ◌+◌, ◌==◌, Bool, true, false, ◌&&◌, not, List, Option, Some, None, length, nat_eq, nat_lt, slice_get}
+use Rattle.std.specs.List.{filter, list_any, position}
+use Rattle.std.specs.Option.{option_eq}
+use Rattle.std.specs.Cmp.Lexicographic.{pointwise}
+use Rattle.sprite_ids.specs.Lists.{less}
+use Rattle.process_machine.specs.declared.Program.{Program}
+use Rattle.process_machine.specs.declared.BurstEnd.{BurstEnd}
+use Rattle.process_machine.specs.declared.BurstEnd.TheVariants as burst
+use Rattle.process_machine.specs.declared.Call.{Call}
+use Rattle.process_machine.specs.declared.Call.TheVariants.{BadStep}
+use Rattle.process_machine.specs.Machine.{Machine}
+use Rattle.process_machine.specs.Runs.{EndsBy, ahead}
+use Rattle.process_machine.specs.Calls.{call_at}
+use Rattle.kernel_steps.specs.declared.Input.{Input}
+use Rattle.kernel_steps.specs.declared.Input.TheVariants as inputs
+use Rattle.unix_calls.specs.declared.Description.{Description}
+use Rattle.unix_calls.specs.declared.Event.TheVariants as events
+use Rattle.unix_calls.specs.Answers.{program_at}
+use Rattle.cluster_bursts.specs.declared.job.Burst.{Burst}
+use Rattle.cluster_bursts.specs.declared.job.Job.{Job}
+use Rattle.cluster_bursts.specs.declared.ended.Ended.{Ended}
+use Rattle.cluster_bursts.specs.declared.ended.Ended.TheVariants as ended
+use Rattle.cluster_kernels.specs.declared.State.{State}
+use Rattle.cluster_kernels.specs.States.{count_at, image_at, is_ready_at, noted_step, numbered_at, pids_at, put_image, put_out, with_last}
+use Rattle.cluster_calls.specs.Steps.{took}
+
+-- a burst ended where it says so
+abbrev pub EndsSo : Burst → Type 0
+EndsSo b = EndsBy b.program b.to b.count 10000 b.end
+
+-- a burst is what became of a job
+pub record IsDone (job : Job) (b : Burst) : Type 0 where
+  pub pid : b.pid ≡ job.pid
+  pub program : b.program ≡ job.program
+  pub from : b.from ≡ job.from
+  pub moved : ahead job.program job.to b.count ≡ Some b.to
+  pub ends : EndsSo b
+
+-- whether a row of the bursts that are out is that of the process at the kernel
+abbrev pub is_out : ℕ → ℕ → ℕ × ℕ → Bool
+is_out kernel pid row = (row.0 == kernel) && (row.1 == pid)
+
+-- whether a process can run at the kernel and doesn't run now
+abbrev pub is_runnable : ℕ → State → ℕ → Bool
+is_runnable kernel s pid = is_ready_at kernel pid s && not (list_any (is_out kernel pid) s.out)
+
+-- the processes that can run at the kernel and don't run now, in ascending order
+abbrev pub runnable_at : ℕ → State → List ℕ
+runnable_at kernel s = filter (is_runnable kernel s) (pids_at kernel s)
+
+-- whether one of them can
+abbrev pub has_job_at : ℕ → State → Bool
+has_job_at kernel s = not (length (runnable_at kernel s) == 0)
+
+-- the process at a looked-up place, or else the first of the list
+abbrev pub or_first : Option ℕ → List ℕ → Option ℕ
+or_first (Some at) pids = slice_get pids at
+or_first None pids = slice_get pids 0
+
+-- the process that is next after that one: the first with a greater number, or else the first of all
+abbrev pub next_after : ℕ → List ℕ → Option ℕ
+next_after last pids = or_first (position (λ pid. nat_lt last pid) pids) pids
+
+-- a job over a looked-up program
+abbrev pub job_over : ℕ → Machine → Option Program → Option Job
+job_over pid image None = None
+job_over pid image (Some program) = Some (record { pid = pid; program = program; from = image; to = image })
+
+-- and a looked-up image
+abbrev pub job_with : Description → ℕ → Option Machine → Option Job
+job_with c pid None = None
+job_with c pid (Some image) = job_over pid image (program_at c.programs image.number)
+
+-- and a looked-up process
+abbrev pub job_by : Description → ℕ → Option ℕ → State → Option Job
+job_by c kernel None s = None
+job_by c kernel (Some pid) s = job_with c pid (image_at kernel pid s)
+
+-- the next job of the kernel: its processes take turns by their numbers
+abbrev pub job_at : Description → ℕ → State → Option Job
+job_at c kernel s = job_by c kernel (next_after (count_at s.last kernel) (runnable_at kernel s)) s
+
+-- the burst of that job, where there is one, is out
+abbrev pub begun_by : ℕ → Option Job → State → State
+begun_by kernel None s = s
+begun_by kernel (Some job) s = with_last kernel job.pid (put_out kernel job.pid s)
+
+-- the burst of the process is out no more
+abbrev pub taken_back : ℕ → ℕ → State → State
+taken_back kernel pid s = record s { out = less (is_out kernel pid) s.out }
+
+-- whether two images are the same
+abbrev pub same_image : Machine → Machine → Bool
+same_image one other = (nat_eq one.number other.number) && ((nat_eq one.counter other.counter) && (pointwise nat_eq one.registers other.registers && pointwise (option_eq (pointwise nat_eq)) one.pages other.pages))
+
+-- whether a looked-up image is that one
+abbrev pub is_image : Option Machine → Machine → Bool
+is_image None other = false
+is_image (Some image) other = same_image image other
+
+-- whether a process can run at the kernel and has that image
+abbrev pub is_as_it_was : ℕ → ℕ → Machine → State → Bool
+is_as_it_was kernel pid from s = is_image (image_at kernel pid s) from && is_ready_at kernel pid s
+
+-- whether a burst of the kernel counts: it was out, and the process is what it was when the burst began
+abbrev pub counts : ℕ → Burst → State → Bool
+counts kernel b s = list_any (is_out kernel b.pid) s.out && is_as_it_was kernel b.pid b.from (taken_back kernel b.pid s)
+
+-- the next call of a process whose last one has that looked-up number
+abbrev pub issued : ℕ → Call → Option ℕ → Option Input
+issued pid call None = None
+issued pid call (Some number) = Some (inputs.Issued pid (number + 1) call)
+
+-- what a process came to by the end of its burst
+abbrev pub came_to : ℕ → Burst → BurstEnd → State → Option Input
+came_to kernel b burst.Call s = issued b.pid (call_at b.program b.to) (numbered_at kernel b.pid s)
+came_to kernel b burst.BadStep s = issued b.pid BadStep (numbered_at kernel b.pid s)
+came_to kernel b (burst.PageNeeded page) s = Some (inputs.PageNeeded b.pid page)
+came_to kernel b burst.Limit s = None
+
+-- the burst of the kernel that counts is out no more, and is recorded
+abbrev pub recorded : ℕ → Burst → State → State
+recorded kernel b s = noted_step kernel (events.Burst b.pid b.count) (taken_back kernel b.pid s)
+
+-- the kernel goes on with what the process came to, where it came to something
+abbrev pub GoesOn : ℕ → Option Input → Ended → State → State → Type 0
+GoesOn kernel (Some input) (ended.Took said) s after = after ≡ took kernel input said s
+GoesOn kernel None ended.Done s after = after ≡ s
+GoesOn kernel input what s after = ⊥
+
+-- what becomes of a burst of the kernel: it is lost exactly where it doesn't count; else it is recorded, the process has the image
+-- that it came to, and the kernel takes what the process came to
+abbrev pub EndsAs : ℕ → Burst → Ended → State → State → Type 0
+EndsAs kernel b ended.Stale s after = (counts kernel b s ≡ false) × (after ≡ taken_back kernel b.pid s)
+EndsAs kernel b what s after =
+    (counts kernel b s ≡ true) × GoesOn kernel (came_to kernel b b.end (recorded kernel b s)) what (put_image kernel b.pid b.to (recorded kernel b s)) after
+
+-- whether a burst that ended so counted
+abbrev pub has_counted : Ended → Bool
+has_counted ended.Stale = false
+has_counted what = true

@@ -1,0 +1,12 @@
+use cluster_kernels::Said;
+
+/// What became of a burst, with what the kernel took after it.
+#[derive(Debug, Drop)]
+pub enum Ended {
+    /// It is lost.
+    Stale,
+    /// The process did it and goes on.
+    Done,
+    /// The process did it and came to something that its kernel took.
+    Took(Said),
+}

@@ -1,0 +1,3 @@
+pub mod ServerLaws
+pub mod LinkLaws
+pub mod TakenLaws

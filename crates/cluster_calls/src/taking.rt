@@ -1,0 +1,76 @@
+ghost use Rattle.std.specs.Prelude.{◌≡◌, IfOk};
+ghost use Rattle.unix_calls.specs.Lawful.{Lawful};
+ghost use Rattle.cluster_calls.specs.Steps.{next_of, says, took};
+ghost use Rattle.cluster_calls.specs.Links.{AskedFor};
+
+use crate::calls::{answer_all, begin_all, next_call};
+use cluster_kernels::{Said, State, note_all, note_faults};
+use kernel_rpc::Wire;
+use kernel_steps::{Input, Out};
+use link_plan::Link;
+use sprite_ids::{Kernel, NoMemory, TxNo};
+use std::alloc::Global;
+use unix_calls::Description;
+use wire_format::Packet;
+
+/// The kernel does one step with that, and all that it says goes out and is told. The one error is want of memory.
+pub fn take<L: Link>(
+    alloc: Global,
+    c: &Description,
+    state: &mut State,
+    wire: &mut Wire<Packet, L>,
+    kernel: Kernel,
+    input: Input,
+) -> Result<Said, NoMemory>
+    requires lawful { Lawful c.now }
+    ensures state { IfOk result (λ said. state.new ≡ took kernel input said state.old) }
+    ensures next { IfOk result (λ said. said.next ≡ next_of wire.old.machine) }
+    ensures asked { IfOk result (AskedFor L.faults L.asked kernel wire.old.link wire.new.link) }
+{
+    take_in(alloc, c, state, wire, kernel, &input)
+}
+
+// The same with an input that is lent.
+fn take_in<L: Link>(
+    alloc: Global,
+    c: &Description,
+    state: &mut State,
+    wire: &mut Wire<Packet, L>,
+    kernel: Kernel,
+    input: &Input,
+) -> Result<Said, NoMemory>
+    requires lawful { Lawful c.now }
+    ensures state { IfOk result (λ said. state.new ≡ took kernel input.now said state.old) }
+    ensures next { IfOk result (λ said. said.next ≡ next_of wire.old.machine) }
+    ensures asked { IfOk result (AskedFor L.faults L.asked kernel wire.old.link wire.new.link) }
+{
+    let next = next_call(wire)?;
+    let mut out = state.step(alloc, kernel, input, next)?;
+    say(alloc, c, state, wire, kernel, next, &mut out)
+}
+
+// What a step says: its remote calls begin, its answers go out, and what it did is told. The one error is want of memory.
+fn say<L: Link>(
+    alloc: Global,
+    c: &Description,
+    state: &mut State,
+    wire: &mut Wire<Packet, L>,
+    kernel: Kernel,
+    next: TxNo,
+    out: &mut Out,
+) -> Result<Said, NoMemory>
+    requires lawful { Lawful c.now }
+    ensures state { IfOk result (λ said. state.new ≡ says kernel said (state.old, out.old)) }
+    ensures next { IfOk result (λ said. said.next ≡ next) }
+    ensures asked { IfOk result (AskedFor L.faults L.asked kernel wire.old.link wire.new.link) }
+{
+    let sent = begin_all(alloc, c, wire, kernel, &mut out.sends)?;
+    let answered = answer_all(alloc, wire, kernel, &mut out.answers)?;
+    note_all(&mut state.told, kernel, &mut out.events, sent.as_slice())?;
+    note_faults(&mut state.told, kernel, answered.as_slice())?;
+    Ok(Said {
+        next,
+        sent,
+        answered,
+    })
+}

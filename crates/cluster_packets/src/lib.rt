@@ -1,0 +1,13 @@
+//! What may happen next at a kernel of a cluster apart from its processes, and what happens then: a packet comes, a timer fires, or a
+//! block is written back.
+#![tactic(auto)]
+
+mod act;
+mod choice;
+mod choosing;
+mod delivery;
+
+pub use act::{Act, Given};
+pub use choice::Choice;
+pub use choosing::choices;
+pub use delivery::happen;

@@ -1,0 +1,28 @@
+-- What a cluster has written, and what is always true of it.
+use Rattle.std.specs.Prelude.{◌≡◌, ℕ, ◌+◌, ◌≤◌, Bool, false, List, count_by, map}
+use Rattle.unix_calls.specs.declared.Description.{Description}
+use Rattle.unix_calls.specs.declared.Event.{Event}
+use Rattle.unix_calls.specs.declared.Rec.{Rec}
+use Rattle.unix_calls.specs.Lawful.{Lawful}
+use Rattle.cluster_kernels.specs.Faults.{is_fault_between}
+
+-- what a kernel told, as records of it
+abbrev pub records_of : ℕ → List Event → List Rec
+records_of kernel told = map (λ event. record { kernel = kernel; event = event }) told
+
+-- the records of a trace, each as its kernel's
+abbrev pub log_of : List Rec → List (ℕ × Event)
+log_of trace = map (λ (r : Rec). (r.kernel, r.event)) trace
+
+-- of how many faults between two kernels a trace tells
+abbrev pub faults_between : ℕ → ℕ → List Rec → ℕ
+faults_between a b trace = count_by (λ (r : Rec). is_fault_between a b r.event) trace
+
+-- between any two kernels a trace tells of no more faults than by how many the link's count of these rose
+abbrev pub TellsFaults : {L : Type 0} → (L → ℕ → ℕ → ℕ) → L → L → List Rec → Type 0
+TellsFaults faults begun link trace = (a b : ℕ) → faults begun a b + faults_between a b trace ≤ faults link a b
+
+-- what is always true of a cluster: what it runs is lawful, and its trace tells of the link's faults alone, as long as memory isn't wanting
+pub record Holds {L : Type 0} (faults : L → ℕ → ℕ → ℕ) (c : Description) (closed : Bool) (begun link : L) (trace : List Rec) : Type 0 where
+  pub lawful : Lawful c
+  pub tells : closed ≡ false → TellsFaults faults begun link trace
