@@ -1,5 +1,5 @@
 -- A cluster that was run.
-use Rattle.std.proofs.Common.{◌≡◌, ◌≤◌, ℕ, Bool, true, false, List, refl, sym, subst, length, nat_le}
+use Rattle.std.proofs.Common.{arith, ◌≡◌, ◌≤◌, ◌+◌, ◌∙◌, ℕ, Bool, true, false, List, [], Result, Ok, Err, IfOk, refl, sym, ap, subst, length, nat_le}
 use Rattle.std.specs.Prelude.{◌&&◌, if◌then◌else◌}
 use Rattle.std.specs.List.{list_all}
 use Rattle.std.proofs.lemmas.Bool.{and_parts, leb-true}
@@ -14,7 +14,13 @@ use Rattle.unix_calls.specs.Lawful.{Lawful, is_within}
 use Rattle.cluster_kernels.specs.declared.State.{State}
 use Rattle.cluster_kernels.specs.Kernels.{has_ended}
 use Rattle.sprite_cluster.specs.Finishing.{IsSpent, finish_of, may_go_on, stands_so}
-use Rattle.sprite_top.specs.Top.{is_out_of_memory}
+use Rattle.sprite_cluster.specs.Logs.{Holds, faults_between, log_of}
+use Rattle.sprite_cluster.specs.declared.Cluster.{Cluster}
+use Rattle.sprite_cluster.specs.declared.Origin.{Origin}
+use Rattle.kernel_threads.specs.Steps.{Ran}
+use Rattle.link_plan.specs.Counts.{Stay}
+use Rattle.call_journal.specs.declared.closed.Closed.{Closed}
+use Rattle.sprite_top.specs.Top.{IsRun, IsSameRun, is_out_of_memory}
 
 and_left : (a b : Bool) → (a && b) ≡ true → a ≡ true
 and_left true b h = refl
@@ -37,7 +43,7 @@ pub open_still : (closed : Bool) (c : Description) (trace : List Rec) (machine :
 open_still true c trace machine s end is enough = absurd (cc)
 open_still false c trace machine s end is enough = refl
 
-pub spent_so : (c : Description) (trace : List Rec) (machine : Machine) (s : State) (end : Finish) → end ≡ finish_of c trace machine s → IsSpent c trace end
+spent_so : (c : Description) (trace : List Rec) (machine : Machine) (s : State) (end : Finish) → end ≡ finish_of c trace machine s → IsSpent c trace end
 spent_so c trace machine s end is = subst (IsSpent c trace) (sym is) (by_ended (list_all has_ended s.kernels))
   where
     by_way : (may : Bool) → IsSpent c trace (if may then finish.Running else finish.Stalled)
@@ -51,3 +57,41 @@ spent_so c trace machine s end is = subst (IsSpent c trace) (sym is) (by_ended (
     by_ended : (ended : Bool) → IsSpent c trace (if ended then finish.AllEnded else if nat_le c.budget (units_of trace) then finish.Budget else if may_go_on (length c.kernels) machine s then finish.Running else finish.Stalled)
     by_ended true = tt
     by_ended false = by_budget (nat_le c.budget (units_of trace)) refl
+
+spent_of : (closed : Bool) (c : Description) (trace : List Rec) (machine : Machine) (s : State) (end : Finish) → end ≡ stands_so closed c trace machine s → is_out_of_memory end ≡ false → IsSpent c trace end
+spent_of true c trace machine s end is enough = absurd (cc)
+spent_of false c trace machine s end is enough = spent_so c trace machine s end is
+
+-- so is the run that it is closed as
+pub close_run : (c : Description) (closed : Bool) (after : Description) (trace : List Rec) (machine : Machine) (s : State) (end : Finish) (run : Closed) → end ≡ stands_so closed after trace machine s → is_out_of_memory end ≡ false → after ≡ c → run ≡ record { description = after; trace = trace; finish = end } → IsRun c run
+close_run c closed after trace machine s end run stands enough same is = record {
+  same = ap (λ (r : Closed). r.description) is ∙ same;
+  spent = subst (λ (r : Closed). IsSpent c r.trace r.finish) (sym is) (subst (λ (d : Description). IsSpent d trace end) same (spent_of closed after trace machine s end stands enough));
+}
+
+-- and its trace tells of no more faults than the link counted since before the boot
+pub close_tells : {L : Type 0} (faults : L → ℕ → ℕ → ℕ) (old now : Cluster L) (after : L) (run : Closed) → (now.closed ≡ false → now ≡ old) → now.closed ≡ false → Holds faults old.description old.closed old.begun.value old.wire.link old.trace → after ≡ now.wire.link → run.trace ≡ now.trace → (a b : ℕ) → faults old.begun.value a b + faults_between a b run.trace ≤ faults after a b
+close_tells {L} faults old now after run stays unclosed held link trace a b =
+    (let same = stays unclosed in
+    let told = held.tells (sym (ap (λ (v : Cluster L). v.closed) same) ∙ unclosed) a b in
+    let links = ap (λ (v : Cluster L). faults v.wire.link a b) same in
+    let traces = ap (λ (v : Cluster L). faults_between a b v.trace) same in
+    let counted = ap (λ l. faults l a b) link in
+    let tells = ap (faults_between a b) trace in omega arith)
+
+-- what is always true of a cluster is true as it is booted
+pub boot_holds : {L : Type 0} (faults asked : L → ℕ → ℕ → ℕ) (link : L) (c : Description) (cluster : Cluster L) → Lawful c → cluster.description ≡ c → cluster.trace ≡ [] → cluster.begun.value ≡ link → Stay (faults link) (asked link) (faults cluster.wire.link) (asked cluster.wire.link) → Holds faults cluster.description cluster.closed cluster.begun.value cluster.wire.link cluster.trace
+boot_holds faults asked link c cluster lawful same none begun stay = record {
+  lawful = subst Lawful (sym same) lawful;
+  tells = λ is a b. (let told : faults_between a b cluster.trace ≡ 0 = ap (faults_between a b) none in
+    let first = ap (λ l. faults l a b) begun in
+    let counts = stay.faults_stay a b in omega arith);
+}
+
+-- a run keeps what never changes, and what is always true
+same_of : {L : Type 0} (faults : L → ℕ → ℕ → ℕ) (kernels : ℕ) (old now : Cluster L) → Ran {O = Origin L} (λ (v : Cluster L). record { description = v.description; link = v.begun }) (λ (v : Cluster L). log_of v.trace) (λ (v : Cluster L). Holds faults v.description v.closed v.begun.value v.wire.link v.trace) kernels old now → IsSameRun faults old now
+same_of {L} faults kernels old now ran = record { described = ap (λ (o : Origin L). o.description) ran.origin_stays; begun_so = ap (λ (o : Origin L). o.link) ran.origin_stays; holds = ran.still_holds }
+
+pub same_run : {L : Type 0} (faults : L → ℕ → ℕ → ℕ) (kernels : ℕ) (old : Cluster L) (r : Result (Cluster L) (Cluster L)) → IfOk r (λ now. Ran {O = Origin L} (λ (v : Cluster L). record { description = v.description; link = v.begun }) (λ (v : Cluster L). log_of v.trace) (λ (v : Cluster L). Holds faults v.description v.closed v.begun.value v.wire.link v.trace) kernels old now) → IfOk r (IsSameRun faults old)
+same_run faults kernels old (Ok now) ran = same_of faults kernels old now ran
+same_run faults kernels old (Err e) ran = tt
