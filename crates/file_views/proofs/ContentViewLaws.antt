@@ -8,11 +8,12 @@ use Rattle.file_views.specs.declared.client.Held.{Held}
 use Rattle.file_views.specs.declared.client.Client.{Client}
 use Rattle.file_views.specs.declared.call.FileCall.{FileCall}
 use Rattle.file_views.specs.declared.view.View.{View}
+use Rattle.file_views.specs.declared.entered.Entered.{Entered}
 use Rattle.file_views.specs.Setting.{Setting}
 use Rattle.file_views.specs.Contents.{part}
 use Rattle.file_views.specs.Clients.{new_client}
 use Rattle.file_views.specs.Views.{client, set_client, current_stamp, is_holder, is_callback, things}
-use Rattle.file_views.specs.Entries.{Entered, bytes_entered, is_right}
+use Rattle.file_views.specs.Entries.{bytes_entered, is_right}
 use Rattle.file_views.specs.Here.{In, IsClient, Answered, request_stamp}
 use Rattle.file_views.specs.SoundShapes.{Ends}
 use Rattle.file_views.specs.SoundHolders.{Ready}

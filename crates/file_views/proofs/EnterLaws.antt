@@ -3,11 +3,12 @@ use Rattle.std.proofs.Common.{◌≡◌, ◌≤◌, ◌<◌, ℕ, Bool, true, fa
 use Rattle.std.proofs.lemmas.Bool.{and_from}
 use Rattle.file_views.specs.declared.step.FileStep.{FileStep}
 use Rattle.file_views.specs.declared.view.View.{View}
+use Rattle.file_views.specs.declared.entered.Entered.{Entered}
 use Rattle.file_views.specs.Setting.{Setting}
 use Rattle.file_views.specs.Views.{new_view, busy}
 use Rattle.file_views.specs.Possible.{stepped}
 use Rattle.file_views.specs.Moves.{may_move, after_move, enters_move}
-use Rattle.file_views.specs.Entries.{Entered, entered, bytes_entered, bytes_after_all, is_right, are_right}
+use Rattle.file_views.specs.Entries.{entered, bytes_entered, bytes_after_all, is_right, are_right}
 use Rattle.file_views.specs.Settled.{stands_for}
 use Rattle.file_views.specs.Coherent.{coherent}
 use Rattle.file_views.specs.Plays.{stays_coherent}

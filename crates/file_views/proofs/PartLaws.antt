@@ -17,6 +17,7 @@ use Rattle.file_views.specs.declared.step.FileStep.TheVariants as act
 use Rattle.file_views.specs.declared.moves.ClientMove.{ClientMove}
 use Rattle.file_views.specs.declared.moves.ClientMove.TheVariants as move
 use Rattle.file_views.specs.declared.view.View.{View}
+use Rattle.file_views.specs.declared.entered.Entered.{Entered}
 use Rattle.file_views.specs.Setting.{Setting}
 use Rattle.file_views.specs.Contents.{zeros}
 use Rattle.file_views.specs.Clients.{held, take_grant, fill, wrote_back, install, with_block}
@@ -28,7 +29,7 @@ use Rattle.file_views.specs.Steps.{grant_comes, called_back, request_at_client, 
 use Rattle.file_views.specs.Possible.{is_client, is_free, is_due, may_write_back, may_do}
 use Rattle.file_views.specs.Moves.{kernel_of, is_data, is_past, may_move, after_move}
 use Rattle.file_views.specs.Moves.{enters_move}
-use Rattle.file_views.specs.Entries.{Entered, enters_request, enters_flush, enters_fetched, enters_op_answered, enters_reply, enters_call, enters_delivered, enters_after}
+use Rattle.file_views.specs.Entries.{enters_request, enters_flush, enters_fetched, enters_op_answered, enters_reply, enters_call, enters_delivered, enters_after}
 use Rattle.file_views.specs.Here.{In, IsClient, request_stamp}
 use Rattle.file_views.specs.SoundShapes.{Ends, Answers}
 use Rattle.file_views.proofs.MemberLaws.{found, carried_found}

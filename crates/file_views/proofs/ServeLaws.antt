@@ -9,13 +9,14 @@ use Rattle.file_views.specs.declared.body.FileBody.{FileBody}
 use Rattle.file_views.specs.declared.body.FileBody.TheVariants as form
 use Rattle.file_views.specs.declared.call.FileCall.{FileCall}
 use Rattle.file_views.specs.declared.view.View.{View}
+use Rattle.file_views.specs.declared.entered.Entered.{Entered}
 use Rattle.file_views.specs.Setting.{Setting}
 use Rattle.file_views.specs.Views.{server, current_stamp, kernels, is_callback, answer, to_the_end, busy, waiting_calls}
 use Rattle.file_views.specs.Grants.{asks, uncached_after, is_called, kind_of_calls, called_kernels, call_out, call_back, settle, told, deciding, decide}
 use Rattle.file_views.specs.Serving.{close, block_of, data_op, store, refuse_old, serve_body, serve, serve_all, request_comes, resume, resumed}
 use Rattle.file_views.specs.Data.{step_of}
 use Rattle.file_views.specs.Serving.{op_reply}
-use Rattle.file_views.specs.Entries.{Entered, told_reply, enters_settled, enters_deciding, enters_served, enters_serve_all, enters_request, enters_resume, enters_resumed}
+use Rattle.file_views.specs.Entries.{told_reply, enters_settled, enters_deciding, enters_served, enters_serve_all, enters_request, enters_resume, enters_resumed}
 use Rattle.file_views.specs.Here.{In, IsClient, request_stamp}
 use Rattle.file_views.proofs.MemberLaws.{in_last, last_in, in_without}
 use Rattle.file_views.proofs.ClientLaws.{choose_by}

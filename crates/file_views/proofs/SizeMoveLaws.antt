@@ -15,6 +15,7 @@ use Rattle.file_views.specs.declared.call.Carry.{Carry}
 use Rattle.file_views.specs.declared.step.FileStep.{FileStep}
 use Rattle.file_views.specs.declared.moves.ClientMove.{ClientMove}
 use Rattle.file_views.specs.declared.view.View.{View}
+use Rattle.file_views.specs.declared.entered.Entered.{Entered}
 use Rattle.file_views.specs.Setting.{Setting}
 use Rattle.file_views.specs.Contents.{zeros, cut}
 use Rattle.file_views.specs.Streams.{is_any}
@@ -62,7 +63,7 @@ use Rattle.file_views.proofs.AskingMoveLaws.{flat_asking, quiet_calls}
 use Rattle.file_views.proofs.DataLaws.{alike_done}
 use Rattle.file_views.proofs.WorkLaws.{noted, unnoted, Works}
 use Rattle.file_views.proofs.PartLaws.{Parts, part_after, part_move}
-use Rattle.file_views.specs.Entries.{Entered, enters_flush}
+use Rattle.file_views.specs.Entries.{enters_flush}
 use Rattle.file_views.proofs.ServeLaws.{ServeNotes, notes_flushed, serves_notes, serves_request}
 use Rattle.file_views.proofs.WritingLaws.{Keeps, keeps_same, keeps_filled, keeps_dropped, keeps_back, keeps_done}
 use Rattle.file_views.proofs.WritingStepLaws.{FlatWriting, calm_calls, low_own, writing_calm, keeps_fill, Writes, numbers_under, writing_works}

@@ -6,11 +6,12 @@ use Rattle.file_views.specs.declared.client.Client.{Client}
 use Rattle.file_views.specs.declared.step.FileStep.{FileStep}
 use Rattle.file_views.specs.declared.step.FileStep.TheVariants as act
 use Rattle.file_views.specs.declared.view.View.{View}
+use Rattle.file_views.specs.declared.entered.Entered.{Entered}
 use Rattle.file_views.specs.Setting.{Setting}
 use Rattle.file_views.specs.Clients.{is_on, high_of, missing, cached_bytes}
 use Rattle.file_views.specs.Views.{client, set_client}
 use Rattle.file_views.specs.Data.{send_op, send_fetch, enter_cached, queue, wait_for, started, start_data, unqueue, or_zero, advance, look}
-use Rattle.file_views.specs.Entries.{Entered, cached_reply, enters_started, enters_data, enters_advance, enters_look}
+use Rattle.file_views.specs.Entries.{cached_reply, enters_started, enters_data, enters_advance, enters_look}
 use Rattle.file_views.specs.Here.{In, IsClient}
 use Rattle.file_views.proofs.MemberLaws.{in_last}
 use Rattle.file_views.proofs.EffectLaws.{client_set}

@@ -2,9 +2,10 @@
 use Rattle.std.specs.Prelude.{◌≡◌, ◌≤◌, ◌<◌, ℕ, Bool, true, ◌&&◌, if◌then◌else◌, List, [], ◌∷◌}
 use Rattle.file_views.specs.declared.step.FileStep.{FileStep}
 use Rattle.file_views.specs.declared.view.View.{View}
+use Rattle.file_views.specs.declared.entered.Entered.{Entered}
 use Rattle.file_views.specs.Setting.{Setting}
 use Rattle.file_views.specs.Views.{new_view}
-use Rattle.file_views.specs.Entries.{Entered, entered, bytes_after_all, are_right}
+use Rattle.file_views.specs.Entries.{entered, bytes_after_all, are_right}
 use Rattle.file_views.specs.Moves.{may_move, enters_move}
 use Rattle.file_views.specs.Settled.{stands_for}
 use Rattle.file_views.specs.Coherent.{coherent}

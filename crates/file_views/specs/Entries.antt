@@ -11,6 +11,7 @@ use Rattle.file_views.specs.declared.call.Carry.{Carry}
 use Rattle.file_views.specs.declared.step.FileStep.{FileStep}
 use Rattle.file_views.specs.declared.step.FileStep.TheVariants as act
 use Rattle.file_views.specs.declared.view.View.{View}
+use Rattle.file_views.specs.declared.entered.Entered.{Entered}
 use Rattle.file_views.specs.Setting.{Setting}
 use Rattle.file_views.specs.Contents.{overlay, same_bytes}
 use Rattle.file_views.specs.Clients.{is_on, high_of, missing, fill, cached_bytes}
@@ -20,12 +21,6 @@ use Rattle.file_views.specs.Data.{step_of, send_op, enter_cached, unqueue}
 use Rattle.file_views.specs.Serving.{op_reply, serve, flushed}
 use Rattle.file_views.specs.Steps.{grant_comes}
 use Rattle.file_views.specs.Possible.{possible}
-
--- where it takes effect, a client's kernel or the server, and the reply
-pub record Entered : Type 0 where
-  pub kernel : ℕ
-  pub step : FileStep
-  pub reply : FileBody
 
 -- what an operation answers its process: an append only the number of its bytes
 abbrev pub told_reply : Access → FileBody → FileBody

@@ -9,6 +9,7 @@ use Rattle.file_views.specs.declared.step.FileStep.TheVariants as act
 use Rattle.file_views.specs.declared.moves.ClientMove.{ClientMove}
 use Rattle.file_views.specs.declared.moves.ClientMove.TheVariants as move
 use Rattle.file_views.specs.declared.view.View.{View}
+use Rattle.file_views.specs.declared.entered.Entered.{Entered}
 use Rattle.file_views.specs.Setting.{Setting}
 use Rattle.file_views.specs.Contents.{zeros}
 use Rattle.file_views.specs.Streams.{is_any}
@@ -16,7 +17,7 @@ use Rattle.file_views.specs.Clients.{is_on, held, with_block}
 use Rattle.file_views.specs.Views.{client, set_client, busy}
 use Rattle.file_views.specs.Data.{send_fetch, queue, look}
 use Rattle.file_views.specs.Possible.{is_client, may_do}
-use Rattle.file_views.specs.Entries.{Entered, enters_look}
+use Rattle.file_views.specs.Entries.{enters_look}
 
 -- the kernel of a reading, writing or append
 abbrev pub kernel_of : FileStep → ℕ

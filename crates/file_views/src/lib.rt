@@ -6,6 +6,8 @@
 mod body;
 mod call;
 mod client;
+mod copies;
+mod entered;
 mod grant;
 pub mod judged;
 mod laws;
@@ -17,6 +19,7 @@ mod view;
 pub use body::{Access, FileBody};
 pub use call::{Carry, FileCall};
 pub use client::{Client, Held};
+pub use entered::Entered;
 pub use grant::FileGrant;
 pub use laws::{
     asking_stays, bytes_stay, coherence_stays, contents_stay, decisions_stay, holders_stay,
