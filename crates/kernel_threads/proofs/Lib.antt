@@ -1,0 +1,7 @@
+pub mod TurnLaws
+pub mod RunLaws
+pub mod SeedLaws
+pub mod ActLaws
+pub mod SeatLaws
+pub mod ThreadLaws
+pub mod BoundLaws

@@ -1,0 +1,110 @@
+#![tactic(auto, using(crate::proofs::ActLaws::acts_stays, crate::proofs::ActLaws::acts_adds, crate::proofs::ActLaws::acts_on))]
+
+ghost use Rattle.std.specs.Prelude.{◌≡◌, IfOk, IfSome, OnErr, OnOk, Some};
+ghost use Rattle.kernel_threads.specs.Steps.{Acts, BeganOf, Closes, IsAmong};
+
+use crate::stepped::Stepped;
+use sprite_ids::{Finish, Kernel, NoMemory};
+use std::alloc::Global;
+
+/// What a kernel's turn came to.
+pub(crate) enum Act<J> {
+    /// The value isn't `Running`.
+    Over,
+    /// Nothing can happen at the kernel.
+    Idle,
+    /// Something happened, and no process of the kernel can run.
+    Moved,
+    /// A process of the kernel is to run.
+    Began(J),
+}
+
+/// The first of the kernel's choices happens, where it has one, and then a burst begins, where a process of it can run.
+pub(crate) fn move_on<V: Stepped>(alloc: Global, value: &mut V, kernel: Kernel) -> Act<V::Job>
+    requires { V.holds value.old }
+    ensures acts { Acts V.origin V.log V.holds kernel value.old value.new }
+    ensures may_end { BeganOf V.is_done (V.may_end (V.origin value.new)) result }
+{
+    if value.finish(alloc) != Finish::Running {
+        return Act::Over;
+    }
+    match first_choice(alloc, value, kernel) {
+        Ok(Some(choice)) => step(alloc, value, kernel, choice),
+        Ok(None) => begin(alloc, value, kernel, false),
+        Err(NoMemory) => Act::Over,
+    }
+}
+
+// The first of the kernel's choices. The one error is want of memory.
+fn first_choice<V: Stepped>(
+    alloc: Global,
+    value: &mut V,
+    kernel: Kernel,
+) -> Result<Option<V::Choice>, NoMemory>
+    requires holds { V.holds value.old }
+    requires running { V.finish_of value.old ≡ Finish.Running }
+    ensures among { IfOk result (λ choice. IfSome choice (λ c. IsAmong c (V.choices_at value.old kernel))) }
+    ensures ok { OnOk result (value.new ≡ value.old) }
+    ensures err { OnErr result (Closes V.origin V.log V.holds V.finish_of value.old value.new) }
+{
+    let choices = value.choices(alloc, kernel)?;
+    if choices.is_empty() {
+        return Ok(None);
+    }
+    Ok(Some(*choices.at(0)))
+}
+
+// The choice happens, and then a burst begins, where a process of the kernel can run.
+fn step<V: Stepped>(alloc: Global, value: &mut V, kernel: Kernel, choice: V::Choice) -> Act<V::Job>
+    requires holds { V.holds value.old }
+    requires running { V.finish_of value.old ≡ Finish.Running }
+    requires among { IsAmong choice (V.choices_at value.old kernel) }
+    ensures acts { Acts V.origin V.log V.holds kernel value.old value.new }
+    ensures may_end { BeganOf V.is_done (V.may_end (V.origin value.new)) result }
+{
+    let Ok(()) = value.step(alloc, kernel, choice) else {
+        return Act::Over;
+    };
+    go_on(alloc, value, kernel)
+}
+
+// After a step a burst begins, where the value goes on and a process of the kernel can run.
+fn go_on<V: Stepped>(alloc: Global, value: &mut V, kernel: Kernel) -> Act<V::Job>
+    requires holds { V.holds value.old }
+    ensures acts { Acts V.origin V.log V.holds kernel value.old value.new }
+    ensures may_end { BeganOf V.is_done (V.may_end (V.origin value.new)) result }
+{
+    if value.finish(alloc) != Finish::Running {
+        return Act::Over;
+    }
+    begin(alloc, value, kernel, true)
+}
+
+// A burst begins, where a process of the kernel can run.
+fn begin<V: Stepped>(alloc: Global, value: &mut V, kernel: Kernel, moved: bool) -> Act<V::Job>
+    requires holds { V.holds value.old }
+    requires running { V.finish_of value.old ≡ Finish.Running }
+    ensures acts { Acts V.origin V.log V.holds kernel value.old value.new }
+    ensures may_end { BeganOf V.is_done (V.may_end (V.origin value.new)) result }
+{
+    match value.begin_burst(alloc, kernel) {
+        Ok(Some(job)) => Act::Began(job),
+        Ok(None) => { if moved { Act::Moved } else { Act::Idle } }
+        Err(NoMemory) => Act::Over,
+    }
+}
+
+/// The burst of the kernel ends, where the value is `Running`. False where it isn't `Running` any more.
+pub(crate) fn end<V: Stepped>(alloc: Global, value: &mut V, kernel: Kernel, burst: V::Burst) -> bool
+    requires holds { V.holds value.old }
+    requires may_end { V.may_end (V.origin value.old) burst }
+    ensures { Acts V.origin V.log V.holds kernel value.old value.new }
+{
+    if value.finish(alloc) != Finish::Running {
+        return false;
+    }
+    match value.end_burst(alloc, kernel, burst) {
+        Ok(_) => true,
+        Err(NoMemory) => false,
+    }
+}
