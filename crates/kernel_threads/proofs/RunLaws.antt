@@ -1,6 +1,8 @@
 -- Runs of some kernels in a row.
-use Rattle.std.proofs.Common.{◌≡◌, ℕ, ◌<◌, ◌≤◌, Bool, true, false, List, [], ◌++◌, sym, refl, ap, ap₂, ◌∙◌, subst, arith, append_assoc, append-nil, ⊎_elim}
+use Rattle.std.proofs.Common.{◌≡◌, ℕ, zero, suc, ◌+◌, ◌<◌, ◌≤◌, ◌⊎◌, Bool, true, false, List, [], ◌++◌, length, sym, refl, ap, ap₂, ◌∙◌, subst, arith, append_assoc, append-nil, ⊎_elim}
 use Rattle.sprite_ids.specs.declared.Finish.{Finish}
+use Rattle.turn_gate.specs.Rule.{items_of}
+use Rattle.turn_gate.specs.Steps.{Grows}
 use Rattle.turn_gate.proofs.SmallLaws.{items_append, items_else}
 use Rattle.kernel_threads.specs.Steps.{Stays, Adds, Closes, Acts, Ran}
 

@@ -1,5 +1,5 @@
 -- Runs with a seed, turn by turn.
-use Rattle.std.proofs.Common.{◌≡◌, ℕ, suc, Bool, List, ap, ◌∙◌, subst}
+use Rattle.std.proofs.Common.{◌≡◌, ℕ, suc, Bool, List, sym, ap, ◌∙◌, subst}
 use Rattle.rand_pcg.specs.Lcg.{Lcg}
 use Rattle.rand_pcg.specs.Pcg.{pcg32}
 use Rattle.kernel_threads.specs.Seeds.{Turned, Turns, after, made_by, word_behind}

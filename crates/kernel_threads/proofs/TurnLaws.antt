@@ -1,10 +1,10 @@
 -- The turns of more kernels begin with those of fewer.
-use Rattle.std.proofs.Common.{◌≡◌, ℕ, zero, suc, ◌+◌, ◌<◌, ◌≤◌, ◌≢◌, ◌⊎◌, Bool, true, false, List, [], ◌∷◌, ◌++◌, length, Some, None, Result, Ok, Err, IfOk, slice_get, refl, ap, ◌∙◌, subst, arith, rules, length-append, inl, inr}
+use Rattle.std.proofs.Common.{◌≡◌, ℕ, zero, suc, ◌+◌, ◌-◌, ◌<◌, ◌≤◌, ◌≢◌, ◌⊎◌, Bool, true, false, List, [], ◌∷◌, ◌++◌, map, length, Option, Some, None, Result, Ok, Err, IfOk, slice_get, sym, refl, ap, ◌∙◌, subst, arith, rules, length-append, inl, inr}
 use mathlib.Core.Logic.{dite}
 use native.Mathlib.Decide.{ℕ_discrete}
 use Rattle.kernel_threads.specs.declared.turns.Turn.{Turn}
 use Rattle.kernel_threads.specs.Steps.{MayMove}
-use Rattle.kernel_threads.specs.Turns.{turns_at, turns_of}
+use Rattle.kernel_threads.specs.Turns.{turns_at, turns_of, choice_turn, burst_turn}
 
 -- an item of a list is there with more behind it
 in_front : {A : Type 0} (xs ys : List A) (i : ℕ) (x : A) → slice_get xs i ≡ Some x → slice_get (xs ++ ys) i ≡ Some x

@@ -1,8 +1,10 @@
 -- What a run with a seed does: each word of a generator that the seed makes draws the next turn.
-use Rattle.std.specs.Prelude.{◌≡◌, ℕ, zero, suc, Bool, List, Some}
+use Rattle.std.specs.Prelude.{◌≡◌, ℕ, zero, suc, ◌≢◌, Bool, List, Some}
 use Rattle.rand_core.specs.Pcg32Seed.{pcg32_seed}
 use Rattle.rand_pcg.specs.Lcg.{Lcg}
 use Rattle.rand_pcg.specs.Pcg.{pcg32, pcg32_of_seed}
+use Rattle.sprite_ids.specs.declared.Finish.{Finish}
+use Rattle.sprite_ids.specs.declared.Finish.TheVariants.{Running}
 use Rattle.kernel_threads.specs.declared.turns.Turn.{Turn}
 use Rattle.kernel_threads.specs.Steps.{Stays, Adds}
 use Rattle.kernel_threads.specs.Turns.{drawn, turns_of}
