@@ -84,8 +84,8 @@ pub boot_holds : {L : Type 0} (faults asked : L → ℕ → ℕ → ℕ) (link :
 boot_holds faults asked link c cluster lawful same none begun stay = record {
   lawful = subst Lawful (sym same) lawful;
   tells = λ is a b. (let told : faults_between a b cluster.trace ≡ 0 = ap (faults_between a b) none in
-    let first = ap (λ l. faults l a b) begun in
-    let counts = stay.faults_stay a b in omega arith);
+      let first = ap (λ l. faults l a b) begun in
+      let counts = stay.faults_stay a b in omega arith);
 }
 
 -- a run keeps what never changes, and what is always true
