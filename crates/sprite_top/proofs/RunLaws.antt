@@ -11,8 +11,6 @@ use Rattle.unix_calls.specs.declared.description.Description.{Description}
 use Rattle.unix_calls.specs.declared.Rec.{Rec}
 use Rattle.unix_calls.specs.Domains.{roots_of}
 use Rattle.unix_calls.specs.Lawful.{Lawful, is_within}
-use Rattle.cluster_file.specs.Clusters.{Describes}
-use Rattle.cluster_file.proofs.LawfulLaws.{described_is_lawful}
 use Rattle.cluster_kernels.specs.declared.State.{State}
 use Rattle.cluster_kernels.specs.Kernels.{has_ended}
 use Rattle.sprite_cluster.specs.Finishing.{IsSpent, finish_of, may_go_on, stands_so}
@@ -97,7 +95,3 @@ same_of {L} faults kernels old now ran = record { described = ap (λ (o : Origin
 pub same_run : {L : Type 0} (faults : L → ℕ → ℕ → ℕ) (kernels : ℕ) (old : Cluster L) (r : Result (Cluster L) (Cluster L)) → IfOk r (λ now. Ran {O = Origin L} (λ (v : Cluster L). record { description = v.description; link = v.begun }) (λ (v : Cluster L). log_of v.trace) (λ (v : Cluster L). Holds faults v.description v.closed v.begun.value v.wire.link v.trace) kernels old now) → IfOk r (IsSameRun faults old)
 same_run faults kernels old (Ok now) ran = same_of faults kernels old now ran
 same_run faults kernels old (Err e) ran = tt
-
--- what a cluster file describes is lawful
-pub lawful_described : (bytes : List ℕ) (c : Description) → Describes bytes c → Lawful c
-lawful_described bytes c describes = described_is_lawful bytes c describes

@@ -270,7 +270,6 @@ fn refuse(alloc: Global, status: Status, line: &[u8]) -> Result<Answer, NoMemory
 }
 
 /// What is due for a whole cluster file, and the link. The one error is want of memory.
-#[tactic(auto, using(crate::proofs::RunLaws::lawful_described))]
 fn answer_file<R: Wait, L: Link>(
     rt: &R,
     alloc: Global,
