@@ -1,3 +1,5 @@
+ghost use Rattle.std.specs.Prelude.{◌≤◌};
+
 mod answers;
 mod calls;
 mod images;
@@ -5,16 +7,15 @@ mod refusals;
 mod steps;
 
 use process_machine::{
-    Code, Image, Instruction, Operand, PageCount, Program, Register, SyscallName,
+    BurstEnd, Code, Image, Instruction, Operand, PageCount, Program, Register, SyscallName, burst,
 };
 use sprite_ids::{Bytes, Items, NoMemory};
 use std::alloc::Global;
-use std::test::Fail;
 
 const MAX: u64 = 18446744073709551615;
 
-fn register(number: u8) -> Result<Register, Fail> {
-    Ok(Register::new(number).ok_or("a register")?)
+fn register(number: u8) -> Result<Register, NoMemory> {
+    Register::new(number).ok_or(NoMemory)
 }
 
 fn bytes(alloc: Global, text: &[u8]) -> Result<Bytes, NoMemory> {
@@ -22,12 +23,14 @@ fn bytes(alloc: Global, text: &[u8]) -> Result<Bytes, NoMemory> {
 }
 
 // A program without texts.
-fn coded(alloc: Global, code: &[Instruction]) -> Result<Program, Fail> {
+fn coded(alloc: Global, code: &[Instruction]) -> Result<Program, NoMemory> {
+    let pages = PageCount::new(1).ok_or(NoMemory)?;
+    let code = Code::of_vec(Vec::from_slice(alloc, code)?).ok_or(NoMemory)?;
     Ok(Program {
         number: 1,
-        pages: PageCount::new(1).ok_or("pages")?,
+        pages,
         texts: Items::new(alloc),
-        code: Code::of_vec(Vec::from_slice(alloc, code)?).ok_or("code")?,
+        code,
     })
 }
 
@@ -48,8 +51,34 @@ fn pages(alloc: Global, letters: &[u8]) -> Result<Vec<Option<Bytes>>, NoMemory> 
 }
 
 // An image at instruction 0 with a page for each letter.
-fn image(alloc: Global, registers: [u64; 8], letters: &[u8]) -> Result<Image, Fail> {
-    Ok(Image::of_parts(1, 0, registers, pages(alloc, letters)?).ok_or("an image")?)
+fn image(alloc: Global, registers: [u64; 8], letters: &[u8]) -> Result<Image, NoMemory> {
+    Image::of_parts(1, 0, registers, pages(alloc, letters)?).ok_or(NoMemory)
+}
+
+// A program, and an image of it.
+#[derive(Drop)]
+struct Machine {
+    program: Program,
+    image: Image,
+}
+
+// A program of that code, and an image at its first instruction.
+fn loaded(
+    alloc: Global,
+    code: &[Instruction],
+    registers: [u64; 8],
+    letters: &[u8],
+) -> Result<Machine, NoMemory> {
+    let program = coded(alloc, code)?;
+    let image = image(alloc, registers, letters)?;
+    Ok(Machine { program, image })
+}
+
+// A burst of at most that many instructions, 1 to 10,000.
+fn run(machine: &mut Machine, limit: u32) -> (u32, BurstEnd)
+    requires { (1 ≤ limit) × (limit ≤ 10000) }
+{
+    burst(&machine.program, &mut machine.image, limit)
 }
 
 // Whether the page is there and filled with the letter.

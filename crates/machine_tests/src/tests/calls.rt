@@ -1,13 +1,13 @@
-use super::{MAX, bytes, coded, image, register};
+use super::{MAX, bytes, coded, loaded, register};
 use process_machine::{
     BurstEnd, Call, Image, Instruction, Operand, Program, Register, SyscallName, burst, call_of,
 };
-use sprite_ids::{Bytes, Copying, NoMemory};
+use sprite_ids::{Copying, NoMemory};
 use std::alloc::Global;
 use std::test::Fail;
 
 // The call at which the image stands; none where it stands at no call.
-pub fn call_here(
+fn call_here(
     alloc: Global,
     program: &Program,
     image: &mut Image,
@@ -18,90 +18,106 @@ pub fn call_here(
     }
 }
 
-fn two(alloc: Global) -> Result<Bytes, NoMemory> {
-    bytes(alloc, b"bc")
+// The call at which a machine of that one instruction stands.
+pub fn call_at(
+    alloc: Global,
+    instruction: Instruction,
+    registers: [u64; 8],
+    letters: &[u8],
+) -> Result<Option<Call>, NoMemory> {
+    let mut machine = loaded(alloc, &[instruction], registers, letters)?;
+    call_here(alloc, &machine.program, &mut machine.image)
 }
 
-fn three(alloc: Global) -> Result<Bytes, NoMemory> {
-    bytes(alloc, b"cde")
+// Whether it is the call of that name whose arguments are 1, 2, 3 and 4, in pages that begin with `abcdefgh`, where it names no
+// file.
+fn is_of_processes(call: &Call, name: SyscallName) -> bool {
+    match call {
+        Call::Print { bytes } => name == SyscallName::Print && bytes.as_slice() == TWO,
+        Call::Exit { code } => name == SyscallName::Exit && *code == 1,
+        Call::Getpid => name == SyscallName::Getpid,
+        Call::Getppid => name == SyscallName::Getppid,
+        Call::Host { max } => name == SyscallName::Host && *max == 2,
+        Call::Tick => name == SyscallName::Tick,
+        Call::Fork => name == SyscallName::Fork,
+        Call::Exec { name: program, arg } => {
+            name == SyscallName::Exec && program.as_slice() == TWO && *arg == 3
+        }
+        Call::Wait => name == SyscallName::Wait,
+        Call::Kill { pid } => name == SyscallName::Kill && *pid == 1,
+        _ => is_of_hosts(call, name),
+    }
 }
 
-fn four(alloc: Global) -> Result<Bytes, NoMemory> {
-    bytes(alloc, b"defg")
-}
-
-// The call of that name whose arguments are 1, 2, 3 and 4, in pages that begin with `abcdefgh`, where it names no file.
-fn of_processes(alloc: Global, name: SyscallName) -> Result<Option<Call>, NoMemory> {
-    Ok(Some(match name {
-        SyscallName::Print => Call::Print { bytes: two(alloc)? },
-        SyscallName::Exit => Call::Exit { code: 1 },
-        SyscallName::Getpid => Call::Getpid,
-        SyscallName::Getppid => Call::Getppid,
-        SyscallName::Host => Call::Host { max: 2 },
-        SyscallName::Tick => Call::Tick,
-        SyscallName::Fork => Call::Fork,
-        SyscallName::Exec => Call::Exec {
-            name: two(alloc)?,
-            arg: 3,
-        },
-        SyscallName::Wait => Call::Wait,
-        SyscallName::Kill => Call::Kill { pid: 1 },
-        SyscallName::Migrate => Call::Migrate { name: two(alloc)? },
-        SyscallName::Rexec => Call::Rexec {
-            name: two(alloc)?,
-            host: four(alloc)?,
-        },
-        _ => return of_paths(alloc, name),
-    }))
+// The same for the calls with the name of a kernel.
+fn is_of_hosts(call: &Call, name: SyscallName) -> bool {
+    match call {
+        Call::Migrate { name: host } => name == SyscallName::Migrate && host.as_slice() == TWO,
+        Call::Rexec {
+            name: program,
+            host,
+        } => { name == SyscallName::Rexec && program.as_slice() == TWO && host.as_slice() == FOUR }
+        _ => is_of_paths(call, name),
+    }
 }
 
 // The same for the calls with paths.
-fn of_paths(alloc: Global, name: SyscallName) -> Result<Option<Call>, NoMemory> {
-    let path = two(alloc)?;
-    Ok(Some(match name {
-        SyscallName::Open => Call::OpenFile { path, flags: 3 },
-        SyscallName::Stat => Call::Stat { path },
-        SyscallName::Mkdir => Call::Mkdir { path },
-        SyscallName::Rmdir => Call::Rmdir { path },
-        SyscallName::Unlink => Call::Unlink { path },
-        SyscallName::Rename => Call::Rename {
-            old: path,
-            new: four(alloc)?,
-        },
-        SyscallName::List => Call::List { path, max: 4 },
-        SyscallName::Chdir => Call::Chdir { path },
-        SyscallName::PdMake => Call::PdMake { path },
-        _ => return of_descriptors(alloc, name),
-    }))
+fn is_of_paths(call: &Call, name: SyscallName) -> bool {
+    match call {
+        Call::OpenFile { path, flags } => {
+            name == SyscallName::Open && path.as_slice() == TWO && *flags == 3
+        }
+        Call::Stat { path } => name == SyscallName::Stat && path.as_slice() == TWO,
+        Call::Mkdir { path } => name == SyscallName::Mkdir && path.as_slice() == TWO,
+        Call::Rmdir { path } => name == SyscallName::Rmdir && path.as_slice() == TWO,
+        Call::Unlink { path } => name == SyscallName::Unlink && path.as_slice() == TWO,
+        Call::Rename { old, new } => {
+            name == SyscallName::Rename && old.as_slice() == TWO && new.as_slice() == FOUR
+        }
+        Call::List { path, max } => {
+            name == SyscallName::List && path.as_slice() == TWO && *max == 4
+        }
+        Call::Chdir { path } => name == SyscallName::Chdir && path.as_slice() == TWO,
+        Call::PdMake { path } => name == SyscallName::PdMake && path.as_slice() == TWO,
+        _ => is_of_descriptors(call, name),
+    }
 }
 
 // The same for the calls with descriptors.
-fn of_descriptors(alloc: Global, name: SyscallName) -> Result<Option<Call>, NoMemory> {
-    Ok(Some(match name {
-        SyscallName::Close => Call::Close { fd: 1 },
-        SyscallName::Dup => Call::Dup { fd: 1 },
-        SyscallName::Read => Call::Read { fd: 1, length: 3 },
-        SyscallName::Write => Call::Write {
-            fd: 1,
-            bytes: three(alloc)?,
-        },
-        SyscallName::Seek => Call::Seek { fd: 1, offset: 2 },
-        SyscallName::Size => Call::Size { fd: 1 },
-        SyscallName::Sync => Call::Sync { fd: 1 },
-        SyscallName::PdGet => Call::PdGet { fd: 1, max: 3 },
-        SyscallName::PdPut => Call::PdPut {
-            fd: 1,
-            bytes: three(alloc)?,
-            errno: 4,
-        },
-        SyscallName::Ioctl => Call::Ioctl {
-            fd: 1,
-            command: 2,
-            bytes: four(alloc)?,
-        },
-        _ => return Ok(None),
-    }))
+fn is_of_descriptors(call: &Call, name: SyscallName) -> bool {
+    match call {
+        Call::Close { fd } => name == SyscallName::Close && *fd == 1,
+        Call::Dup { fd } => name == SyscallName::Dup && *fd == 1,
+        Call::Read { fd, length } => name == SyscallName::Read && *fd == 1 && *length == 3,
+        Call::Write { fd, bytes } => {
+            name == SyscallName::Write && *fd == 1 && bytes.as_slice() == THREE
+        }
+        Call::Seek { fd, offset } => name == SyscallName::Seek && *fd == 1 && *offset == 2,
+        Call::Size { fd } => name == SyscallName::Size && *fd == 1,
+        Call::Sync { fd } => name == SyscallName::Sync && *fd == 1,
+        Call::PdGet { fd, max } => name == SyscallName::PdGet && *fd == 1 && *max == 3,
+        _ => is_of_answers(call, name),
+    }
 }
+
+// The same for an answer of a pseudo-device's master, and for what it is asked.
+fn is_of_answers(call: &Call, name: SyscallName) -> bool {
+    match call {
+        Call::PdPut { fd, bytes, errno } => {
+            name == SyscallName::PdPut && *fd == 1 && bytes.as_slice() == THREE && *errno == 4
+        }
+        Call::Ioctl { fd, command, bytes } => {
+            name == SyscallName::Ioctl && *fd == 1 && *command == 2 && bytes.as_slice() == FOUR
+        }
+        _ => false,
+    }
+}
+
+const TWO: &[u8] = b"bc";
+
+const THREE: &[u8] = b"cde";
+
+const FOUR: &[u8] = b"defg";
 
 const NAMES: [SyscallName; 31] = [
     SyscallName::Print,
@@ -138,34 +154,40 @@ const NAMES: [SyscallName; 31] = [
 ];
 
 // An image whose registers 1 to 4 hold 1 to 4, and whose page begins with `abcdefgh`.
-fn lettered(alloc: Global) -> Result<Image, Fail> {
+fn lettered(alloc: Global) -> Result<Image, NoMemory> {
     let mut page = [b'-'; 4096];
     page[..8].copy_from_slice(b"abcdefgh");
-    let mut pages = Vec::new(alloc);
-    pages.push(Some(bytes(alloc, &page)?))?;
-    Ok(Image::of_parts(1, 0, [0, 1, 2, 3, 4, 0, 0, 0], pages).ok_or("an image")?)
+    let page = bytes(alloc, &page)?;
+    let pages = Vec::from_array(alloc, [Some(page)])?;
+    Image::of_parts(1, 0, [0, 1, 2, 3, 4, 0, 0, 0], pages).ok_or(NoMemory)
 }
 
 // The call of that name where registers 1 to 4 are its arguments.
-fn by_registers(alloc: Global, name: SyscallName) -> Result<Option<Call>, Fail> {
+fn by_registers(alloc: Global, name: SyscallName) -> Result<Option<Call>, NoMemory> {
     let operands = [None; 4];
     let program = coded(alloc, &[Instruction::Sys { name, operands }])?;
-    Ok(call_here(alloc, &program, &mut lettered(alloc)?)?)
+    let mut image = lettered(alloc)?;
+    call_here(alloc, &program, &mut image)
 }
 
-fn is_copied(alloc: Global, call: &Option<Call>) -> Result<bool, NoMemory> {
+fn is_copied(alloc: Global, call: &Call) -> Result<bool, NoMemory> {
+    let copy = call.copy(alloc)?;
+    Ok(copy == *call)
+}
+
+fn is_right(alloc: Global, call: &Option<Call>, name: SyscallName) -> Result<bool, NoMemory> {
     match call {
-        Some(call) => Ok(call.copy(alloc)? == *call),
+        Some(call) => Ok(is_of_processes(call, name) && is_copied(alloc, call)?),
         None => Ok(false),
     }
 }
 
-fn has_its_values(alloc: Global, name: SyscallName) -> Result<bool, Fail> {
+fn has_its_values(alloc: Global, name: SyscallName) -> Result<bool, NoMemory> {
     let call = by_registers(alloc, name)?;
-    Ok(call == of_processes(alloc, name)? && is_copied(alloc, &call)?)
+    is_right(alloc, &call, name)
 }
 
-fn first_other(alloc: Global, names: &[SyscallName]) -> Result<Option<usize>, Fail> {
+fn first_other(alloc: Global, names: &[SyscallName]) -> Result<Option<usize>, NoMemory> {
     for (place, name) in names.iter().enumerate() {
         if !has_its_values(alloc, *name)? {
             return Ok(Some(place));
@@ -180,28 +202,55 @@ fn calls_have_their_values(rt: HostRuntime) -> Result<(), Fail> {
     Ok(())
 }
 
-// Whether `seek` with these operands has that descriptor and offset, where register k holds 10k.
-fn seeks(
-    alloc: Global,
-    operands: [Option<Operand>; 4],
-    fd: u64,
-    offset: u64,
-) -> Result<bool, Fail> {
+// A `seek`, and its descriptor and offset, where register k holds 10k.
+type Sought = (Instruction, u64, u64);
+
+fn is_seek(call: &Option<Call>, row: &Sought) -> bool {
+    match call {
+        Some(Call::Seek { fd, offset }) => *fd == row.1 && *offset == row.2,
+        _ => false,
+    }
+}
+
+fn seeks(alloc: Global, row: &Sought) -> Result<bool, NoMemory> {
+    let (instruction, ..) = *row;
+    let call = call_at(alloc, instruction, [0, 10, 20, 30, 40, 50, 60, 70], b"a")?;
+    Ok(is_seek(&call, row))
+}
+
+fn first_other_seek(alloc: Global, rows: &[Sought]) -> Result<Option<usize>, NoMemory> {
+    for (place, row) in rows.iter().enumerate() {
+        if !seeks(alloc, row)? {
+            return Ok(Some(place));
+        }
+    }
+    Ok(None)
+}
+
+fn seek(operands: [Option<Operand>; 4]) -> Instruction {
     let name = SyscallName::Seek;
-    let program = coded(alloc, &[Instruction::Sys { name, operands }])?;
-    let mut image = image(alloc, [0, 10, 20, 30, 40, 50, 60, 70], b"a")?;
-    Ok(call_here(alloc, &program, &mut image)? == Some(Call::Seek { fd, offset }))
+    Instruction::Sys { name, operands }
+}
+
+fn seek_rows(three: Register, seven: Register) -> [Sought; 4] {
+    let three = Some(Operand::Register(three));
+    let seven = Some(Operand::Register(seven));
+    let most = Some(Operand::Number(MAX));
+    let six = Some(Operand::Number(6));
+    [
+        (seek([None, None, None, None]), 10, 20),
+        (seek([seven, None, None, None]), 70, 20),
+        (seek([most, three, None, None]), MAX, 30),
+        (seek([None, six, None, None]), 10, 6),
+    ]
 }
 
 #[test]
 fn arguments_are_operands_or_registers(rt: HostRuntime) -> Result<(), Fail> {
-    let three = Some(Operand::Register(register(3)?));
-    let seven = Some(Operand::Register(register(7)?));
-    let most = Some(Operand::Number(MAX));
-    let six = Some(Operand::Number(6));
-    assert!(rt; seeks(rt.alloc(), [None, None, None, None], 10, 20)?);
-    assert!(rt; seeks(rt.alloc(), [seven, None, None, None], 70, 20)?);
-    assert!(rt; seeks(rt.alloc(), [most, three, None, None], MAX, 30)?);
-    assert!(rt; seeks(rt.alloc(), [None, six, None, None], 10, 6)?);
+    let (three, seven) = (register(3)?, register(7)?);
+    assert_eq!(rt;
+        first_other_seek(rt.alloc(), &seek_rows(three, seven))?,
+        None
+    );
     Ok(())
 }

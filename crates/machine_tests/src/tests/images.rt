@@ -1,4 +1,4 @@
-use super::{MAX, bytes, image, is_filled, page};
+use super::{MAX, bytes, image, is_filled};
 use process_machine::{Code, Image, Instruction, PageCount, Program, Register, Text};
 use sprite_ids::{Bytes, Copying, Items, NoMemory};
 use std::alloc::Global;
@@ -42,14 +42,28 @@ fn is_image(alloc: Global, count: u8, length: u16) -> Result<bool, NoMemory> {
     Ok(Image::of_parts(9, 65535, [1; 8], pages).is_some())
 }
 
+// How many pages of which length, and whether they are an image's.
+const SIZES: [(u8, u16, bool); 6] = [
+    (1, 4096, true),
+    (8, 4096, true),
+    (0, 4096, false),
+    (9, 4096, false),
+    (1, 4095, false),
+    (1, 4097, false),
+];
+
+fn first_other_size(alloc: Global) -> Result<Option<usize>, NoMemory> {
+    for (place, (count, length, fits)) in SIZES.iter().enumerate() {
+        if is_image(alloc, *count, *length)? != *fits {
+            return Ok(Some(place));
+        }
+    }
+    Ok(None)
+}
+
 #[test]
 fn images_have_1_to_8_whole_pages(rt: HostRuntime) -> Result<(), Fail> {
-    assert!(rt; is_image(rt.alloc(), 1, 4096)?);
-    assert!(rt; is_image(rt.alloc(), 8, 4096)?);
-    assert!(rt; !is_image(rt.alloc(), 0, 4096)?);
-    assert!(rt; !is_image(rt.alloc(), 9, 4096)?);
-    assert!(rt; !is_image(rt.alloc(), 1, 4095)?);
-    assert!(rt; !is_image(rt.alloc(), 1, 4097)?);
+    assert_eq!(rt; first_other_size(rt.alloc())?, None);
     Ok(())
 }
 
@@ -74,44 +88,75 @@ fn takes_a_page(alloc: Global, image: &mut Image) -> Result<bool, NoMemory> {
     Ok(before.is_none() && is_filled(image, 1, b'b'))
 }
 
+fn is_page(page: &Option<Bytes>, letter: u8) -> bool {
+    match page {
+        Some(bytes) => bytes.as_slice() == [letter; 4096].as_slice(),
+        None => false,
+    }
+}
+
 // Takes the first page away.
-fn gives_a_page(alloc: Global, image: &mut Image) -> Result<bool, NoMemory> {
+fn gives_a_page(image: &mut Image) -> bool {
     if image.page_count() != 3 {
-        return Ok(false);
+        return false;
     }
     let before = image.set_page(0, None);
-    Ok(before == page(alloc, b'a')? && image.page(0).is_none() && is_filled(image, 1, b'b'))
+    is_page(&before, b'a') && image.page(0).is_none() && is_filled(image, 1, b'b')
+}
+
+// Whether a copy stays what it is when pages of the image change.
+fn change_apart(alloc: Global, image: &mut Image, copy: &Image) -> Result<bool, NoMemory> {
+    if *copy != *image || !has_its_parts(copy) {
+        return Ok(false);
+    }
+    let is_changed = takes_a_page(alloc, image)? && gives_a_page(image);
+    Ok(is_changed && *copy != *image && has_its_parts(copy))
+}
+
+fn is_copied(alloc: Global) -> Result<bool, NoMemory> {
+    let mut image = image(alloc, [1, 2, 3, 4, 5, 6, 7, 8], b"a-c")?;
+    let copy = image.copy(alloc)?;
+    change_apart(alloc, &mut image, &copy)
 }
 
 #[test]
 fn images_have_their_parts(rt: HostRuntime) -> Result<(), Fail> {
-    let mut parts = image(rt.alloc(), [1, 2, 3, 4, 5, 6, 7, 8], b"a-c")?;
-    let copy = parts.copy(rt.alloc())?;
-    assert!(rt; copy == parts && has_its_parts(&copy));
-    assert!(rt; takes_a_page(rt.alloc(), &mut parts)?);
-    assert!(rt; gives_a_page(rt.alloc(), &mut parts)?);
-    assert!(rt; copy != parts && has_its_parts(&copy));
+    assert!(rt; is_copied(rt.alloc())?);
     Ok(())
 }
 
+// Texts, each with its address.
+type Texts = &'static [(u64, &'static [u8])];
+
 fn text(alloc: Global, address: u64, text: &[u8]) -> Result<Text, NoMemory> {
-    Ok(Text {
-        address,
-        bytes: bytes(alloc, text)?,
-    })
+    let bytes = bytes(alloc, text)?;
+    Ok(Text { address, bytes })
+}
+
+fn texts(alloc: Global, rows: Texts) -> Result<Items<Text>, NoMemory> {
+    let mut texts = Items::new(alloc);
+    for row in rows {
+        texts.push(text(alloc, row.0, row.1)?)?;
+    }
+    Ok(texts)
 }
 
 // A program of that many pages without code.
-fn program(alloc: Global, count: u8, first: Text, second: Text) -> Result<Program, Fail> {
-    let mut texts = Items::new(alloc);
-    texts.push(first)?;
-    texts.push(second)?;
+fn program(alloc: Global, count: u8, rows: Texts) -> Result<Program, NoMemory> {
+    let pages = PageCount::new(count).ok_or(NoMemory)?;
+    let code = Code::of_vec(Vec::new(alloc)).ok_or(NoMemory)?;
+    let texts = texts(alloc, rows)?;
     Ok(Program {
         number: 3,
-        pages: PageCount::new(count).ok_or("pages")?,
+        pages,
         texts,
-        code: Code::of_vec(Vec::new(alloc)).ok_or("code")?,
+        code,
     })
+}
+
+fn fresh(alloc: Global, count: u8, rows: Texts, arg: u64) -> Result<Image, NoMemory> {
+    let program = program(alloc, count, rows)?;
+    Image::fresh(alloc, &program, arg)
 }
 
 // Two pages of zeros, with `ab` at the end of the first and `cX` at the beginning of the second.
@@ -133,31 +178,35 @@ fn is_fresh(image: &Image) -> bool {
 }
 
 // The second text lies over the first one, which goes on into the second page.
+const OVER: Texts = &[(4094, b"abcd"), (4097, b"X")];
+
+fn has_its_texts(alloc: Global) -> Result<bool, NoMemory> {
+    let fresh = fresh(alloc, 2, OVER, MAX)?;
+    Ok(is_fresh(&fresh) && has_both_texts(&fresh))
+}
+
+fn program_is_copied(alloc: Global) -> Result<bool, NoMemory> {
+    let program = program(alloc, 2, OVER)?;
+    let copy = program.copy(alloc)?;
+    Ok(copy == program)
+}
+
 #[test]
 fn a_fresh_image_has_its_texts(rt: HostRuntime) -> Result<(), Fail> {
-    let alloc = rt.alloc();
-    let program = program(
-        alloc,
-        2,
-        text(alloc, 4094, b"abcd")?,
-        text(alloc, 4097, b"X")?,
-    )?;
-    let fresh = Image::fresh(alloc, &program, MAX)?;
-    assert!(rt; is_fresh(&fresh) && has_both_texts(&fresh));
-    assert!(rt; program.copy(alloc)? == program);
+    assert!(rt; has_its_texts(rt.alloc())?);
+    assert!(rt; program_is_copied(rt.alloc())?);
     Ok(())
+}
+
+const OUTSIDE: Texts = &[(4096, b"ab"), (MAX - 1, b"abcd")];
+
+fn is_left_empty(alloc: Global) -> Result<bool, NoMemory> {
+    let fresh = fresh(alloc, 1, OUTSIDE, 0)?;
+    Ok(is_filled(&fresh, 0, 0) && fresh.page_count() == 1)
 }
 
 #[test]
 fn texts_outside_the_pages_are_left_out(rt: HostRuntime) -> Result<(), Fail> {
-    let alloc = rt.alloc();
-    let program = program(
-        alloc,
-        1,
-        text(alloc, 4096, b"ab")?,
-        text(alloc, MAX - 1, b"abcd")?,
-    )?;
-    let fresh = Image::fresh(alloc, &program, 0)?;
-    assert!(rt; is_filled(&fresh, 0, 0) && fresh.page_count() == 1);
+    assert!(rt; is_left_empty(rt.alloc())?);
     Ok(())
 }

@@ -1,7 +1,7 @@
-use super::calls::call_here;
-use super::{MAX, coded, image, sys};
-use process_machine::{BurstEnd, Call, SyscallName, burst};
-use sprite_ids::Errno;
+use super::calls::call_at;
+use super::{MAX, loaded, run, sys};
+use process_machine::{BurstEnd, Call, SyscallName};
+use sprite_ids::{Errno, NoMemory};
 use std::alloc::Global;
 use std::test::Fail;
 
@@ -14,22 +14,21 @@ const NAME: Option<Errno> = Some(Errno::BadName);
 // A call, its arguments, and why it is refused, if it is.
 type Refused = (SyscallName, [u64; 4], Option<Errno>);
 
-fn refusal(call: &Option<Call>) -> Option<Errno> {
+fn is_refused(call: &Option<Call>, wanted: Option<Errno>) -> bool {
     match call {
-        Some(Call::Refused { errno }) => Some(*errno),
-        _ => None,
+        Some(Call::Refused { errno }) => wanted == Some(*errno),
+        Some(_) => wanted.is_none(),
+        None => false,
     }
 }
 
-fn is_answered(alloc: Global, row: &Refused) -> Result<bool, Fail> {
+fn is_answered(alloc: Global, row: &Refused) -> Result<bool, NoMemory> {
     let (name, arguments, errno) = *row;
-    let program = coded(alloc, &[sys(name, arguments)])?;
-    let mut image = image(alloc, [0; 8], b"aaaaaaaa")?;
-    let call = call_here(alloc, &program, &mut image)?;
-    Ok(call.is_some() && refusal(&call) == errno)
+    let call = call_at(alloc, sys(name, arguments), [0; 8], b"aaaaaaaa")?;
+    Ok(is_refused(&call, errno))
 }
 
-fn first_other(alloc: Global, rows: &[Refused]) -> Result<Option<usize>, Fail> {
+fn first_other(alloc: Global, rows: &[Refused]) -> Result<Option<usize>, NoMemory> {
     for (place, row) in rows.iter().enumerate() {
         if !is_answered(alloc, row)? {
             return Ok(Some(place));
@@ -93,14 +92,13 @@ fn calls_are_refused_for_their_arguments(rt: HostRuntime) -> Result<(), Fail> {
 // A call, its arguments, the pages, and how a burst that begins at it ends.
 type Wanting = (SyscallName, [u64; 4], &'static [u8], BurstEnd);
 
-fn ends(alloc: Global, row: &Wanting) -> Result<bool, Fail> {
+fn ends(alloc: Global, row: &Wanting) -> Result<bool, NoMemory> {
     let (name, arguments, letters, end) = *row;
-    let program = coded(alloc, &[sys(name, arguments)])?;
-    let mut image = image(alloc, [0; 8], letters)?;
-    Ok(burst(&program, &mut image, 9) == (0, end))
+    let mut machine = loaded(alloc, &[sys(name, arguments)], [0; 8], letters)?;
+    Ok(run(&mut machine, 9) == (0, end))
 }
 
-fn first_end(alloc: Global, rows: &[Wanting]) -> Result<Option<usize>, Fail> {
+fn first_end(alloc: Global, rows: &[Wanting]) -> Result<Option<usize>, NoMemory> {
     for (place, row) in rows.iter().enumerate() {
         if !ends(alloc, row)? {
             return Ok(Some(place));

@@ -1,7 +1,6 @@
-ghost use Rattle.std.specs.Prelude.{◌≤◌};
-
-use super::{MAX, coded, image, register, sys};
-use process_machine::{BurstEnd, Image, Instruction, Program, Register, SyscallName, burst};
+use super::{MAX, Machine, loaded, register, run, sys};
+use process_machine::{BurstEnd, Image, Instruction, Register, SyscallName};
+use sprite_ids::NoMemory;
 use std::alloc::Global;
 use std::test::Fail;
 
@@ -10,20 +9,22 @@ const HALF: u64 = 9223372036854775808;
 // An instruction, what registers 1 and 2 hold before it, what register 1 holds after it, and the next counter.
 type Computed = (Instruction, u64, u64, u64, u16);
 
-fn computes(alloc: Global, row: &Computed) -> Result<bool, Fail> {
-    let (instruction, first, second, sum, next) = *row;
-    let program = coded(alloc, &[instruction])?;
-    let mut image = image(alloc, [0, first, second, 0, 0, 0, 0, 9], b"a")?;
-    let ran = burst(&program, &mut image, 1);
-    Ok(
-        ran == (1, BurstEnd::Limit)
-            && image.registers() == [0, sum, second, 0, 0, 0, 0, 9]
-            && image.counter() == next,
-    )
+fn has_computed(machine: &mut Machine, row: &Computed) -> bool {
+    let (_, _, second, sum, next) = *row;
+    run(machine, 1) == (1, BurstEnd::Limit)
+        && machine.image.registers() == [0, sum, second, 0, 0, 0, 0, 9]
+        && machine.image.counter() == next
+}
+
+fn computes(alloc: Global, row: &Computed) -> Result<bool, NoMemory> {
+    let (instruction, first, second, ..) = *row;
+    let registers = [0, first, second, 0, 0, 0, 0, 9];
+    let mut machine = loaded(alloc, &[instruction], registers, b"a")?;
+    Ok(has_computed(&mut machine, row))
 }
 
 // The place of the first row that does otherwise.
-fn first_other(alloc: Global, rows: &[Computed]) -> Result<Option<usize>, Fail> {
+fn first_other(alloc: Global, rows: &[Computed]) -> Result<Option<usize>, NoMemory> {
     for (place, row) in rows.iter().enumerate() {
         if !computes(alloc, row)? {
             return Ok(Some(place));
@@ -82,17 +83,20 @@ fn jumps_compare_without_signs(rt: HostRuntime) -> Result<(), Fail> {
 // How a load or store at the address that register 1 holds ends.
 type Reached = (Instruction, u64, BurstEnd);
 
-fn ends(alloc: Global, letters: &[u8], row: &Reached) -> Result<bool, Fail> {
-    let (instruction, address, end) = *row;
-    let program = coded(alloc, &[instruction])?;
-    let mut image = image(alloc, [0, address, 0, 0, 0, 0, 0, 0], letters)?;
+fn has_ended(machine: &mut Machine, end: BurstEnd) -> bool {
     let count = if end == BurstEnd::Limit { 1 } else { 0 };
-    let ran = burst(&program, &mut image, 1);
-    Ok(ran == (count, end) && image.counter() as u32 == count)
+    run(machine, 1) == (count, end) && machine.image.counter() as u32 == count
+}
+
+fn ends(alloc: Global, letters: &[u8], row: &Reached) -> Result<bool, NoMemory> {
+    let (instruction, address, end) = *row;
+    let registers = [0, address, 0, 0, 0, 0, 0, 0];
+    let mut machine = loaded(alloc, &[instruction], registers, letters)?;
+    Ok(has_ended(&mut machine, end))
 }
 
 // The place of the first row that ends otherwise in an image with those pages.
-fn first_end(alloc: Global, letters: &[u8], rows: &[Reached]) -> Result<Option<usize>, Fail> {
+fn first_end(alloc: Global, letters: &[u8], rows: &[Reached]) -> Result<Option<usize>, NoMemory> {
     for (place, row) in rows.iter().enumerate() {
         if !ends(alloc, letters, row)? {
             return Ok(Some(place));
@@ -147,37 +151,49 @@ fn steps_end_where_they_cannot_be_done(rt: HostRuntime) -> Result<(), Fail> {
     Ok(())
 }
 
+fn across_pages(one: Register, two: Register) -> [(&'static [u8], Reached); 7] {
+    let (done, bad) = (BurstEnd::Limit, BurstEnd::BadStep);
+    let first = BurstEnd::PageNeeded(0);
+    [
+        (b"ab", (Instruction::Ldw(two, one), 4089, done)),
+        (b"ab", (Instruction::Stw(one, two), 4095, done)),
+        (b"-b", (Instruction::Ldw(two, one), 4089, first)),
+        (b"-b", (Instruction::Stw(one, two), 4096, done)),
+        (b"--", (Instruction::Ldw(two, one), 4089, first)),
+        (b"aaaaaaaa", (Instruction::Ldw(two, one), 32760, done)),
+        (b"aaaaaaaa", (Instruction::Ldw(two, one), 32761, bad)),
+    ]
+}
+
+fn first_across(
+    alloc: Global,
+    rows: &[(&'static [u8], Reached)],
+) -> Result<Option<usize>, NoMemory> {
+    for (place, row) in rows.iter().enumerate() {
+        if !ends(alloc, row.0, &row.1)? {
+            return Ok(Some(place));
+        }
+    }
+    Ok(None)
+}
+
 #[test]
 fn words_reach_across_pages(rt: HostRuntime) -> Result<(), Fail> {
     let (one, two) = (register(1)?, register(2)?);
-    let (load, store) = (Instruction::Ldw(two, one), Instruction::Stw(one, two));
-    let (done, bad) = (BurstEnd::Limit, BurstEnd::BadStep);
-    let first = BurstEnd::PageNeeded(0);
-    assert!(rt; ends(rt.alloc(), b"ab", &(load, 4089, done))?);
-    assert!(rt; ends(rt.alloc(), b"ab", &(store, 4095, done))?);
-    assert!(rt; ends(rt.alloc(), b"-b", &(load, 4089, first))?);
-    assert!(rt; ends(rt.alloc(), b"-b", &(store, 4096, done))?);
-    assert!(rt; ends(rt.alloc(), b"--", &(load, 4089, first))?);
-    assert!(rt; ends(rt.alloc(), b"aaaaaaaa", &(load, 32760, done))?);
-    assert!(rt; ends(rt.alloc(), b"aaaaaaaa", &(load, 32761, bad))?);
+    assert_eq!(rt; first_across(rt.alloc(), &across_pages(one, two))?, None);
     Ok(())
 }
 
 // Stores register 2's word, loads it and its first byte, and stores and loads that byte over its last one.
-fn word_program(alloc: Global) -> Result<Program, Fail> {
-    let (one, two) = (register(1)?, register(2)?);
-    let (three, four) = (register(3)?, register(4)?);
-    coded(
-        alloc,
-        &[
-            Instruction::Stw(one, two),
-            Instruction::Ldw(three, one),
-            Instruction::Ldb(four, one),
-            Instruction::Addi(one, 7),
-            Instruction::Stb(one, four),
-            Instruction::Ldb(two, one),
-        ],
-    )
+fn word_code(one: Register, two: Register, three: Register, four: Register) -> [Instruction; 6] {
+    [
+        Instruction::Stw(one, two),
+        Instruction::Ldw(three, one),
+        Instruction::Ldb(four, one),
+        Instruction::Addi(one, 7),
+        Instruction::Stb(one, four),
+        Instruction::Ldb(two, one),
+    ]
 }
 
 // A page of `a` and one of `b`, with the bytes 1 to 7 and 1 from the address on.
@@ -191,76 +207,119 @@ fn with_word(address: u16) -> [u8; 8192] {
     bytes
 }
 
-fn has_word(alloc: Global, image: &Image, address: u16) -> Result<bool, Fail> {
-    let mut bytes = Vec::from_slice(alloc, image.page(0).ok_or("the first page")?)?;
-    bytes.extend_from_slice(image.page(1).ok_or("the second page")?)?;
+// The bytes of both pages.
+fn both_pages(alloc: Global, image: &Image) -> Result<Vec<u8>, NoMemory> {
+    let mut bytes = Vec::from_slice(alloc, image.page(0).ok_or(NoMemory)?)?;
+    bytes.extend_from_slice(image.page(1).ok_or(NoMemory)?)?;
+    Ok(bytes)
+}
+
+fn has_word(alloc: Global, image: &Image, address: u16) -> Result<bool, NoMemory> {
+    let bytes = both_pages(alloc, image)?;
     Ok(bytes.as_slice() == with_word(address).as_slice())
 }
 
-// The word is 0x0807060504030201.
-fn stores(alloc: Global, address: u16) -> Result<bool, Fail> {
-    let word = 578437695752307201;
-    let program = word_program(alloc)?;
-    let mut image = image(alloc, [0, address as u64, word, 0, 0, 0, 0, 0], b"ab")?;
-    let ran = burst(&program, &mut image, 10);
-    Ok(
-        ran == (6, BurstEnd::BadStep)
-            && image.registers() == [0, address as u64 + 7, 1, word, 1, 0, 0, 0]
-            && has_word(alloc, &image, address)?,
-    )
+// The word 0x0807060504030201.
+const WORD: u64 = 578437695752307201;
+
+fn has_run(machine: &mut Machine, address: u16) -> bool {
+    run(machine, 10) == (6, BurstEnd::BadStep)
+        && machine.image.registers() == [0, address as u64 + 7, 1, WORD, 1, 0, 0, 0]
+}
+
+fn has_stored(alloc: Global, machine: &mut Machine, address: u16) -> Result<bool, NoMemory> {
+    Ok(has_run(machine, address) && has_word(alloc, &machine.image, address)?)
+}
+
+fn stores(alloc: Global, code: &[Instruction], address: u16) -> Result<bool, NoMemory> {
+    let registers = [0, address as u64, WORD, 0, 0, 0, 0, 0];
+    let mut machine = loaded(alloc, code, registers, b"ab")?;
+    has_stored(alloc, &mut machine, address)
+}
+
+const ADDRESSES: [u16; 7] = [0, 4088, 4089, 4092, 4095, 4096, 8184];
+
+// The first address at which it isn't so.
+fn first_address(alloc: Global, code: &[Instruction]) -> Result<Option<u16>, NoMemory> {
+    for address in ADDRESSES {
+        if !stores(alloc, code, address)? {
+            return Ok(Some(address));
+        }
+    }
+    Ok(None)
 }
 
 #[test]
 fn words_have_their_lowest_byte_first(rt: HostRuntime) -> Result<(), Fail> {
-    assert!(rt; stores(rt.alloc(), 0)?);
-    assert!(rt; stores(rt.alloc(), 4088)?);
-    assert!(rt; stores(rt.alloc(), 4089)?);
-    assert!(rt; stores(rt.alloc(), 4092)?);
-    assert!(rt; stores(rt.alloc(), 4095)?);
-    assert!(rt; stores(rt.alloc(), 4096)?);
-    assert!(rt; stores(rt.alloc(), 8184)?);
+    let (one, two) = (register(1)?, register(2)?);
+    let (three, four) = (register(3)?, register(4)?);
+    let code = word_code(one, two, three, four);
+    assert_eq!(rt; first_address(rt.alloc(), &code)?, None);
     Ok(())
 }
 
-// Whether a burst of at most that many, 1 to 10,000, ends so, when register 1 counts what was done.
-fn bursts(
-    alloc: Global,
-    program: &Program,
-    limit: u32,
-    count: u32,
-    end: BurstEnd,
-) -> Result<bool, Fail>
-    requires { (1 ≤ limit) × (limit ≤ 10000) }
-{
-    let mut image = image(alloc, [0; 8], b"a")?;
-    let ran = burst(program, &mut image, limit);
-    Ok(ran == (count, end) && image.registers() == [0, count as u64, 0, 0, 0, 0, 0, 0])
+// How a burst of at most so many ends, when register 1 counts what was done.
+type Burst = (u32, u32, BurstEnd);
+
+fn has_counted(machine: &mut Machine, row: &Burst) -> bool {
+    let (limit, count, end) = *row;
+    if limit < 1 || limit > 10000 {
+        return false;
+    }
+    run(machine, limit) == (count, end)
+        && machine.image.registers() == [0, count as u64, 0, 0, 0, 0, 0, 0]
+}
+
+fn counts(alloc: Global, code: &[Instruction], row: &Burst) -> Result<bool, NoMemory> {
+    let mut machine = loaded(alloc, code, [0; 8], b"a")?;
+    Ok(has_counted(&mut machine, row))
+}
+
+const BURSTS: [Burst; 4] = [
+    (1, 1, BurstEnd::Limit),
+    (2, 2, BurstEnd::Limit),
+    (3, 2, BurstEnd::Call),
+    (10000, 2, BurstEnd::Call),
+];
+
+fn first_burst(alloc: Global, code: &[Instruction]) -> Result<Option<usize>, NoMemory> {
+    for (place, row) in BURSTS.iter().enumerate() {
+        if !counts(alloc, code, row)? {
+            return Ok(Some(place));
+        }
+    }
+    Ok(None)
+}
+
+// Counts twice, and calls.
+fn counting(one: Register) -> [Instruction; 3] {
+    [
+        Instruction::Addi(one, 1),
+        Instruction::Addi(one, 1),
+        sys(SyscallName::Exit, [263, 0, 0, 0]),
+    ]
 }
 
 #[test]
 fn a_burst_keeps_its_limit(rt: HostRuntime) -> Result<(), Fail> {
-    let alloc = rt.alloc();
-    let count = Instruction::Addi(register(1)?, 1);
-    let program = coded(
-        alloc,
-        &[count, count, sys(SyscallName::Exit, [263, 0, 0, 0])],
-    )?;
-    assert!(rt; bursts(alloc, &program, 1, 1, BurstEnd::Limit)?);
-    assert!(rt; bursts(alloc, &program, 2, 2, BurstEnd::Limit)?);
-    assert!(rt; bursts(alloc, &program, 3, 2, BurstEnd::Call)?);
-    assert!(rt; bursts(alloc, &program, 10000, 2, BurstEnd::Call)?);
-    assert!(rt; bursts(alloc, &coded(alloc, &[])?, 1, 0, BurstEnd::BadStep)?);
+    assert_eq!(rt; first_burst(rt.alloc(), &counting(register(1)?))?, None);
+    assert!(rt; counts(rt.alloc(), &[], &(1, 0, BurstEnd::BadStep))?);
     Ok(())
+}
+
+fn is_long(machine: &mut Machine) -> bool {
+    run(machine, 10000) == (10000, BurstEnd::Limit) && machine.image.registers()[1] == 5000
+}
+
+// Whether a program that counts for ever is stopped.
+fn stops(alloc: Global, one: Register) -> Result<bool, NoMemory> {
+    let code = [Instruction::Addi(one, 1), Instruction::Jmp(0)];
+    let mut machine = loaded(alloc, &code, [0; 8], b"a")?;
+    Ok(is_long(&mut machine))
 }
 
 #[test]
 fn a_long_burst_ends(rt: HostRuntime) -> Result<(), Fail> {
-    let program = coded(
-        rt.alloc(),
-        &[Instruction::Addi(register(1)?, 1), Instruction::Jmp(0)],
-    )?;
-    let mut image = image(rt.alloc(), [0; 8], b"a")?;
-    let ran = burst(&program, &mut image, 10000);
-    assert!(rt; ran == (10000, BurstEnd::Limit) && image.registers()[1] == 5000);
+    assert!(rt; stops(rt.alloc(), register(1)?)?);
     Ok(())
 }
