@@ -3,6 +3,7 @@
 //! was worked out by hand (this project).
 #![tactic(auto)]
 
+use kernel_threads::NoWatch;
 use link_plan::PlanLink;
 use sprite_bytes::{MemSink, MemSource};
 use sprite_ids::NoMemory;
@@ -10,6 +11,7 @@ use sprite_top::{Ended, Status, sprite};
 use std::alloc::Global;
 use std::process::ExitCode;
 use std::sync::Wait;
+use std::thread::Threads;
 use std::{fs, io};
 
 /// How a source gives and fails, and how a sink takes and fails.
@@ -158,22 +160,22 @@ fn main(rt: HostRuntime) -> ExitCode {
 }
 
 /// Prints what comes of each call.
-fn print_all<R: Wait>(rt: &HostRuntime, wait: &R) -> io::Result<()> {
+fn print_all<R: Threads + Wait + Sync>(rt: &HostRuntime, threads: &R) -> io::Result<()> {
     print!(rt; "== history hello: ")?;
-    print_call(rt, wait, &["history"], "hello", SOUND)?;
+    print_call(rt, threads, &["history"], "hello", SOUND)?;
     print!(rt; "== check hello: ")?;
-    print_call(rt, wait, &["check"], "hello", SOUND)?;
-    print_pieces(rt, wait)?;
-    print_seeds(rt, wait)?;
-    print_words(rt, wait)?;
-    print_writes(rt, wait)?;
-    print_reads(rt, wait)?;
-    print_descriptions(rt, wait)?;
-    print_runs(rt, wait)
+    print_call(rt, threads, &["check"], "hello", SOUND)?;
+    print_pieces(rt, threads)?;
+    print_seeds(rt, threads)?;
+    print_words(rt, threads)?;
+    print_writes(rt, threads)?;
+    print_reads(rt, threads)?;
+    print_descriptions(rt, threads)?;
+    print_runs(rt, threads)
 }
 
 /// A run by pieces of any size.
-fn print_pieces<R: Wait>(rt: &HostRuntime, wait: &R) -> io::Result<()> {
+fn print_pieces<R: Threads + Wait + Sync>(rt: &HostRuntime, threads: &R) -> io::Result<()> {
     for (gives, takes) in PIECES {
         let device = Device {
             gives,
@@ -181,22 +183,22 @@ fn print_pieces<R: Wait>(rt: &HostRuntime, wait: &R) -> io::Result<()> {
             ..SOUND
         };
         print!(rt; "== run hello, {gives} read and {takes} written at most: ")?;
-        print_call(rt, wait, &["run"], "hello", device)?;
+        print_call(rt, threads, &["run"], "hello", device)?;
     }
     Ok(())
 }
 
 /// A run by any seed.
-fn print_seeds<R: Wait>(rt: &HostRuntime, wait: &R) -> io::Result<()> {
+fn print_seeds<R: Threads + Wait + Sync>(rt: &HostRuntime, threads: &R) -> io::Result<()> {
     for seed in SEEDS {
         print!(rt; "== run hello, seed {seed}: ")?;
-        print_call(rt, wait, &["run", "--seed", seed], "hello", SOUND)?;
+        print_call(rt, threads, &["run", "--seed", seed], "hello", SOUND)?;
     }
     Ok(())
 }
 
 /// Words that are answered with the usage.
-fn print_words<R: Wait>(rt: &HostRuntime, wait: &R) -> io::Result<()> {
+fn print_words<R: Threads + Wait + Sync>(rt: &HostRuntime, threads: &R) -> io::Result<()> {
     let device = Device {
         read_fails: 1,
         ..SOUND
@@ -205,7 +207,7 @@ fn print_words<R: Wait>(rt: &HostRuntime, wait: &R) -> io::Result<()> {
         print!(rt; "== words")?;
         print_each(rt, words)?;
         print!(rt; ": ")?;
-        print_call(rt, wait, words, "hello", device)?;
+        print_call(rt, threads, words, "hello", device)?;
     }
     Ok(())
 }
@@ -219,7 +221,7 @@ fn print_each(rt: &HostRuntime, words: &[&str]) -> io::Result<()> {
 }
 
 /// Writes that fail: a prefix of the output stands by then.
-fn print_writes<R: Wait>(rt: &HostRuntime, wait: &R) -> io::Result<()> {
+fn print_writes<R: Threads + Wait + Sync>(rt: &HostRuntime, threads: &R) -> io::Result<()> {
     for write_fails in WRITES {
         let device = Device {
             takes: 10,
@@ -227,13 +229,13 @@ fn print_writes<R: Wait>(rt: &HostRuntime, wait: &R) -> io::Result<()> {
             ..SOUND
         };
         print!(rt; "== run hello, write {write_fails} fails: ")?;
-        print_call(rt, wait, &["run"], "hello", device)?;
+        print_call(rt, threads, &["run"], "hello", device)?;
     }
     Ok(())
 }
 
 /// Reads that fail.
-fn print_reads<R: Wait>(rt: &HostRuntime, wait: &R) -> io::Result<()> {
+fn print_reads<R: Threads + Wait + Sync>(rt: &HostRuntime, threads: &R) -> io::Result<()> {
     for read_fails in READS {
         let device = Device {
             gives: 100,
@@ -241,23 +243,23 @@ fn print_reads<R: Wait>(rt: &HostRuntime, wait: &R) -> io::Result<()> {
             ..SOUND
         };
         print!(rt; "== run hello, read {read_fails} fails: ")?;
-        print_call(rt, wait, &["run"], "hello", device)?;
+        print_call(rt, threads, &["run"], "hello", device)?;
     }
     Ok(())
 }
 
-fn print_descriptions<R: Wait>(rt: &HostRuntime, wait: &R) -> io::Result<()> {
+fn print_descriptions<R: Threads + Wait + Sync>(rt: &HostRuntime, threads: &R) -> io::Result<()> {
     for name in DESCRIPTIONS {
         print!(rt; "== run {name}: ")?;
-        print_call(rt, wait, &["run"], name, SOUND)?;
+        print_call(rt, threads, &["run"], name, SOUND)?;
     }
     Ok(())
 }
 
-fn print_runs<R: Wait>(rt: &HostRuntime, wait: &R) -> io::Result<()> {
+fn print_runs<R: Threads + Wait + Sync>(rt: &HostRuntime, threads: &R) -> io::Result<()> {
     for name in RUNS {
         print!(rt; "== run {name}: ")?;
-        print_run(rt, wait, name)?;
+        print_run(rt, threads, name)?;
     }
     Ok(())
 }
@@ -278,15 +280,15 @@ struct Came {
 }
 
 /// Prints what comes of a call on a file. It fails where the file can't be read, or where the output fails.
-fn print_call<R: Wait>(
+fn print_call<R: Threads + Wait + Sync>(
     rt: &HostRuntime,
-    wait: &R,
+    threads: &R,
     words: &[&str],
     name: &str,
     device: Device,
 ) -> io::Result<()> {
     let file = fs::read(rt, name)?;
-    match run(wait, rt.alloc(), words, file, device) {
+    match run(threads, rt.alloc(), words, file, device) {
         Ok(left) => print_left(rt, &left),
         Err(NoMemory) => println!(rt; "out of memory"),
     }
@@ -302,9 +304,13 @@ fn print_left(rt: &HostRuntime, left: &Left) -> io::Result<()> {
 }
 
 /// The same of a run on a file, without its records.
-fn print_run<R: Wait>(rt: &HostRuntime, wait: &R, name: &str) -> io::Result<()> {
+fn print_run<R: Threads + Wait + Sync>(
+    rt: &HostRuntime,
+    threads: &R,
+    name: &str,
+) -> io::Result<()> {
     let file = fs::read(rt, name)?;
-    match run(wait, rt.alloc(), &["run"], file, SOUND) {
+    match run(threads, rt.alloc(), &["run"], file, SOUND) {
         Ok(left) => print_output(rt, &left),
         Err(NoMemory) => println!(rt; "out of memory"),
     }
@@ -317,8 +323,8 @@ fn print_output(rt: &HostRuntime, left: &Left) -> io::Result<()> {
 }
 
 /// What the call with these words on a file over that device leaves.
-fn run<R: Wait>(
-    wait: &R,
+fn run<R: Threads + Wait + Sync>(
+    threads: &R,
     alloc: Global,
     words: &[&str],
     file: Vec<u8>,
@@ -326,7 +332,7 @@ fn run<R: Wait>(
 ) -> Result<Left, NoMemory> {
     let mut source = source(alloc, file, device)?;
     let mut sink = sink(alloc, device)?;
-    let came = called(wait, alloc, words, &mut source, &mut sink)?;
+    let came = called(threads, alloc, words, &mut source, &mut sink)?;
     let written = text(alloc, sink)?;
     Ok(Left { came, written })
 }
@@ -347,8 +353,8 @@ fn text(alloc: Global, sink: MemSink) -> Result<String, NoMemory> {
     Ok(String::from_utf8_lossy(alloc, written.as_slice())?)
 }
 
-fn called<R: Wait>(
-    wait: &R,
+fn called<R: Threads + Wait + Sync>(
+    threads: &R,
     alloc: Global,
     words: &[&str],
     source: &mut MemSource,
@@ -356,7 +362,15 @@ fn called<R: Wait>(
 ) -> Result<Came, NoMemory> {
     let words = spelled(alloc, words)?;
     let link = PlanLink::new(alloc);
-    let ended = sprite(wait, alloc, words.as_slice(), source, sink, link);
+    let ended = sprite(
+        threads,
+        alloc,
+        words.as_slice(),
+        source,
+        sink,
+        link,
+        &NoWatch,
+    );
     Ok(what_came(&ended))
 }
 

@@ -2,12 +2,14 @@
 //! name, the word, the exit status and what is written. That was worked out by hand or by an independent design (this project).
 #![tactic(auto)]
 
+use kernel_threads::NoWatch;
 use link_plan::PlanLink;
 use sprite_bytes::{MemSink, MemSource};
 use sprite_ids::NoMemory;
 use sprite_top::sprite;
 use std::process::ExitCode;
 use std::sync::Wait;
+use std::thread::Threads;
 use std::{fs, io};
 
 /// The files, each with the command.
@@ -103,26 +105,31 @@ fn main(rt: HostRuntime) -> ExitCode {
 }
 
 /// Prints what comes of each file.
-fn print_all<R: Wait>(rt: &HostRuntime, wait: &R) -> io::Result<()> {
+fn print_all<R: Threads + Wait + Sync>(rt: &HostRuntime, threads: &R) -> io::Result<()> {
     for (name, command) in CASES {
-        print_case(rt, wait, name, command)?;
+        print_case(rt, threads, name, command)?;
     }
     Ok(())
 }
 
 /// Prints what comes of a file. It fails where the file can't be read, or where the output fails.
-fn print_case<R: Wait>(rt: &HostRuntime, wait: &R, name: &str, command: &str) -> io::Result<()> {
+fn print_case<R: Threads + Wait + Sync>(
+    rt: &HostRuntime,
+    threads: &R,
+    name: &str,
+    command: &str,
+) -> io::Result<()> {
     let file = fs::read(rt, name)?;
-    match run(rt, wait, command, file) {
+    match run(rt, threads, command, file) {
         Ok((status, text)) => print!(rt; "== {name} {command} {status}\n{text}"),
         Err(NoMemory) => println!(rt; "== {name} {command} out of memory"),
     }
 }
 
 /// The exit status of the command on a cluster file, and what it writes.
-fn run<R: Wait>(
+fn run<R: Threads + Wait + Sync>(
     rt: &HostRuntime,
-    wait: &R,
+    threads: &R,
     command: &str,
     file: Vec<u8>,
 ) -> Result<(u8, String), NoMemory> {
@@ -132,12 +139,13 @@ fn run<R: Wait>(
     let mut sink = MemSink::new(rt.alloc(), MOST, PIECE, Vec::new(rt.alloc()))?;
     let link = PlanLink::new(rt.alloc());
     let status = sprite(
-        wait,
+        threads,
         rt.alloc(),
         words.as_slice(),
         &mut source,
         &mut sink,
         link,
+        &NoWatch,
     )
     .status
     .number();

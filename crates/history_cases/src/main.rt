@@ -2,12 +2,14 @@
 //! the exit status and the line that is written. Their verdicts come from an independent reading of the rules (this project).
 #![tactic(auto)]
 
+use kernel_threads::NoWatch;
 use link_plan::PlanLink;
 use sprite_bytes::{MemSink, MemSource};
 use sprite_ids::NoMemory;
 use sprite_top::sprite;
 use std::process::ExitCode;
 use std::sync::Wait;
+use std::thread::Threads;
 use std::{fs, io};
 
 /// The files.
@@ -74,36 +76,45 @@ fn main(rt: HostRuntime) -> ExitCode {
 }
 
 /// Prints what comes of each file.
-fn print_all<R: Wait>(rt: &HostRuntime, wait: &R) -> io::Result<()> {
+fn print_all<R: Threads + Wait + Sync>(rt: &HostRuntime, threads: &R) -> io::Result<()> {
     for name in CASES {
-        print_case(rt, wait, name)?;
+        print_case(rt, threads, name)?;
     }
     Ok(())
 }
 
 /// Prints what comes of a file. It fails where the file can't be read, or where the output fails.
-fn print_case<R: Wait>(rt: &HostRuntime, wait: &R, name: &str) -> io::Result<()> {
+fn print_case<R: Threads + Wait + Sync>(
+    rt: &HostRuntime,
+    threads: &R,
+    name: &str,
+) -> io::Result<()> {
     let text = fs::read(rt, name)?;
-    match judged(rt, wait, text) {
+    match judged(rt, threads, text) {
         Ok((status, line)) => print!(rt; "{name} {status} {line}"),
         Err(NoMemory) => println!(rt; "{name} out of memory"),
     }
 }
 
 /// The exit status of `check` on a text, and what it writes.
-fn judged<R: Wait>(rt: &HostRuntime, wait: &R, text: Vec<u8>) -> Result<(u8, String), NoMemory> {
+fn judged<R: Threads + Wait + Sync>(
+    rt: &HostRuntime,
+    threads: &R,
+    text: Vec<u8>,
+) -> Result<(u8, String), NoMemory> {
     let mut words = Vec::new(rt.alloc());
     words.push(String::from_str(rt.alloc(), "check")?)?;
     let mut source = MemSource::in_pieces(text, PIECE, Vec::new(rt.alloc()));
     let mut sink = MemSink::new(rt.alloc(), 100, PIECE, Vec::new(rt.alloc()))?;
     let link = PlanLink::new(rt.alloc());
     let status = sprite(
-        wait,
+        threads,
         rt.alloc(),
         words.as_slice(),
         &mut source,
         &mut sink,
         link,
+        &NoWatch,
     )
     .status
     .number();

@@ -1,6 +1,7 @@
 //! The program `sprite`: it runs a described cluster of Sprite kernels.
 #![tactic(auto)]
 
+use kernel_threads::NoWatch;
 use link_plan::PlanLink;
 use sprite_bytes::{StdSink, StdSource};
 use sprite_top::{Status, sprite};
@@ -22,6 +23,7 @@ fn main(rt: HostRuntime) -> ExitCode {
         &mut source,
         &mut sink,
         link,
+        &NoWatch,
     );
     ExitCode::from(ended.status.number())
 }

@@ -10,7 +10,7 @@ ghost use Rattle.sprite_top.specs.Top.{ClusterCauses, IsBroken, IsRun, IsSameRun
 use crate::judged::refuted_line;
 use crate::top::{Answer, Printing, Status, Turns};
 use call_journal::Closed;
-use kernel_threads::{run_rounds, run_seeded};
+use kernel_threads::{Watch, run_seeded, run_threads};
 use link_plan::Link;
 use report_print::history;
 use run_judge::{JudgedRun, judge_run};
@@ -18,6 +18,7 @@ use sprite_cluster::Cluster;
 use sprite_ids::{Bytes, Finish, NoMemory};
 use std::alloc::Global;
 use std::sync::Wait;
+use std::thread::Threads;
 use trace_text::print_trace;
 use unix_calls::Description;
 
@@ -26,19 +27,20 @@ const MOST: u64 = 40_000_000_000;
 
 /// What is due for a described cluster, which is lawful: it is run over the link, which is handed back, its run is judged, and then
 /// printed. The one error is want of memory.
-pub(crate) fn answer_cluster<R: Wait, L: Link>(
+pub(crate) fn answer_cluster<R: Threads + Wait + Sync, L: Link + Send, W: Watch + Sync>(
     rt: &R,
     alloc: Global,
     description: Description,
     print: Printing,
     turns: Turns,
     link: L,
+    watch: &W,
 ) -> (Result<Answer, NoMemory>, L)
     requires { Lawful description }
     ensures causes { IfOk result.0 (λ a. ClusterCauses print a.status description a.closed a.due) }
     ensures faults { IfOk result.0 (λ a. TellsFaults L.faults link result.1 a.closed) }
 {
-    let (closed, link) = run_cluster(rt, alloc, description, turns, link);
+    let (closed, link) = run_cluster(rt, alloc, description, turns, link, watch);
     let answer = match closed {
         Ok(closed) => judge_closed(alloc, closed, print),
         Err(NoMemory) => Err(NoMemory),
@@ -47,36 +49,38 @@ pub(crate) fn answer_cluster<R: Wait, L: Link>(
 }
 
 // Runs the cluster over the link. The one error is want of memory.
-fn run_cluster<R: Wait, L: Link>(
+fn run_cluster<R: Threads + Wait + Sync, L: Link + Send, W: Watch + Sync>(
     rt: &R,
     alloc: Global,
     description: Description,
     turns: Turns,
     link: L,
+    watch: &W,
 ) -> (Result<Closed, NoMemory>, L)
     requires { Lawful description }
     ensures run { IfOk result.0 (IsRun description) }
     ensures faults { IfOk result.0 (λ run. TellsFaults L.faults link result.1 (Some run)) }
 {
     match Cluster::boot(alloc, description, link) {
-        Ok(cluster) => run_booted(rt, alloc, cluster, turns),
+        Ok(cluster) => run_booted(rt, alloc, cluster, turns, watch),
         Err(link) => (Err(NoMemory), link),
     }
 }
 
 // Runs a cluster that was booted. The one error is want of memory.
-fn run_booted<R: Wait, L: Link>(
+fn run_booted<R: Threads + Wait + Sync, L: Link + Send, W: Watch + Sync>(
     rt: &R,
     alloc: Global,
     cluster: Cluster<L>,
     turns: Turns,
+    watch: &W,
 ) -> (Result<Closed, NoMemory>, L)
     requires holds { Holds L.faults cluster.description cluster.closed cluster.begun.value cluster.wire.link cluster.trace }
     requires none_out { cluster.state.out ≡ [] }
     ensures run { IfOk result.0 (IsRun cluster.description) }
     ensures faults { IfOk result.0 (λ run. TellsFaults L.faults cluster.begun.value result.1 (Some run)) }
 {
-    match run_by(rt, alloc, cluster, turns) {
+    match run_by(rt, alloc, cluster, turns, watch) {
         Ok(cluster) => close(alloc, cluster),
         Err(cluster) => {
             let (_closed, link) = cluster.close(Finish::OutOfMemory);
@@ -85,14 +89,14 @@ fn run_booted<R: Wait, L: Link>(
     }
 }
 
-// Runs the cluster in that order. The one error comes where there are more kernels than a byte tells, which never comes; it hands the
-// cluster back.
+// Runs the cluster in that order. The one error is want of memory, which hands the cluster back.
 #[tactic(auto, using(crate::proofs::RunLaws::same_run, crate::proofs::RunLaws::few_kernels))]
-fn run_by<R: Wait, L: Link>(
+fn run_by<R: Threads + Wait + Sync, L: Link + Send, W: Watch + Sync>(
     rt: &R,
     alloc: Global,
     cluster: Cluster<L>,
     turns: Turns,
+    watch: &W,
 ) -> Result<Cluster<L>, Cluster<L>>
     requires holds { Holds L.faults cluster.description cluster.closed cluster.begun.value cluster.wire.link cluster.trace }
     requires none_out { cluster.state.out ≡ [] }
@@ -102,7 +106,7 @@ fn run_by<R: Wait, L: Link>(
         return Err(cluster);
     };
     match turns {
-        Turns::Rounds => Ok(run_rounds(rt, alloc, cluster, kernels)),
+        Turns::Threads => run_threads(rt, alloc, cluster, kernels, watch),
         Turns::Seeded(seed) => Ok(run_seeded(alloc, cluster, kernels, seed)),
     }
 }

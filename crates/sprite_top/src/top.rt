@@ -11,6 +11,7 @@ use crate::judged::judgement_line;
 use call_journal::Closed;
 use cluster_file::{FileEnd, Refusal, read_description};
 use history_check::{Judgement, judge};
+use kernel_threads::Watch;
 use link_plan::Link;
 use one_kernel::Verdict;
 use report_print::refusal_line;
@@ -19,6 +20,7 @@ use sprite_ids::{Bytes, NoMemory};
 use sprite_words::{Command, command_of};
 use std::alloc::Global;
 use std::sync::Wait;
+use std::thread::Threads;
 
 /// How many bytes a cluster file may have.
 const FILE_BYTES: usize = 1_048_576;
@@ -69,8 +71,8 @@ pub enum Status {
 /// In which order things happen in a run (this project).
 #[derive(Clone, Copy, Debug, PartialEq, Eq)]
 pub enum Turns {
-    /// Round after round: the kernels take turns.
-    Rounds,
+    /// Each kernel by a thread of its own: as the threads come.
+    Threads,
     /// As a generator says that this number seeds.
     Seeded(u64),
 }
@@ -108,17 +110,18 @@ pub struct Answer {
 ///
 /// The words are those behind the program's name. So far there are these commands: `run`, `run --seed N`, `history` and `trace` run the
 /// cluster of a cluster file and print its output, its journal or its trace, and `check` judges a history, which stands behind a
-/// cluster file and a line `=====`, against the one-kernel Unix, without running a cluster. A cluster is run by one thread: its
-/// kernels take turns round after round, or as a generator says that the seed makes. By its type it may wait for ever.
+/// cluster file and a line `=====`, against the one-kernel Unix, without running a cluster. A cluster is run by a thread for each of
+/// its kernels, which tell `watch` where they are; by one thread, which tells nothing, where there is a seed. It may wait for ever.
 /// All that is due is made before its first byte is written. Want of memory may come at any point before, and then nothing is written. Where a source or a
 /// sink tells nothing of its bytes, the clauses say that some bytes were read or written so.
-pub fn sprite<R: Wait, S: Source, K: Sink, L: Link>(
+pub fn sprite<R: Threads + Wait + Sync, S: Source, K: Sink, L: Link + Send, W: Watch + Sync>(
     rt: &R,
     alloc: Global,
     words: &[String],
     source: &mut S,
     sink: &mut K,
     link: L,
+    watch: &W,
 ) -> Ended<L>
     ensures ended { result.status ≡ Status.Ended → Wrote (K.held sink.old) (K.held sink.new) (IsEnded AllEnded (spelled words.now) (S.left source.old) (S.left source.new) result.closed) }
     ensures budget { result.status ≡ Status.Budget → Wrote (K.held sink.old) (K.held sink.new) (IsEnded Spent (spelled words.now) (S.left source.old) (S.left source.new) result.closed) }
@@ -134,7 +137,7 @@ pub fn sprite<R: Wait, S: Source, K: Sink, L: Link>(
     ensures write_fault { result.status ≡ Status.WriteFault → Broke (K.held sink.old) (K.held sink.new) (K.faults sink.old) (K.faults sink.new) (λ status. Causes status (spelled words.now) (S.left source.old) (S.left source.new) (S.faults source.old) (S.faults source.new) result.closed) }
     ensures faults { TellsFaults L.faults link result.link result.closed }
 {
-    let (answer, link) = answer_to(rt, alloc, words, source, link);
+    let (answer, link) = answer_to(rt, alloc, words, source, link, watch);
     let Ok(answer) = answer else {
         return Ended {
             status: Status::NoMemory,
@@ -158,19 +161,28 @@ pub fn sprite<R: Wait, S: Source, K: Sink, L: Link>(
 
 /// What is due for these words and this source, and the link. The one error is want of memory.
 #[tactic(auto, using(crate::proofs::TopLaws::none_tells))]
-fn answer_to<R: Wait, S: Source, L: Link>(
+fn answer_to<R: Threads + Wait + Sync, S: Source, L: Link + Send, W: Watch + Sync>(
     rt: &R,
     alloc: Global,
     words: &[String],
     source: &mut S,
     link: L,
+    watch: &W,
 ) -> (Result<Answer, NoMemory>, L)
     ensures causes { IfOk result.0 (λ a. Causes a.status (spelled words.now) (S.left source.old) (S.left source.new) (S.faults source.old) (S.faults source.new) a.closed a.due) }
     ensures faults { IfOk result.0 (λ a. TellsFaults L.faults link result.1 a.closed) }
 {
     match command_of(words) {
         Some(Command::Run) => {
-            answer_run(rt, alloc, source, Printing::Output, Turns::Rounds, link)
+            answer_run(
+                rt,
+                alloc,
+                source,
+                Printing::Output,
+                Turns::Threads,
+                link,
+                watch,
+            )
         }
         Some(Command::RunSeed(seed)) => {
             answer_run(
@@ -180,13 +192,30 @@ fn answer_to<R: Wait, S: Source, L: Link>(
                 Printing::Output,
                 Turns::Seeded(seed),
                 link,
+                watch,
             )
         }
         Some(Command::History) => {
-            answer_run(rt, alloc, source, Printing::History, Turns::Rounds, link)
+            answer_run(
+                rt,
+                alloc,
+                source,
+                Printing::History,
+                Turns::Threads,
+                link,
+                watch,
+            )
         }
         Some(Command::Trace) => {
-            answer_run(rt, alloc, source, Printing::Trace, Turns::Rounds, link)
+            answer_run(
+                rt,
+                alloc,
+                source,
+                Printing::Trace,
+                Turns::Threads,
+                link,
+                watch,
+            )
         }
         Some(Command::Check) => (answer_check(alloc, source), link),
         None => (refuse(alloc, Status::Usage, USAGE_LINE), link),
@@ -194,19 +223,20 @@ fn answer_to<R: Wait, S: Source, L: Link>(
 }
 
 /// What is due for a command that runs a cluster, and this source, and the link. The one error is want of memory.
-fn answer_run<R: Wait, S: Source, L: Link>(
+fn answer_run<R: Threads + Wait + Sync, S: Source, L: Link + Send, W: Watch + Sync>(
     rt: &R,
     alloc: Global,
     source: &mut S,
     print: Printing,
     turns: Turns,
     link: L,
+    watch: &W,
 ) -> (Result<Answer, NoMemory>, L)
     ensures causes { (words : List (List ℕ)) → AsksFor print words → IfOk result.0 (λ a. Causes a.status words (S.left source.old) (S.left source.new) (S.faults source.old) (S.faults source.new) a.closed a.due) }
     ensures faults { IfOk result.0 (λ a. TellsFaults L.faults link result.1 a.closed) }
 {
     match read_all(alloc, source, FILE_BYTES) {
-        Ok(bytes) => answer_file(rt, alloc, bytes.as_slice(), print, turns, link),
+        Ok(bytes) => answer_file(rt, alloc, bytes.as_slice(), print, turns, link, watch),
         Err(ReadEnd::TooLong) => (refuse(alloc, Status::Refused, TOO_LONG_LINE), link),
         Err(ReadEnd::Fault { .. }) => (refuse(alloc, Status::ReadFault, FAULT_LINE), link),
         Err(ReadEnd::NoMemory) => (Err(NoMemory), link),
@@ -270,19 +300,20 @@ fn refuse(alloc: Global, status: Status, line: &[u8]) -> Result<Answer, NoMemory
 }
 
 /// What is due for a whole cluster file, and the link. The one error is want of memory.
-fn answer_file<R: Wait, L: Link>(
+fn answer_file<R: Threads + Wait + Sync, L: Link + Send, W: Watch + Sync>(
     rt: &R,
     alloc: Global,
     bytes: &[u8],
     print: Printing,
     turns: Turns,
     link: L,
+    watch: &W,
 ) -> (Result<Answer, NoMemory>, L)
     ensures causes { IfOk result.0 (λ a. FileCauses print a.status bytes.now a.closed a.due) }
     ensures faults { IfOk result.0 (λ a. TellsFaults L.faults link result.1 a.closed) }
 {
     match read_description(alloc, bytes) {
-        Ok(description) => { answer_cluster(rt, alloc, description, print, turns, link) }
+        Ok(description) => { answer_cluster(rt, alloc, description, print, turns, link, watch) }
         Err(FileEnd::Refused(refusal)) => (answer_refused(alloc, &refusal), link),
         Err(FileEnd::NoMemory) => (Err(NoMemory), link),
     }

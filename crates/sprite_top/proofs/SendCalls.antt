@@ -1,0 +1,14 @@
+-- What crosses threads with a cluster: remote calls.
+use denote.Param.Send.{IsSend, IsSync, sendable}
+use denote.Param.SendFields.{as_row_send, declared_send, variants_send}
+use Rattle.std.proofs.Crossing.{crosses}
+use Rattle.std.proofs.MapsCrossing as maps
+use Rattle.sprite_top.proofs.SendRecords.{whole, bytes_sends}
+use Rattle.kernel_rpc.specs.contracts.call.Call as call
+use Rattle.kernel_rpc.specs.contracts.table.CallTable as call_table
+
+pub call_sends : IsSend call.the_row
+call_sends = search (whole, bytes_sends) depth 100 fits 400000
+
+pub call_table_sends : IsSend call_table.the_row
+call_table_sends = declared_send call_table.the_type (search (whole, call_sends) depth 100 fits 400000)
