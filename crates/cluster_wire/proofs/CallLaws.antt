@@ -9,7 +9,7 @@ use Rattle.link_plan.specs.declared.Fate.{Fate}
 use Rattle.link_plan.specs.Counts.{Asks, IsAsked}
 use Rattle.kernel_rpc.specs.Machine.{Machine, begun, is_free, new_call}
 use Rattle.kernel_rpc.specs.Ports.{AreUsed}
-use Rattle.kernel_rpc.specs.Runs.{Act, Begin}
+use Rattle.kernel_rpc.specs.Runs.{Begin}
 use Rattle.kernel_rpc.specs.Servers.{AreApart, pairs}
 use Rattle.kernel_rpc.specs.Sound.{Wired}
 use Rattle.kernel_rpc.proofs.StepLaws.{begin_step, broadcast_step}
@@ -17,7 +17,6 @@ use Rattle.kernel_steps.specs.declared.Sending.{Sending}
 use Rattle.packet_bodies.specs.About.{about_of}
 use Rattle.packet_bodies.specs.declared.Request.{Request}
 use Rattle.unix_calls.specs.declared.Description.{Description}
-use Rattle.wire_format.specs.declared.Packet.{Packet}
 use Rattle.wire_format.specs.Packets.{spelling}
 use Rattle.cluster_wire.specs.declared.telling.Sent.{Sent}
 use Rattle.cluster_wire.specs.Calling.{BeginsIf, BeginsSo, IsBegin, sent_as, sent_by}

@@ -1,5 +1,5 @@
 -- A copy comes, a server goes silent, and a timer fires.
-use Rattle.std.proofs.Common.{◌≡◌, ℕ, ◌==◌, Bool, true, false, ◌&&◌, List, Option, Some, None, refl, sym, ap, ap₂, subst, ◌∙◌}
+use Rattle.std.proofs.Common.{◌≡◌, ℕ, Bool, true, false, Option, Some, None, refl, sym, ap, ap₂, subst, ◌∙◌}
 use Rattle.std.proofs.lemmas.Bool.{and_parts, eqb-true}
 use Rattle.sprite_ids.specs.declared.CopyNo.{CopyNo}
 use Rattle.sprite_ids.specs.declared.TxNo.{TxNo}
@@ -11,14 +11,13 @@ use Rattle.kernel_rpc.specs.Bodies.{IsMessage, body_of, reply_of}
 use Rattle.kernel_rpc.specs.Links.{AsksBack}
 use Rattle.kernel_rpc.specs.Results.{Delivers, Expires, HandsOut}
 use Rattle.kernel_rpc.specs.declared.call.Arrival.{Arrival}
-use Rattle.kernel_rpc.specs.declared.call.Arrival.TheVariants.{FirstRequest, FirstReply, AskedAgain, Past}
 use Rattle.kernel_rpc.specs.declared.Call.{Call}
 use Rattle.kernel_rpc.specs.declared.PacketCopy.{PacketCopy}
 use Rattle.kernel_rpc.specs.declared.Delivered.{Delivered}
 use Rattle.kernel_rpc.specs.declared.Delivered.TheVariants as delivered
 use Rattle.kernel_rpc.specs.declared.Expired.{Expired}
 use Rattle.kernel_rpc.specs.declared.Expired.TheVariants.{Resent, GivenUp}
-use Rattle.kernel_rpc.specs.Machine.{arrival, call_of, copy_of, may_be_silent, may_expire, owner_of, silent}
+use Rattle.kernel_rpc.specs.Machine.{call_of, copy_of, may_be_silent, may_expire, owner_of, silent}
 use Rattle.kernel_rpc.specs.Runs.{Deliver}
 use Rattle.kernel_rpc.specs.Sound.{Wired}
 use Rattle.kernel_rpc.specs.Steps.{IsStep, sent_in}

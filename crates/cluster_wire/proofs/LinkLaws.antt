@@ -1,5 +1,5 @@
 -- What the link is asked, one thing after another.
-use Rattle.std.proofs.Common.{◌≡◌, ℕ, List, [], ◌∷◌, ◌++◌, refl, sym, ap, subst}
+use Rattle.std.proofs.Common.{◌≡◌, ℕ, List, [], ◌∷◌, ◌++◌, refl, sym, subst}
 use Rattle.link_plan.specs.declared.Fate.{Fate}
 use Rattle.link_plan.specs.Counts.{Asks, IsAsked}
 use Rattle.cluster_wire.specs.Links.{AskedMore}

@@ -7,7 +7,7 @@ use Rattle.link_plan.specs.declared.Fate.{Fate}
 use Rattle.link_plan.specs.Counts.{IsAsked}
 use Rattle.kernel_rpc.specs.declared.call.Call.{Call}
 use Rattle.kernel_rpc.specs.Links.{AsksBack}
-use Rattle.kernel_rpc.specs.Machine.{Machine, answer, call_of, may_answer}
+use Rattle.kernel_rpc.specs.Machine.{answer, call_of, may_answer}
 use Rattle.kernel_rpc.specs.Runs.{Answer}
 use Rattle.kernel_rpc.specs.Sound.{Wired}
 use Rattle.kernel_rpc.proofs.StepLaws.{answer_step}

@@ -1,5 +1,5 @@
 -- The remote calls of a kernel begin.
-use Rattle.std.specs.Prelude.{◌≡◌, ℕ, List, [], ◌∷◌, ◌++◌, map, Option, Some, None}
+use Rattle.std.specs.Prelude.{◌≡◌, ℕ, List, [], ◌++◌, map, Option, Some, None}
 use Rattle.sprite_ids.specs.declared.TxNo.{TxNo}
 use Rattle.link_plan.specs.declared.Fate.{Fate}
 use Rattle.kernel_rpc.specs.Machine.{Machine}

@@ -1,5 +1,5 @@
 -- Each fault that is told was the link's.
-use Rattle.std.specs.Prelude.{◌≡◌, ℕ, ◌+◌, ◌≤◌, Bool, false, List, count_by, map}
+use Rattle.std.specs.Prelude.{ℕ, ◌+◌, ◌≤◌, Bool, false, List, count_by, map}
 use Rattle.link_plan.specs.declared.Fate.{Fate}
 use Rattle.link_plan.specs.Counts.{same_pair}
 use Rattle.unix_calls.specs.declared.Event.{Event}

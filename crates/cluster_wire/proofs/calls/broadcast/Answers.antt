@@ -1,4 +1,4 @@
-use Rattle.std.proofs.Common.{◌≡◌, ◌∷◌, ◌++◌, [], ap, map, refl, sym, ◌∙◌}
+use Rattle.std.proofs.Common.{◌++◌, ap, map, refl, ◌∙◌}
 use Rattle.kernel_rpc.specs.Servers.{pairs}
 use Rattle.cluster_wire.specs.Calling.{sent_as}
 use Rattle.cluster_wire.specs.Goings.{broadcast_to, may_go_to}

@@ -1,4 +1,4 @@
-use Rattle.std.proofs.Common.{◌≡◌, ◌∷◌, [], ap, refl, sym, ◌∙◌}
+use Rattle.std.proofs.Common.{◌∷◌, [], ap, refl, sym, ◌∙◌}
 use Rattle.cluster_wire.specs.Goings.{call_to, other_than}
 use Rattle.cluster_wire.proofs.CallLaws.{call_begins, on_ok}
 use Rattle.cluster_wire.proofs.calls.call.Goals as goal
