@@ -23,7 +23,8 @@ use Rattle.cluster_bursts.specs.declared.ended.Ended.{Ended}
 use Rattle.cluster_bursts.specs.declared.ended.Ended.TheVariants as ended
 use Rattle.cluster_kernels.specs.declared.State.{State}
 use Rattle.cluster_kernels.specs.States.{count_at, image_at, is_ready_at, noted_step, numbered_at, pids_at, put_image, put_out, with_last}
-use Rattle.cluster_calls.specs.Steps.{took}
+use Rattle.cluster_calls.specs.Steps.{TakesSo}
+use Rattle.kernel_rpc.specs.Sound.{Wired}
 
 -- a burst ended where it says so
 abbrev pub EndsSo : Burst → Type 0
@@ -123,18 +124,18 @@ came_to kernel b burst.Limit s = None
 abbrev pub recorded : ℕ → Burst → State → State
 recorded kernel b s = noted_step kernel (events.Burst b.pid b.count) (taken_back kernel b.pid s)
 
--- the kernel goes on with what the process came to, where it came to something
-abbrev pub GoesOn : ℕ → Option Input → Ended → State → State → Type 0
-GoesOn kernel (Some input) (ended.Took said) s after = after ≡ took kernel input said s
-GoesOn kernel None ended.Done s after = after ≡ s
-GoesOn kernel input what s after = ⊥
+-- the kernel goes on with what the process came to, where it came to something, over a wire that goes from here to there
+abbrev pub GoesOn : {L : Type 0} → (L → ℕ → ℕ → ℕ) → (L → ℕ → ℕ → ℕ) → Description → ℕ → Option Input → Ended → Wired L → Wired L → State → State → Type 0
+GoesOn faults asked c kernel (Some input) (ended.Took said) old new s t = TakesSo faults asked c kernel input said old new s t
+GoesOn faults asked c kernel None ended.Done old new s t = (new ≡ old) × (t ≡ s)
+GoesOn faults asked c kernel input what old new s t = ⊥
 
 -- what becomes of a burst of the kernel: it is lost exactly where it doesn't count; else it is recorded, the process has the image
 -- that it came to, and the kernel takes what the process came to
-abbrev pub EndsAs : ℕ → Burst → Ended → State → State → Type 0
-EndsAs kernel b ended.Stale s after = (counts kernel b s ≡ false) × (after ≡ taken_back kernel b.pid s)
-EndsAs kernel b what s after =
-    (counts kernel b s ≡ true) × GoesOn kernel (came_to kernel b b.end (recorded kernel b s)) what (put_image kernel b.pid b.to (recorded kernel b s)) after
+abbrev pub EndsAs : {L : Type 0} → (L → ℕ → ℕ → ℕ) → (L → ℕ → ℕ → ℕ) → Description → ℕ → Burst → Ended → Wired L → Wired L → State → State → Type 0
+EndsAs faults asked c kernel b ended.Stale old new s t = (counts kernel b s ≡ false) × (new ≡ old) × (t ≡ taken_back kernel b.pid s)
+EndsAs faults asked c kernel b what old new s t =
+    (counts kernel b s ≡ true) × GoesOn faults asked c kernel (came_to kernel b b.end (recorded kernel b s)) what old new (put_image kernel b.pid b.to (recorded kernel b s)) t
 
 -- whether a burst that ended so counted
 abbrev pub has_counted : Ended → Bool

@@ -5,7 +5,6 @@ ghost use Rattle.unix_calls.specs.Answers.{program_at};
 ghost use Rattle.unix_calls.specs.Lawful.{Lawful};
 ghost use Rattle.cluster_bursts.specs.Bursts.{begun_by, came_to, has_counted, has_job_at, is_as_it_was, is_image, is_runnable, issued, job_at, job_by, job_with, next_after, runnable_at, EndsAs, EndsSo, GoesOn, same_image};
 ghost use Rattle.cluster_bursts.specs.Ends.{Ends};
-ghost use Rattle.cluster_bursts.specs.Links.{AskedThen};
 ghost use Rattle.cluster_kernels.specs.States.{image_at, put_image};
 ghost use Rattle.unix_calls.specs.declared.Event.TheVariants.{Burst as Ran};
 
@@ -196,7 +195,7 @@ pub fn end_burst<L: Link>(
 ) -> Result<bool, NoMemory>
     requires lawful { Lawful c.now }
     requires ends { EndsSo burst }
-    ensures { IfOk result (λ counted. Ends L.faults L.asked kernel burst counted wire.old.link wire.new.link state.old state.new) }
+    ensures { IfOk result (λ counted. Ends L.faults L.asked c.now kernel burst counted wire.old wire.new state.old state.new) }
 {
     let ended = end_as(alloc, c, state, wire, kernel, burst)?;
     Ok(has_counted(&ended))
@@ -223,8 +222,7 @@ fn end_as<L: Link>(
 ) -> Result<Ended, NoMemory>
     requires lawful { Lawful c.now }
     requires ends { EndsSo burst }
-    ensures ended { IfOk result (λ ended. EndsAs kernel burst ended state.old state.new) }
-    ensures asked { IfOk result (AskedThen L.faults L.asked kernel wire.old.link wire.new.link) }
+    ensures { IfOk result (λ ended. EndsAs L.faults L.asked c.now kernel burst ended wire.old wire.new state.old state.new) }
 {
     let was_out = state.out.take_row(&kernel, &burst.pid);
     let stays = is_as_it_was(state, kernel, burst.pid, &burst.from);
@@ -257,8 +255,7 @@ fn go_on<L: Link>(
     input: Option<Input>,
 ) -> Result<Ended, NoMemory>
     requires lawful { Lawful c.now }
-    ensures went { IfOk result (λ ended. GoesOn kernel input ended state.old state.new) }
-    ensures asked { IfOk result (AskedThen L.faults L.asked kernel wire.old.link wire.new.link) }
+    ensures { IfOk result (λ ended. GoesOn L.faults L.asked c.now kernel input ended wire.old wire.new state.old state.new) }
 {
     match input {
         Some(input) => {

@@ -1,4 +1,4 @@
-use cluster_kernels::Said;
+use cluster_wire::Said;
 
 /// What became of a burst, with what the kernel took after it.
 #[derive(Debug, Drop)]

@@ -1,3 +1,1 @@
-pub mod ServerLaws
-pub mod LinkLaws
 pub mod TakenLaws

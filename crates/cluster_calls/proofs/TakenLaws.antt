@@ -1,17 +1,24 @@
 -- What a kernel takes tells of no more faults than the link counts.
-use Rattle.std.proofs.Common.{arith, ◌≡◌, ℕ, false, List, Option, Some, None, refl, sym, ap, subst}
+use Rattle.std.proofs.Common.{arith, ◌≡◌, ℕ, false, List, Option, Some, None, Result, Ok, Err, IfOk, refl, sym, ap, subst}
 use Rattle.sprite_ids.specs.declared.TxNo.{TxNo}
 use Rattle.kernel_steps.specs.declared.Input.{Input}
 use Rattle.cluster_kernels.specs.declared.KernelState.{KernelState}
-use Rattle.cluster_kernels.specs.declared.Said.{Said}
+use Rattle.cluster_wire.specs.declared.Said.{Said}
 use Rattle.cluster_kernels.specs.declared.State.{State}
 use Rattle.unix_calls.specs.declared.Event.{Event}
 use Rattle.cluster_kernels.specs.States.{kernel_at, noted_step, stepped, stepped_by}
-use Rattle.cluster_kernels.specs.Noted.{noted_all}
-use Rattle.cluster_kernels.specs.Faults.{FaultsTold, faults_told, is_fault_between}
-use Rattle.cluster_kernels.proofs.FaultLaws.{other_more, told_all, told_faults}
-use Rattle.cluster_calls.specs.Links.{AskedFor}
-use Rattle.cluster_calls.specs.Steps.{took}
+use Rattle.cluster_wire.specs.Noted.{noted_all}
+use Rattle.cluster_wire.specs.Faults.{FaultsTold, faults_told, is_fault_between}
+use Rattle.cluster_wire.proofs.FaultLaws.{other_more, told_all, told_faults}
+use Rattle.cluster_wire.specs.Links.{AskedFor}
+use Rattle.cluster_wire.specs.Goings.{next_of}
+use Rattle.cluster_wire.specs.Ran.{RanOn}
+use Rattle.cluster_wire.proofs.RanLaws.{on_join}
+use Rattle.kernel_rpc.specs.Sound.{Wired}
+use Rattle.kernel_steps.specs.declared.Out.{Out}
+use Rattle.unix_calls.specs.declared.Description.{Description}
+use Rattle.sprite_ids.specs.declared.NoMemory.{NoMemory}
+use Rattle.cluster_calls.specs.Steps.{GoesOut, TakesSo, took}
 
 -- a step of a kernel tells nothing by itself
 told_stays : (kernel : ℕ) (input : Input) (next : TxNo) (s : State) → (stepped kernel input next s).0.told ≡ s.told
@@ -52,3 +59,18 @@ nothing_told faults before after s t same is a b = (let f = ap (λ link. faults 
 
 pub told_by : {L : Type 0} (faults : L → ℕ → ℕ → ℕ) (before after : L) (old : List Event) (s t : State) → t ≡ s → FaultsTold faults before after old s.told → FaultsTold faults before after old t.told
 told_by faults before after old s t is told = subst (λ (t : State). FaultsTold faults before after old t.told) (sym is) told
+
+-- what a step said is what its kernel's machine says with that number
+pub said_after : {L : Type 0} (faults asked : L → ℕ → ℕ → ℕ) (c : Description) (kernel : ℕ) (input : Input) (next : TxNo) (s between : State) (out : Out) (old new : Wired L) (r : Result Said NoMemory) → stepped kernel input next s ≡ (between, out) → IfOk r (λ said. said.next ≡ next) → IfOk r (GoesOut faults asked c kernel out old new) → IfOk r (λ said. GoesOut faults asked c kernel (stepped kernel input said.next s).1 old new said)
+said_after faults asked c kernel input next s between out old new (Ok said) made number says =
+    subst (λ (n : TxNo). GoesOut faults asked c kernel (stepped kernel input n s).1 old new said) (sym number) (subst (λ (out : Out). GoesOut faults asked c kernel out old new said) (sym (ap (λ (made : State × Out). made.1) made)) says)
+said_after faults asked c kernel input next s between out old new (Err e) made number says = tt
+
+-- the parts of what a kernel takes
+pub takes_so : {L : Type 0} (faults asked : L → ℕ → ℕ → ℕ) (c : Description) (kernel : ℕ) (input : Input) (old new : Wired L) (s t : State) (r : Result Said NoMemory) → IfOk r (λ said. t ≡ took kernel input said s) → IfOk r (λ said. said.next ≡ next_of old.machine) → IfOk r (λ said. GoesOut faults asked c kernel (stepped kernel input said.next s).1 old new said) → IfOk r (AskedFor faults asked kernel old.link new.link) → IfOk r (λ said. TakesSo faults asked c kernel input said old new s t)
+takes_so faults asked c kernel input old new s t (Ok said) state next says asks = record { next = next; state = state; goes_out = says; asks = asks }
+takes_so faults asked c kernel input old new s t (Err e) state next says asks = tt
+
+-- the wire went on by steps of its runs
+pub takes_ran : {L : Type 0} (faults asked : L → ℕ → ℕ → ℕ) (c : Description) (kernel : ℕ) (input : Input) (said : Said) (old new : Wired L) (s t : State) → TakesSo faults asked c kernel input said old new s t → RanOn faults asked old new
+takes_ran faults asked c kernel input said old new s t takes = on_join faults asked old takes.goes_out.between new (record { steps = takes.goes_out.requests.steps; ran = takes.goes_out.requests.ran }) (record { steps = takes.goes_out.answers.steps; ran = takes.goes_out.answers.ran })

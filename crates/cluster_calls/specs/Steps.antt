@@ -1,25 +1,17 @@
 -- What a kernel takes, and what it says.
-use Rattle.std.specs.Prelude.{◌≡◌, ℕ, ◌+◌, ◌==◌, Bool, true, false, List}
-use Rattle.std.specs.List.{list_any}
-use Rattle.sprite_ids.specs.declared.TxNo.{TxNo}
-use Rattle.kernel_rpc.specs.Machine.{Machine}
-use Rattle.kernel_rpc.specs.Servers.{AreApart}
+use Rattle.std.specs.Prelude.{◌≡◌, ℕ}
+use Rattle.kernel_rpc.specs.Sound.{Wired}
 use Rattle.kernel_steps.specs.declared.Input.{Input}
 use Rattle.kernel_steps.specs.declared.Out.{Out}
+use Rattle.unix_calls.specs.declared.Description.{Description}
 use Rattle.cluster_kernels.specs.declared.State.{State}
-use Rattle.cluster_kernels.specs.declared.Said.{Said}
 use Rattle.cluster_kernels.specs.States.{stepped}
-use Rattle.cluster_kernels.specs.Noted.{faulted_all, noted_all}
-
--- the number of the next remote call
-abbrev pub next_of : Machine → TxNo
-next_of machine = record { 0 = machine.begun + 1 }
-
--- a broadcast may go to these servers: no one stands twice, the owner is one of them and the caller isn't
-pub record MayGoTo (servers : List ℕ) (from owner : ℕ) : Type 0 where
-  pub owner_there : list_any (λ server. server == owner) servers ≡ true
-  pub caller_apart : list_any (λ server. server == from) servers ≡ false
-  pub apart : AreApart servers
+use Rattle.cluster_wire.specs.Calling.{Begun}
+use Rattle.cluster_wire.specs.Goings.{next_of}
+use Rattle.cluster_wire.specs.Links.{AskedFor}
+use Rattle.cluster_wire.specs.Noted.{faulted_all, noted_all}
+use Rattle.cluster_wire.specs.Replying.{Answered}
+use Rattle.cluster_wire.specs.declared.Said.{Said}
 
 -- what a step said is told: all that the kernel did, with the faults of its requests, and then the faults of its answers
 abbrev pub says : ℕ → Said → State × Out → State
@@ -28,3 +20,17 @@ says kernel said made = record made.0 { told = faulted_all kernel said.answered 
 -- the kernel takes an input: one step of it, and what that said
 abbrev pub took : ℕ → Input → Said → State → State
 took kernel input said s = says kernel said (stepped kernel input said.next s)
+
+-- what a step of the kernel says goes out: its remote calls begin, and then its answers go back
+pub record GoesOut {L : Type 0} (faults asked : L → ℕ → ℕ → ℕ) (c : Description) (kernel : ℕ) (out : Out) (old new : Wired L) (said : Said) : Type 0 where
+  pub between : Wired L
+  pub requests : Begun faults asked c kernel out.sends old between said.sent
+  pub answers : Answered faults asked kernel out.answers between new said.answered
+
+-- the kernel takes an input, over a wire that goes from here to there: one step of it, with the number of the next remote call, of
+-- which all goes out that the step says, and is told; the link is asked about these packets alone
+pub record TakesSo {L : Type 0} (faults asked : L → ℕ → ℕ → ℕ) (c : Description) (kernel : ℕ) (input : Input) (said : Said) (old new : Wired L) (s t : State) : Type 0 where
+  pub next : said.next ≡ next_of old.machine
+  pub state : t ≡ took kernel input said s
+  pub goes_out : GoesOut faults asked c kernel (stepped kernel input said.next s).1 old new said
+  pub asks : AskedFor faults asked kernel old.link new.link said

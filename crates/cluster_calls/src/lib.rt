@@ -1,8 +1,6 @@
 //! What a kernel of a cluster takes: one step of it, whose remote calls begin and whose answers go out over the wire.
 #![tactic(auto)]
 
-mod calls;
-mod servers;
 mod taking;
 
 pub use taking::take;

@@ -1,10 +1,12 @@
 ghost use Rattle.std.specs.Prelude.{◌≡◌, IfOk};
 ghost use Rattle.unix_calls.specs.Lawful.{Lawful};
-ghost use Rattle.cluster_calls.specs.Steps.{next_of, says, took};
-ghost use Rattle.cluster_calls.specs.Links.{AskedFor};
+ghost use Rattle.cluster_calls.specs.Steps.{says, took, GoesOut, TakesSo};
+ghost use Rattle.cluster_kernels.specs.States.{stepped};
+ghost use Rattle.cluster_wire.specs.Goings.{next_of};
+ghost use Rattle.cluster_wire.specs.Links.{AskedFor};
 
-use crate::calls::{answer_all, begin_all, next_call};
-use cluster_kernels::{Said, State, note_all, note_faults};
+use cluster_kernels::State;
+use cluster_wire::{Said, answer_all, begin_all, next_call, note_all, note_faults};
 use kernel_rpc::Wire;
 use kernel_steps::{Input, Out};
 use link_plan::Link;
@@ -13,7 +15,9 @@ use std::alloc::Global;
 use unix_calls::Description;
 use wire_format::Packet;
 
-/// The kernel does one step with that, and all that it says goes out and is told. The one error is want of memory.
+/// The kernel does one step with that, and all that it says goes out and is told: each of its requests that has someone to go to, and
+/// each of its answers for which a caller waits. The one error is want of memory.
+#[tactic(auto, using(crate::proofs::TakenLaws::takes_so))]
 pub fn take<L: Link>(
     alloc: Global,
     c: &Description,
@@ -23,14 +27,13 @@ pub fn take<L: Link>(
     input: Input,
 ) -> Result<Said, NoMemory>
     requires lawful { Lawful c.now }
-    ensures state { IfOk result (λ said. state.new ≡ took kernel input said state.old) }
-    ensures next { IfOk result (λ said. said.next ≡ next_of wire.old.machine) }
-    ensures asked { IfOk result (AskedFor L.faults L.asked kernel wire.old.link wire.new.link) }
+    ensures { IfOk result (λ said. TakesSo L.faults L.asked c.now kernel input said wire.old wire.new state.old state.new) }
 {
     take_in(alloc, c, state, wire, kernel, &input)
 }
 
 // The same with an input that is lent.
+#[tactic(auto, using(crate::proofs::TakenLaws::said_after))]
 fn take_in<L: Link>(
     alloc: Global,
     c: &Description,
@@ -42,6 +45,7 @@ fn take_in<L: Link>(
     requires lawful { Lawful c.now }
     ensures state { IfOk result (λ said. state.new ≡ took kernel input.now said state.old) }
     ensures next { IfOk result (λ said. said.next ≡ next_of wire.old.machine) }
+    ensures goes_out { IfOk result (λ said. GoesOut L.faults L.asked c.now kernel (stepped kernel input.now said.next state.old).1 wire.old wire.new said) }
     ensures asked { IfOk result (AskedFor L.faults L.asked kernel wire.old.link wire.new.link) }
 {
     let next = next_call(wire)?;
@@ -62,6 +66,7 @@ fn say<L: Link>(
     requires lawful { Lawful c.now }
     ensures state { IfOk result (λ said. state.new ≡ says kernel said (state.old, out.old)) }
     ensures next { IfOk result (λ said. said.next ≡ next) }
+    ensures goes_out { IfOk result (GoesOut L.faults L.asked c.now kernel out.old wire.old wire.new) }
     ensures asked { IfOk result (AskedFor L.faults L.asked kernel wire.old.link wire.new.link) }
 {
     let sent = begin_all(alloc, c, wire, kernel, &mut out.sends)?;

@@ -3,12 +3,8 @@
 
 mod booting;
 mod kernel_state;
-mod noting;
 mod state;
-mod telling;
 
 pub use booting::boot;
 pub use kernel_state::{KernelState, has_ended};
-pub use noting::{note_all, note_fault, note_faults};
 pub use state::State;
-pub use telling::{Said, Sent};

@@ -1,30 +1,30 @@
 -- What happens at a choice of a kernel.
-use Rattle.std.specs.Prelude.{◌≡◌, ℕ, ◌==◌, Bool, true, false, if◌then◌else◌, List, Option, Some, None}
+use Rattle.std.specs.Prelude.{◌≡◌, ℕ, Bool, true, false, ◌&&◌, List, Option, Some, None}
+use Rattle.sprite_ids.specs.declared.CopyNo.{CopyNo}
 use Rattle.sprite_ids.specs.declared.TxNo.{TxNo}
 use Rattle.link_plan.specs.declared.Fate.{Fate}
-use Rattle.kernel_rpc.specs.Bodies.{IsMessage, body_of, reply_of}
-use Rattle.kernel_rpc.specs.Machine.{Machine, call_of}
-use Rattle.kernel_rpc.specs.declared.call.Call.{Call}
+use Rattle.kernel_rpc.specs.Machine.{may_be_silent}
+use Rattle.kernel_rpc.specs.Sound.{Wired}
+use Rattle.kernel_rpc.specs.declared.Expired.{Expired}
+use Rattle.kernel_rpc.specs.declared.Expired.TheVariants as expired
 use Rattle.kernel_rpc.specs.declared.PacketCopy.{PacketCopy}
 use Rattle.kernel_steps.specs.declared.Input.{Input}
 use Rattle.kernel_steps.specs.declared.Input.TheVariants as inputs
 use Rattle.unix_calls.specs.declared.About.{About}
+use Rattle.unix_calls.specs.declared.Description.{Description}
 use Rattle.unix_calls.specs.declared.Event.{Event}
-use Rattle.unix_calls.specs.declared.Event.TheVariants.{Deliver, Expire}
-use Rattle.packet_bodies.specs.declared.Body.{Body}
-use Rattle.packet_bodies.specs.declared.Body.TheVariants as bodies
-use Rattle.wire_format.specs.declared.Packet.{Packet}
-use Rattle.wire_format.specs.Packets.{reading}
+use Rattle.unix_calls.specs.declared.Event.TheVariants as events
+use Rattle.cluster_wire.specs.declared.Arrived.{Arrived}
+use Rattle.cluster_wire.specs.declared.Arrived.TheVariants as arrived
+use Rattle.cluster_wire.specs.declared.Said.{Said}
+use Rattle.cluster_wire.specs.Arriving.{Arrives, SilentIf, asks_prefix, copy_to}
+use Rattle.cluster_wire.specs.Firing.{Fires, may_fire}
+use Rattle.cluster_wire.specs.Noted.{faulted, faulted_all}
 use Rattle.cluster_kernels.specs.declared.State.{State}
-use Rattle.cluster_kernels.specs.declared.Said.{Said}
 use Rattle.cluster_kernels.specs.States.{noted_step}
-use Rattle.cluster_kernels.specs.Noted.{faulted, faulted_all}
-use Rattle.cluster_calls.specs.Steps.{took}
-use Rattle.cluster_packets.specs.declared.act.Act.{Act}
-use Rattle.cluster_packets.specs.declared.act.Act.TheVariants as acts
-use Rattle.cluster_packets.specs.declared.act.Given.{Given}
-use Rattle.cluster_packets.specs.declared.act.Given.TheVariants as given
-use Rattle.cluster_packets.specs.Links.{AskedIn}
+use Rattle.cluster_calls.specs.Steps.{TakesSo}
+use Rattle.cluster_packets.specs.declared.choice.Choice.{Choice}
+use Rattle.cluster_packets.specs.declared.choice.Choice.TheVariants.{Deliver, Expire, WriteBack}
 
 -- the call of a process that a packet names
 abbrev pub named : Option (ℕ × ℕ) → Option About
@@ -33,57 +33,64 @@ named (Some call) = Some (record { pid = call.0; number = call.1 })
 
 -- the record that a copy came
 abbrev pub delivery : PacketCopy → Event
-delivery copy = Deliver copy.tx copy.from copy.reply (named copy.about)
-
--- what the kernel takes of a message that came: a request or a reply, from the kernel that the message names
-abbrev pub input_by : TxNo → ℕ → Body → Input
-input_by tx from (bodies.Request request) = inputs.Request tx from request
-input_by tx from (bodies.Reply reply) = inputs.Replied tx from reply
-
-abbrev pub input_of : PacketCopy → Packet → Input
-input_of copy message = input_by copy.tx message.from message.body
-
--- what a message was to the kernel to which it came: it was taken, or nothing happened
-abbrev pub MessageGiven : ℕ → PacketCopy → Packet → Given → State → State → Type 0
-MessageGiven kernel copy message (given.Taken said) s after = after ≡ took kernel (input_of copy message) said s
-MessageGiven kernel copy message (given.Again from to what) s after = ⊥
-MessageGiven kernel copy message given.Past s after = after ≡ s
-
--- the message that a copy brings: the request of its call, or the reply to it
-abbrev pub carried : Machine → PacketCopy → Option (List ℕ)
-carried machine copy = if copy.reply then reply_of (call_of machine copy.tx) else body_of (call_of machine copy.tx)
-
--- the message that the copy brings was taken
-pub record TookMessage (kernel : ℕ) (copy : PacketCopy) (said : Said) (machine : Machine) (s after : State) : Type 0 where
-  pub message : Packet
-  pub came : IsMessage reading (carried machine copy) message
-  pub is : after ≡ took kernel (input_of copy message) said s
-
--- what a copy was to the kernel to which it came
-abbrev pub GivenBy : ℕ → PacketCopy → Given → Machine → State → State → Type 0
-GivenBy kernel copy (given.Taken said) machine s after = TookMessage kernel copy said machine s after
-GivenBy kernel copy (given.Again from to what) machine s after = after ≡ record s { told = faulted from to what s.told }
-GivenBy kernel copy given.Past machine s after = after ≡ s
-
--- whether a looked-up call is that kernel's
-abbrev pub is_from : ℕ → Option Call → Bool
-is_from kernel None = false
-is_from kernel (Some call) = call.from == kernel
+delivery copy = events.Deliver copy.tx copy.from copy.reply (named copy.about)
 
 -- the faults of packets that the kernel sent again are told
 abbrev pub resent : ℕ → List (ℕ × Fate) → State → State
 resent kernel fates s = record s { told = faulted_all kernel fates s.told }
 
--- what happened at a choice of the kernel leads from one state to the other, over a wire that stood so
-abbrev pub Done : ℕ → Act → Machine → State → State → Type 0
-Done kernel (acts.Came copy what) machine s after = GivenBy kernel copy what machine (noted_step kernel (delivery copy) s) after
-Done kernel (acts.Resent tx fates) machine s after = after ≡ resent kernel fates (noted_step kernel (Expire tx false) s)
-Done kernel (acts.GaveUp tx said) machine s after = after ≡ took kernel (inputs.GaveUp tx) said (noted_step kernel (Expire tx true) s)
-Done kernel (acts.WroteBack file block said) machine s after = after ≡ took kernel (inputs.Due file block) said s
-Done kernel acts.Nothing machine s after = after ≡ s
+-- the kernel takes an input, and says something
+pub record Takes {L : Type 0} (faults asked : L → ℕ → ℕ → ℕ) (c : Description) (kernel : ℕ) (input : Input) (old new : Wired L) (s t : State) : Type 0 where
+  pub said : Said
+  pub takes : TakesSo faults asked c kernel input said old new s t
 
--- something happened at a choice of the kernel, and the link was asked about its packets alone
-pub record Happens {L : Type 0} (faults asked : L → ℕ → ℕ → ℕ) (kernel : ℕ) (machine : Machine) (before after : L) (s t : State) : Type 0 where
-  pub act : Act
-  pub done : Done kernel act machine s t
-  pub asks : AskedIn faults asked kernel before after act
+-- the kernel takes a message of a call that came for the first time; where it was asked for a prefix and hasn't answered, it goes silent
+pub record TakesMessage {L : Type 0} (faults asked : L → ℕ → ℕ → ℕ) (c : Description) (kernel : ℕ) (tx : TxNo) (input : Input) (old new : Wired L) (s t : State) : Type 0 where
+  pub said : Said
+  pub between : Wired L
+  pub takes : TakesSo faults asked c kernel input said old between s t
+  pub silent : SilentIf faults asked (asks_prefix input && may_be_silent between.machine tx kernel) tx kernel between new
+
+-- what becomes of what a copy brought: the kernel takes a message, the fault of a reply that went out again is told, and else nothing
+-- is done
+abbrev pub Given : {L : Type 0} → (L → ℕ → ℕ → ℕ) → (L → ℕ → ℕ → ℕ) → Description → ℕ → TxNo → Arrived → Wired L → Wired L → State → State → Type 0
+Given faults asked c kernel tx (arrived.Message input) old new s t = TakesMessage faults asked c kernel tx input old new s t
+Given faults asked c kernel tx (arrived.Again from to what) old new s t = (new ≡ old) × (t ≡ record s { told = faulted from to what s.told })
+Given faults asked c kernel tx arrived.Old old new s t = (new ≡ old) × (t ≡ s)
+
+-- a copy in flight comes to the kernel
+pub record ComesSo {L : Type 0} (faults asked : L → ℕ → ℕ → ℕ) (c : Description) (kernel : ℕ) (number : CopyNo) (copy : PacketCopy) (old new : Wired L) (s t : State) : Type 0 where
+  pub came : Arrived
+  pub between : Wired L
+  pub arrives : Arrives faults asked number copy came old between
+  pub given : Given faults asked c kernel copy.tx came between new s t
+
+-- a looked-up copy comes, and that is recorded; where it isn't in flight to the kernel, nothing happens
+abbrev pub Comes : {L : Type 0} → (L → ℕ → ℕ → ℕ) → (L → ℕ → ℕ → ℕ) → Description → ℕ → CopyNo → Option PacketCopy → Wired L → Wired L → State → State → Type 0
+Comes faults asked c kernel number None old new s t = (new ≡ old) × (t ≡ s)
+Comes faults asked c kernel number (Some copy) old new s t = ComesSo faults asked c kernel number copy old new (noted_step kernel (delivery copy) s) t
+
+-- what becomes of a call whose timer fired: that is recorded, and whether it was the last time; a call that was given up is told to the
+-- kernel, and of one that was sent again the faults of its packets are told
+abbrev pub FiredAs : {L : Type 0} → (L → ℕ → ℕ → ℕ) → (L → ℕ → ℕ → ℕ) → Description → ℕ → TxNo → Expired → Wired L → Wired L → State → State → Type 0
+FiredAs faults asked c kernel tx (expired.Resent fates) old new s t = (new ≡ old) × (t ≡ resent kernel fates (noted_step kernel (events.Expire tx false) s))
+FiredAs faults asked c kernel tx (expired.GivenUp before now) old new s t = Takes faults asked c kernel (inputs.GaveUp tx) old new (noted_step kernel (events.Expire tx true) s) t
+
+-- the timer of a call of the kernel fires
+pub record FiresSo {L : Type 0} (faults asked : L → ℕ → ℕ → ℕ) (c : Description) (kernel : ℕ) (tx : TxNo) (old new : Wired L) (s t : State) : Type 0 where
+  pub what : Expired
+  pub between : Wired L
+  pub fires : Fires faults asked kernel tx what old between
+  pub then_so : FiredAs faults asked c kernel tx what between new s t
+
+-- the timer of a call fires, where it may; else nothing happens
+abbrev pub Expires : {L : Type 0} → (L → ℕ → ℕ → ℕ) → (L → ℕ → ℕ → ℕ) → Description → ℕ → TxNo → Bool → Wired L → Wired L → State → State → Type 0
+Expires faults asked c kernel tx false old new s t = (new ≡ old) × (t ≡ s)
+Expires faults asked c kernel tx true old new s t = FiresSo faults asked c kernel tx old new s t
+
+-- a choice happens at the kernel: a copy comes, exactly where it is in flight to it; a timer fires, exactly where the call is the
+-- kernel's and its timer may; or the kernel takes that a block is due
+abbrev pub Happens : {L : Type 0} → (L → ℕ → ℕ → ℕ) → (L → ℕ → ℕ → ℕ) → Description → ℕ → Choice → Wired L → Wired L → State → State → Type 0
+Happens faults asked c kernel (Deliver number) old new s t = Comes faults asked c kernel number (copy_to kernel old.machine number) old new s t
+Happens faults asked c kernel (Expire tx) old new s t = Expires faults asked c kernel tx (may_fire kernel old.machine tx) old new s t
+Happens faults asked c kernel (WriteBack file block) old new s t = Takes faults asked c kernel (inputs.Due file block) old new s t

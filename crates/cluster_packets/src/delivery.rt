@@ -1,24 +1,31 @@
-ghost use Rattle.std.specs.Prelude.{◌≡◌, IfOk, IfSome, IsTrue, OnOk, Some, option_map};
+ghost use Rattle.std.specs.Prelude.{◌≡◌, OnOk, Some, false, true};
 ghost use Rattle.unix_calls.specs.Lawful.{Lawful};
-ghost use Rattle.kernel_rpc.specs.Machine.{call_of, copy_of, may_expire};
-ghost use Rattle.cluster_calls.specs.Links.{ends_of};
-ghost use Rattle.cluster_packets.specs.Acts.{delivery, is_from, named, Done, GivenBy, Happens, MessageGiven};
-ghost use Rattle.cluster_packets.specs.Links.{AskedAt, AskedIn};
+ghost use Rattle.kernel_rpc.specs.Machine.{copy_of};
+ghost use Rattle.unix_calls.specs.declared.Event.TheVariants.{Expire as Fired};
+ghost use Rattle.kernel_steps.specs.declared.Input.TheVariants.{Due, GaveUp};
+ghost use Rattle.cluster_kernels.specs.States.{noted_step};
+ghost use Rattle.cluster_wire.specs.Noted.{faulted};
+ghost use Rattle.cluster_wire.specs.Arriving.{copy_to};
+ghost use Rattle.cluster_wire.specs.Firing.{may_fire};
+ghost use Rattle.cluster_packets.specs.Acts.{delivery, named, resent, ComesSo, Comes, Expires, FiresSo, Happens, Takes, TakesMessage};
 
-use crate::act::{Act, Given};
 use crate::choice::Choice;
 use cluster_calls::take;
-use cluster_kernels::{State, note_fault, note_faults};
-use kernel_rpc::{Delivered, Expired, PacketCopy, Wire};
+use cluster_kernels::State;
+use cluster_wire::{
+    Arrived, arrive, asks_prefix, copy_to, end_serving, fire, may_fire, note_fault, note_faults,
+};
+use kernel_rpc::{Expired, PacketCopy, Wire};
 use kernel_steps::Input;
-use link_plan::Link;
-use packet_bodies::{Body, Request};
+use link_plan::{Fate, Link};
 use sprite_ids::{BlockNo, CopyNo, FileId, Kernel, NoMemory, Pid, TxNo};
 use std::alloc::Global;
 use unix_calls::{About, Description, Event};
 use wire_format::Packet;
 
-/// The choice happens at the kernel. Where it isn't one of the kernel's, nothing does. The one error is want of memory.
+/// The choice happens at the kernel: the copy comes where it is in flight to it, the timer fires where the call is the kernel's and its
+/// timer may, or the block is written back. Where the choice isn't one of the kernel's, nothing happens. The one error is want of
+/// memory.
 pub fn happen<L: Link>(
     alloc: Global,
     c: &Description,
@@ -28,24 +35,7 @@ pub fn happen<L: Link>(
     choice: Choice,
 ) -> Result<(), NoMemory>
     requires lawful { Lawful c.now }
-    ensures { OnOk result (Happens L.faults L.asked kernel wire.old.machine wire.old.link wire.new.link state.old state.new) }
-{
-    let _act = step(alloc, c, state, wire, kernel, choice)?;
-    Ok(())
-}
-
-// The choice happens at the kernel, and what happened comes back. The one error is want of memory.
-fn step<L: Link>(
-    alloc: Global,
-    c: &Description,
-    state: &mut State,
-    wire: &mut Wire<Packet, L>,
-    kernel: Kernel,
-    choice: Choice,
-) -> Result<Act, NoMemory>
-    requires lawful { Lawful c.now }
-    ensures done { IfOk result (λ act. Done kernel act wire.old.machine state.old state.new) }
-    ensures asked { IfOk result (AskedIn L.faults L.asked kernel wire.old.link wire.new.link) }
+    ensures { OnOk result (Happens L.faults L.asked c.now kernel choice wire.old wire.new state.old state.new) }
 {
     match choice {
         Choice::Deliver(copy) => deliver(alloc, c, state, wire, kernel, copy),
@@ -65,14 +55,19 @@ fn write_back<L: Link>(
     kernel: Kernel,
     file: &FileId,
     block: BlockNo,
-) -> Result<Act, NoMemory>
+) -> Result<(), NoMemory>
     requires lawful { Lawful c.now }
-    ensures done { IfOk result (λ act. Done kernel act wire.old.machine state.old state.new) }
-    ensures asked { IfOk result (AskedIn L.faults L.asked kernel wire.old.link wire.new.link) }
+    ensures { OnOk result (Takes L.faults L.asked c.now kernel (Due file.now block) wire.old wire.new state.old state.new) }
 {
-    let input = Input::Due { file: *file, block };
-    let said = take(alloc, c, state, wire, kernel, input)?;
-    Ok(Act::WroteBack(*file, block, said))
+    let _said = take(
+        alloc,
+        c,
+        state,
+        wire,
+        kernel,
+        Input::Due { file: *file, block },
+    )?;
+    Ok(())
 }
 
 // The copy comes, where it is in flight to the kernel.
@@ -83,28 +78,16 @@ fn deliver<L: Link>(
     wire: &mut Wire<Packet, L>,
     kernel: Kernel,
     copy: CopyNo,
-) -> Result<Act, NoMemory>
+) -> Result<(), NoMemory>
     requires lawful { Lawful c.now }
-    ensures done { IfOk result (λ act. Done kernel act wire.old.machine state.old state.new) }
-    ensures asked { IfOk result (AskedIn L.faults L.asked kernel wire.old.link wire.new.link) }
+    ensures { OnOk result (Comes L.faults L.asked c.now kernel copy (copy_to kernel wire.old.machine copy) wire.old wire.new state.old state.new) }
 {
     match copy_to(wire, kernel, copy) {
         Some(packet) => {
             state.note_step(kernel, delivery(&packet))?;
-            let given = give(alloc, c, state, wire, kernel, copy, &packet)?;
-            Ok(Act::Came(packet, given))
+            come(alloc, c, state, wire, kernel, copy, &packet)
         }
-        None => Ok(Act::Nothing),
-    }
-}
-
-// The copy of that number, where it is in flight to the kernel.
-fn copy_to<L: Link>(wire: &Wire<Packet, L>, kernel: Kernel, copy: CopyNo) -> Option<PacketCopy>
-    ensures { IfSome result (λ packet. copy_of wire.now.machine copy ≡ Some packet) }
-{
-    match wire.packet(copy) {
-        Some(packet) if packet.to == kernel => Some(packet),
-        _ => None,
+        None => Ok(()),
     }
 }
 
@@ -130,9 +113,9 @@ fn named(about: Option<(Pid, u32)>) -> Option<About>
     }
 }
 
-// What the copy is to the kernel.
-#[tactic(auto, using(cluster_calls::proofs::LinkLaws::back_by, crate::proofs::ReplyLaws::reply_is_carried))]
-fn give<L: Link>(
+// The copy in flight comes to the kernel.
+#[tactic(auto, using(crate::proofs::ActLaws::message_comes, crate::proofs::ActLaws::again_comes, crate::proofs::ActLaws::old_comes))]
+fn come<L: Link>(
     alloc: Global,
     c: &Description,
     state: &mut State,
@@ -140,113 +123,42 @@ fn give<L: Link>(
     kernel: Kernel,
     copy: CopyNo,
     packet: &PacketCopy,
-) -> Result<Given, NoMemory>
+) -> Result<(), NoMemory>
     requires lawful { Lawful c.now }
     requires flying { copy_of wire.old.machine copy ≡ Some packet.now }
-    ensures given { IfOk result (λ given. GivenBy kernel packet.now given wire.old.machine state.old state.new) }
-    ensures asked { IfOk result (AskedAt L.faults L.asked kernel wire.old.link wire.new.link) }
+    ensures { OnOk result (ComesSo L.faults L.asked c.now kernel copy packet.now wire.old wire.new state.old state.new) }
 {
-    let ends = ends_of(wire, packet.tx);
-    match wire.deliver(alloc, copy)? {
-        Delivered::Request(_tx, request) => serve(alloc, c, state, wire, kernel, packet, request),
-        Delivered::Reply(_tx, reply) => hear(alloc, c, state, wire, kernel, packet, reply),
-        Delivered::Repeated(_tx, fate) => {
-            let Some((from, to)) = ends else {
-                unreachable!();
-            };
-            note_fault(&mut state.told, from, to, fate)?;
-            Ok(Given::Again { from, to, fate })
-        }
-        Delivered::Old => Ok(Given::Past),
+    match arrive(alloc, wire, copy, packet)? {
+        Arrived::Message(input) => receive(alloc, c, state, wire, kernel, packet.tx, input),
+        Arrived::Again { from, to, fate } => note_again(state, from, to, fate),
+        Arrived::Old => Ok(()),
     }
 }
 
-// From which kernel the reply of the call goes, and to which; None where the call is finished.
-fn ends_of<L: Link>(wire: &Wire<Packet, L>, tx: TxNo) -> Option<(Kernel, Kernel)>
-    ensures { result ≡ ends_of (call_of wire.now.machine tx) }
-{
-    match wire.call(tx) {
-        Some(call) => Some((call.owner, call.from)),
-        None => None,
-    }
-}
-
-// A request comes for the first time; a server that can't answer a broadcast says nothing.
-fn serve<L: Link>(
+// A request or a reply comes for the first time; a server that was asked for a prefix and hasn't answered says nothing more.
+fn receive<L: Link>(
     alloc: Global,
     c: &Description,
     state: &mut State,
     wire: &mut Wire<Packet, L>,
     kernel: Kernel,
-    copy: &PacketCopy,
-    packet: Packet,
-) -> Result<Given, NoMemory>
+    tx: TxNo,
+    input: Input,
+) -> Result<(), NoMemory>
     requires lawful { Lawful c.now }
-    ensures given { IfOk result (λ given. MessageGiven kernel copy.now packet given state.old state.new) }
-    ensures asked { IfOk result (AskedAt L.faults L.asked kernel wire.old.link wire.new.link) }
+    ensures { OnOk result (TakesMessage L.faults L.asked c.now kernel tx input wire.old wire.new state.old state.new) }
 {
-    let tx = copy.tx;
-    let Packet {
-        from,
-        to: _to,
-        tx: _tx,
-        body,
-    } = packet;
-    match body {
-        Body::Request(body) => {
-            let asks_prefix = is_prefix(&body);
-            let input = Input::Request { tx, from, body };
-            let said = take(alloc, c, state, wire, kernel, input)?;
-            end_serving(wire, kernel, tx, asks_prefix);
-            Ok(Given::Taken(said))
-        }
-        Body::Reply(_) => Ok(Given::Past),
-    }
+    let asks = asks_prefix(&input);
+    let _said = take(alloc, c, state, wire, kernel, input)?;
+    end_serving(wire, kernel, tx, asks);
+    Ok(())
 }
 
-// A server that was asked for a prefix and has not answered goes silent.
-fn end_serving<L: Link>(wire: &mut Wire<Packet, L>, kernel: Kernel, tx: TxNo, asks_prefix: bool)
-    ensures { wire.new.link ≡ wire.old.link }
+// A reply went out again.
+fn note_again(state: &mut State, from: Kernel, to: Kernel, fate: Fate) -> Result<(), NoMemory>
+    ensures { OnOk result (state.new ≡ record state.old { told = faulted from to fate state.old.told }) }
 {
-    if asks_prefix && wire.may_be_silent(tx, kernel) {
-        wire.silent(tx, kernel);
-    }
-}
-
-// The reply to a call of the kernel comes for the first time.
-fn hear<L: Link>(
-    alloc: Global,
-    c: &Description,
-    state: &mut State,
-    wire: &mut Wire<Packet, L>,
-    kernel: Kernel,
-    copy: &PacketCopy,
-    packet: Packet,
-) -> Result<Given, NoMemory>
-    requires lawful { Lawful c.now }
-    ensures given { IfOk result (λ given. MessageGiven kernel copy.now packet given state.old state.new) }
-    ensures asked { IfOk result (AskedAt L.faults L.asked kernel wire.old.link wire.new.link) }
-{
-    let tx = copy.tx;
-    let Packet {
-        from,
-        to: _to,
-        tx: _tx,
-        body,
-    } = packet;
-    match body {
-        Body::Reply(body) => {
-            let input = Input::Replied { tx, from, body };
-            let said = take(alloc, c, state, wire, kernel, input)?;
-            Ok(Given::Taken(said))
-        }
-        Body::Request(_) => Ok(Given::Past),
-    }
-}
-
-// Whether a request asks for the server of a prefix.
-fn is_prefix(body: &Request) -> bool {
-    matches!(body, Request::Prefix { .. })
+    note_fault(&mut state.told, from, to, fate)
 }
 
 // The timer of a call fires, where the call is the kernel's and its timer may.
@@ -257,35 +169,62 @@ fn expire<L: Link>(
     wire: &mut Wire<Packet, L>,
     kernel: Kernel,
     tx: TxNo,
-) -> Result<Act, NoMemory>
+) -> Result<(), NoMemory>
     requires lawful { Lawful c.now }
-    ensures done { IfOk result (λ act. Done kernel act wire.old.machine state.old state.new) }
-    ensures asked { IfOk result (AskedIn L.faults L.asked kernel wire.old.link wire.new.link) }
+    ensures { OnOk result (Expires L.faults L.asked c.now kernel tx (may_fire kernel wire.old.machine tx) wire.old wire.new state.old state.new) }
 {
-    if !may_expire(wire, kernel, tx) {
-        return Ok(Act::Nothing);
+    if !may_fire(wire, kernel, tx) {
+        return Ok(());
     }
-    match wire.expire(alloc, tx)? {
-        Expired::GivenUp { .. } => {
-            state.note_step(kernel, Event::Expire { tx, last: true })?;
-            let said = take(alloc, c, state, wire, kernel, Input::GaveUp { tx })?;
-            Ok(Act::GaveUp(tx, said))
-        }
-        Expired::Resent(fates) => {
-            state.note_step(kernel, Event::Expire { tx, last: false })?;
-            note_faults(&mut state.told, kernel, fates.as_slice())?;
-            Ok(Act::Resent(tx, fates))
-        }
+    expire_now(alloc, c, state, wire, kernel, tx)
+}
+
+// The timer of a call of the kernel fires.
+#[tactic(auto, using(crate::proofs::ActLaws::other_fires))]
+fn expire_now<L: Link>(
+    alloc: Global,
+    c: &Description,
+    state: &mut State,
+    wire: &mut Wire<Packet, L>,
+    kernel: Kernel,
+    tx: TxNo,
+) -> Result<(), NoMemory>
+    requires lawful { Lawful c.now }
+    requires may { may_fire kernel wire.old.machine tx ≡ true }
+    ensures { OnOk result (FiresSo L.faults L.asked c.now kernel tx wire.old wire.new state.old state.new) }
+{
+    match fire(alloc, wire, kernel, tx)? {
+        Expired::GivenUp { .. } => give_up(alloc, c, state, wire, kernel, tx),
+        Expired::Resent(fates) => note_resent(state, kernel, tx, fates.as_slice()),
     }
 }
 
-// Whether the call is the kernel's and its timer may fire.
-fn may_expire<L: Link>(wire: &Wire<Packet, L>, kernel: Kernel, tx: TxNo) -> bool
-    ensures may { IsTrue result → IsTrue (may_expire wire.now.machine tx) }
-    ensures own { IsTrue result → IsTrue (is_from kernel (call_of wire.now.machine tx)) }
+// The timer fired for the last time.
+fn give_up<L: Link>(
+    alloc: Global,
+    c: &Description,
+    state: &mut State,
+    wire: &mut Wire<Packet, L>,
+    kernel: Kernel,
+    tx: TxNo,
+) -> Result<(), NoMemory>
+    requires lawful { Lawful c.now }
+    ensures { OnOk result (Takes L.faults L.asked c.now kernel (GaveUp tx) wire.old wire.new (noted_step kernel (Fired tx true) state.old) state.new) }
 {
-    match wire.call(tx) {
-        Some(call) => call.from == kernel && wire.may_expire(tx),
-        None => false,
-    }
+    state.note_step(kernel, Event::Expire { tx, last: true })?;
+    let _said = take(alloc, c, state, wire, kernel, Input::GaveUp { tx })?;
+    Ok(())
+}
+
+// The request went out again.
+fn note_resent(
+    state: &mut State,
+    kernel: Kernel,
+    tx: TxNo,
+    fates: &[(Kernel, Fate)],
+) -> Result<(), NoMemory>
+    ensures { OnOk result (state.new ≡ resent kernel fates.now (noted_step kernel (Fired tx false) state.old)) }
+{
+    state.note_step(kernel, Event::Expire { tx, last: false })?;
+    note_faults(&mut state.told, kernel, fates)
 }

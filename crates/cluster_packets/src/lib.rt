@@ -2,12 +2,10 @@
 //! block is written back.
 #![tactic(auto)]
 
-mod act;
 mod choice;
 mod choosing;
 mod delivery;
 
-pub use act::{Act, Given};
 pub use choice::Choice;
 pub use choosing::choices;
 pub use delivery::happen;

@@ -17,8 +17,10 @@ use Rattle.kernel_threads.specs.Steps.{MayMove}
 use Rattle.turn_gate.specs.Steps.{AllBy, Grows}
 use Rattle.cluster_kernels.specs.declared.State.{State}
 use Rattle.cluster_kernels.specs.Kernels.{has_ended}
-use Rattle.cluster_kernels.specs.Faults.{FaultsTold, faults_told, is_fault_between}
+use Rattle.cluster_wire.specs.Faults.{FaultsTold, faults_told, is_fault_between}
 use Rattle.cluster_packets.specs.Choosing.{choices_at}
+use Rattle.cluster_packets.specs.declared.Choice.{Choice}
+use Rattle.kernel_rpc.specs.Sound.{Wired}
 use Rattle.cluster_packets.proofs.ActLaws.{out_happening, told_happening}
 use Rattle.cluster_bursts.specs.Bursts.{has_job_at}
 use Rattle.cluster_bursts.specs.declared.Burst.{Burst}
@@ -176,40 +178,40 @@ adds_of {L} faults kernel old now told same begun unclosed written some more hel
 }
 
 -- a step
-pub step_adds : {L : Type 0} (faults asked : L → ℕ → ℕ → ℕ) (kernel : ℕ) (old now : Cluster L) (r : Result (Unit {0}) NoMemory) → OnOk r (Moved faults asked kernel old.wire.machine old.wire.link now.wire.link old.state now.state old.trace now.trace) → OnOk r (now.closed ≡ old.closed) → now.description ≡ old.description → now.begun ≡ old.begun → Holds faults old.description old.closed old.begun.value old.wire.link old.trace → OnOk r (Adds {O = Origin L} (λ (v : Cluster L). record { description = v.description; link = v.begun }) (λ (v : Cluster L). log_of v.trace) (λ (v : Cluster L). Holds faults v.description v.closed v.begun.value v.wire.link v.trace) kernel old now)
-step_adds faults asked kernel old now (Ok x) moved unclosed same begun held =
-    adds_of faults kernel old now moved.turn.told same begun unclosed moved.written moved.some_told (told_happening faults asked kernel old.wire.machine old.wire.link now.wire.link (begun_turn old.state) moved.turn moved.happens) held
-step_adds faults asked kernel old now (Err e) moved unclosed same begun held = tt
+pub step_adds : {L : Type 0} (faults asked : L → ℕ → ℕ → ℕ) (kernel : ℕ) (choice : Choice) (old now : Cluster L) (r : Result (Unit {0}) NoMemory) → OnOk r (Moved faults asked old.description kernel choice old.wire now.wire old.state now.state old.trace now.trace) → OnOk r (now.closed ≡ old.closed) → now.description ≡ old.description → now.begun ≡ old.begun → Holds faults old.description old.closed old.begun.value old.wire.link old.trace → OnOk r (Adds {O = Origin L} (λ (v : Cluster L). record { description = v.description; link = v.begun }) (λ (v : Cluster L). log_of v.trace) (λ (v : Cluster L). Holds faults v.description v.closed v.begun.value v.wire.link v.trace) kernel old now)
+step_adds faults asked kernel choice old now (Ok x) moved unclosed same begun held =
+    adds_of faults kernel old now moved.turn.told same begun unclosed moved.written moved.some_told (told_happening faults asked old.description kernel choice old.wire now.wire (begun_turn old.state) moved.turn moved.happens) held
+step_adds faults asked kernel choice old now (Err e) moved unclosed same begun held = tt
 
-pub step_keeps_out : {L : Type 0} (faults asked : L → ℕ → ℕ → ℕ) (kernel : ℕ) (old now : Cluster L) (r : Result (Unit {0}) NoMemory) → OnOk r (Moved faults asked kernel old.wire.machine old.wire.link now.wire.link old.state now.state old.trace now.trace) → OnOk r (length now.state.out ≡ length old.state.out)
-step_keeps_out faults asked kernel old now (Ok x) moved = ap (λ (s : State). length s.out) moved.stands ∙ ap length (out_happening faults asked kernel old.wire.machine old.wire.link now.wire.link (begun_turn old.state) moved.turn moved.happens)
-step_keeps_out faults asked kernel old now (Err e) moved = tt
+pub step_keeps_out : {L : Type 0} (faults asked : L → ℕ → ℕ → ℕ) (kernel : ℕ) (choice : Choice) (old now : Cluster L) (r : Result (Unit {0}) NoMemory) → OnOk r (Moved faults asked old.description kernel choice old.wire now.wire old.state now.state old.trace now.trace) → OnOk r (length now.state.out ≡ length old.state.out)
+step_keeps_out faults asked kernel choice old now (Ok x) moved = ap (λ (s : State). length s.out) moved.stands ∙ ap length (out_happening faults asked old.description kernel choice old.wire now.wire (begun_turn old.state) moved.turn moved.happens)
+step_keeps_out faults asked kernel choice old now (Err e) moved = tt
 
 -- a burst that was taken
-pub taken_adds : {L : Type 0} (faults asked : L → ℕ → ℕ → ℕ) (kernel : ℕ) (b : Burst) (old now : Cluster L) → TookBurst faults asked kernel b old.wire.link now.wire.link old.state now.state old.trace now.trace → now.closed ≡ old.closed → now.description ≡ old.description → now.begun ≡ old.begun → Holds faults old.description old.closed old.begun.value old.wire.link old.trace → Adds {O = Origin L} (λ (v : Cluster L). record { description = v.description; link = v.begun }) (λ (v : Cluster L). log_of v.trace) (λ (v : Cluster L). Holds faults v.description v.closed v.begun.value v.wire.link v.trace) kernel old now
+pub taken_adds : {L : Type 0} (faults asked : L → ℕ → ℕ → ℕ) (kernel : ℕ) (b : Burst) (old now : Cluster L) → TookBurst faults asked old.description kernel b old.wire now.wire old.state now.state old.trace now.trace → now.closed ≡ old.closed → now.description ≡ old.description → now.begun ≡ old.begun → Holds faults old.description old.closed old.begun.value old.wire.link old.trace → Adds {O = Origin L} (λ (v : Cluster L). record { description = v.description; link = v.begun }) (λ (v : Cluster L). log_of v.trace) (λ (v : Cluster L). Holds faults v.description v.closed v.begun.value v.wire.link v.trace) kernel old now
 taken_adds faults asked kernel burst old now took unclosed same begun held =
-    adds_of faults kernel old now took.turn.told same begun unclosed took.written took.some_told (told_ends faults asked kernel burst true old.wire.link now.wire.link (begun_turn old.state) took.turn took.ends) held
+    adds_of faults kernel old now took.turn.told same begun unclosed took.written took.some_told (told_ends faults asked old.description kernel burst true old.wire now.wire (begun_turn old.state) took.turn took.ends) held
 
-pub taken_out : {L : Type 0} (faults asked : L → ℕ → ℕ → ℕ) (kernel : ℕ) (b : Burst) (before after : L) (s t : State) (old new : List Rec) → TookBurst faults asked kernel b before after s t old new → length t.out + 1 ≡ length s.out
-taken_out faults asked kernel burst before after s t old new took = ap (λ (s : State). length s.out + 1) took.stands ∙ out_ends faults asked kernel burst before after (begun_turn s) took.turn took.ends
+pub taken_out : {L : Type 0} (faults asked : L → ℕ → ℕ → ℕ) (c : Description) (kernel : ℕ) (b : Burst) (before after : Wired L) (s t : State) (old new : List Rec) → TookBurst faults asked c kernel b before after s t old new → length t.out + 1 ≡ length s.out
+taken_out faults asked c kernel burst before after s t old new took = ap (λ (s : State). length s.out + 1) took.stands ∙ out_ends faults asked c kernel burst before after (begun_turn s) took.turn took.ends
 
 -- one that was lost
-pub stale_keeps : {L : Type 0} (faults asked : L → ℕ → ℕ → ℕ) (kernel : ℕ) (b : Burst) (old now : Cluster L) → Ends faults asked kernel b false old.wire.link now.wire.link (begun_turn old.state) now.state → now.trace ≡ old.trace → now.closed ≡ old.closed → now.description ≡ old.description → now.begun ≡ old.begun → Holds faults old.description old.closed old.begun.value old.wire.link old.trace → Stays {O = Origin L} (λ (v : Cluster L). record { description = v.description; link = v.begun }) (λ (v : Cluster L). log_of v.trace) (λ (v : Cluster L). Holds faults v.description v.closed v.begun.value v.wire.link v.trace) old now
+pub stale_keeps : {L : Type 0} (faults asked : L → ℕ → ℕ → ℕ) (kernel : ℕ) (b : Burst) (old now : Cluster L) → Ends faults asked old.description kernel b false old.wire now.wire (begun_turn old.state) now.state → now.trace ≡ old.trace → now.closed ≡ old.closed → now.description ≡ old.description → now.begun ≡ old.begun → Holds faults old.description old.closed old.begun.value old.wire.link old.trace → Stays {O = Origin L} (λ (v : Cluster L). record { description = v.description; link = v.begun }) (λ (v : Cluster L). log_of v.trace) (λ (v : Cluster L). Holds faults v.description v.closed v.begun.value v.wire.link v.trace) old now
 stale_keeps {L} faults asked kernel burst old now ends written unclosed same begun held = record {
   origin_stays = ap₂ (λ (d : Description) (l : Snapshot L). record { description = d; link = l }) same begun;
   log_stays = ap log_of written;
   still_holds = record {
     lawful = subst Lawful (sym same) held.lawful;
     tells = λ is a b. (let so_far = held.tells (sym unclosed ∙ is) a b in
-        let more = told_ends faults asked kernel burst false old.wire.link now.wire.link (begun_turn old.state) now.state ends a b in
+        let more = told_ends faults asked old.description kernel burst false old.wire now.wire (begun_turn old.state) now.state ends a b in
         let one = ap (λ (l : Snapshot L). faults l.value a b) begun in
         let two = ap (faults_between a b) written in omega arith);
   };
 }
 
-pub stale_out : {L : Type 0} (faults asked : L → ℕ → ℕ → ℕ) (kernel : ℕ) (b : Burst) (before after : L) (s t : State) → Ends faults asked kernel b false before after (begun_turn s) t → (length t.out ≤ length s.out) × (length s.out ≤ length t.out + 1)
-stale_out faults asked kernel burst before after s t ends =
-    subst (λ (t : State). (length t.out ≤ length s.out) × (length s.out ≤ length t.out + 1)) (sym (stale_ends faults asked kernel burst before after (begun_turn s) t ends).1) (out_less kernel burst (begun_turn s))
+pub stale_out : {L : Type 0} (faults asked : L → ℕ → ℕ → ℕ) (c : Description) (kernel : ℕ) (b : Burst) (before after : Wired L) (s t : State) → Ends faults asked c kernel b false before after (begun_turn s) t → (length t.out ≤ length s.out) × (length s.out ≤ length t.out + 1)
+stale_out faults asked c kernel burst before after s t ends =
+    subst (λ (t : State). (length t.out ≤ length s.out) × (length s.out ≤ length t.out + 1)) (sym (stale_ends faults asked c kernel burst before after (begun_turn s) t ends).1) (out_less kernel burst (begun_turn s))
 
 -- the job that was begun, done, would count
 pub counts_after : (c : Description) (kernel : ℕ) (s t : State) (r : Result (Option Job) NoMemory) → IfOk r (λ job. job ≡ job_at c kernel s) → IfOk r (λ job. t ≡ begun_by kernel job s) → IfOk r (λ job. IfSome job (λ j. (b : Burst) → IsDone j b → counts kernel b t ≡ true))

@@ -4,7 +4,7 @@ use Rattle.unix_calls.specs.declared.Description.{Description}
 use Rattle.unix_calls.specs.declared.Event.{Event}
 use Rattle.unix_calls.specs.declared.Rec.{Rec}
 use Rattle.unix_calls.specs.Lawful.{Lawful}
-use Rattle.cluster_kernels.specs.Faults.{is_fault_between}
+use Rattle.cluster_wire.specs.Faults.{is_fault_between}
 
 -- what a kernel told, as records of it
 abbrev pub records_of : ℕ → List Event → List Rec

@@ -2,9 +2,11 @@
 use Rattle.std.specs.Prelude.{◌≡◌, ℕ, ◌++◌, ◌<◌, Bool, true, false, List, [], length}
 use Rattle.kernel_threads.specs.declared.EndBurst.{EndBurst}
 use Rattle.kernel_threads.specs.declared.EndBurst.TheVariants.{Taken, Stale}
-use Rattle.kernel_rpc.specs.Machine.{Machine}
+use Rattle.kernel_rpc.specs.Sound.{Wired}
+use Rattle.unix_calls.specs.declared.Description.{Description}
 use Rattle.unix_calls.specs.declared.Rec.{Rec}
 use Rattle.cluster_kernels.specs.declared.State.{State}
+use Rattle.cluster_packets.specs.declared.Choice.{Choice}
 use Rattle.cluster_packets.specs.Acts.{Happens}
 use Rattle.cluster_bursts.specs.declared.Burst.{Burst}
 use Rattle.cluster_bursts.specs.Ends.{Ends}
@@ -15,22 +17,22 @@ abbrev pub begun_turn : State → State
 begun_turn s = record s { told = [] }
 
 -- a choice of the kernel happened, and all that the kernel told, which is something, stands in the trace
-pub record Moved {L : Type 0} (faults asked : L → ℕ → ℕ → ℕ) (kernel : ℕ) (machine : Machine) (before after : L) (s t : State) (old new : List Rec) : Type 0 where
+pub record Moved {L : Type 0} (faults asked : L → ℕ → ℕ → ℕ) (c : Description) (kernel : ℕ) (choice : Choice) (before after : Wired L) (s t : State) (old new : List Rec) : Type 0 where
   pub turn : State
-  pub happens : Happens faults asked kernel machine before after (begun_turn s) turn
+  pub happens : Happens faults asked c kernel choice before after (begun_turn s) turn
   pub stands : t ≡ begun_turn turn
   pub written : new ≡ old ++ records_of kernel turn.told
   pub some_told : 0 < length turn.told
 
 -- a burst of the kernel that counted ended, and all that the kernel told, which is something, stands in the trace
-pub record TookBurst {L : Type 0} (faults asked : L → ℕ → ℕ → ℕ) (kernel : ℕ) (b : Burst) (before after : L) (s t : State) (old new : List Rec) : Type 0 where
+pub record TookBurst {L : Type 0} (faults asked : L → ℕ → ℕ → ℕ) (c : Description) (kernel : ℕ) (b : Burst) (before after : Wired L) (s t : State) (old new : List Rec) : Type 0 where
   pub turn : State
-  pub ends : Ends faults asked kernel b true before after (begun_turn s) turn
+  pub ends : Ends faults asked c kernel b true before after (begun_turn s) turn
   pub stands : t ≡ begun_turn turn
   pub written : new ≡ old ++ records_of kernel turn.told
   pub some_told : 0 < length turn.told
 
 -- a burst of the kernel ended: where it counted, it was taken, and else lost, and nothing is written
-abbrev pub EndedSo : {L : Type 0} → (L → ℕ → ℕ → ℕ) → (L → ℕ → ℕ → ℕ) → ℕ → Burst → EndBurst → L → L → State → State → List Rec → List Rec → Type 0
-EndedSo faults asked kernel b Taken before after s t old new = TookBurst faults asked kernel b before after s t old new
-EndedSo faults asked kernel b Stale before after s t old new = Ends faults asked kernel b false before after (begun_turn s) t × (new ≡ old)
+abbrev pub EndedSo : {L : Type 0} → (L → ℕ → ℕ → ℕ) → (L → ℕ → ℕ → ℕ) → Description → ℕ → Burst → EndBurst → Wired L → Wired L → State → State → List Rec → List Rec → Type 0
+EndedSo faults asked c kernel b Taken before after s t old new = TookBurst faults asked c kernel b before after s t old new
+EndedSo faults asked c kernel b Stale before after s t old new = Ends faults asked c kernel b false before after (begun_turn s) t × (new ≡ old)

@@ -99,7 +99,7 @@ impl<L: Link> Cluster<L> {
     /// The choice, one of the kernel's, happens. The one error is want of memory.
     pub fn step(&mut self, alloc: Global, kernel: Kernel, choice: Choice) -> Result<(), NoMemory>
         requires lawful { Lawful self.old.description }
-        ensures ok { OnOk result (Moved L.faults L.asked kernel self.old.wire.machine self.old.wire.link self.new.wire.link self.old.state self.new.state self.old.trace self.new.trace) }
+        ensures ok { OnOk result (Moved L.faults L.asked self.old.description kernel choice self.old.wire self.new.wire self.old.state self.new.state self.old.trace self.new.trace) }
         ensures open { OnOk result (self.new.closed ≡ self.old.closed) }
         ensures err { OnErr result (self.new.closed ≡ true) }
         ensures err_trace { OnErr result (self.new.trace ≡ self.old.trace) }
@@ -194,7 +194,7 @@ impl<L: Link> Cluster<L> {
     ) -> Result<EndBurst, NoMemory>
         requires lawful { Lawful self.old.description }
         requires ends { EndsSo burst }
-        ensures ok { IfOk result (λ end. EndedSo L.faults L.asked kernel burst end self.old.wire.link self.new.wire.link self.old.state self.new.state self.old.trace self.new.trace) }
+        ensures ok { IfOk result (λ end. EndedSo L.faults L.asked self.old.description kernel burst end self.old.wire self.new.wire self.old.state self.new.state self.old.trace self.new.trace) }
         ensures open { OnOk result (self.new.closed ≡ self.old.closed) }
         ensures err { OnErr result (self.new.closed ≡ true) }
         ensures err_trace { OnErr result (self.new.trace ≡ self.old.trace) }

@@ -1,0 +1,7 @@
+pub mod FaultLaws
+pub mod LinkLaws
+pub mod ServerLaws
+pub mod RanLaws
+pub mod CallLaws
+pub mod ReplyLaws
+pub mod ComeLaws

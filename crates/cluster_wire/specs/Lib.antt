@@ -1,0 +1,9 @@
+pub mod Faults
+pub mod Links
+pub mod Noted
+pub mod Ran
+pub mod Goings
+pub mod Calling
+pub mod Replying
+pub mod Arriving
+pub mod Firing
