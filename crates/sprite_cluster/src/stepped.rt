@@ -20,7 +20,7 @@ impl<L: Link> Book for Cluster<L> {
 
     ghost origin = { λ v. record { description = v.description; link = v.begun } };
 
-    ghost holds = { λ v. Holds L.faults v.description v.closed v.begun.value v.wire.link v.trace };
+    ghost holds = { λ v. Holds L.faults L.asked v.description v.closed v.begun.value v.wire v.trace };
 
     ghost log = { λ v. log_of v.trace };
 

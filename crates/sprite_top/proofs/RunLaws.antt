@@ -6,7 +6,8 @@ use Rattle.std.proofs.lemmas.Bool.{and_parts, leb-true}
 use Rattle.sprite_ids.specs.declared.running.Finish.{Finish}
 use Rattle.sprite_ids.specs.declared.running.Finish.TheVariants as finish
 use Rattle.call_journal.specs.Units.{units_of}
-use Rattle.kernel_rpc.specs.Machine.{Machine}
+use Rattle.kernel_rpc.specs.Machine.{Machine, idle}
+use Rattle.cluster_wire.proofs.RanLaws.{on_none}
 use Rattle.unix_calls.specs.declared.description.Description.{Description}
 use Rattle.unix_calls.specs.declared.Rec.{Rec}
 use Rattle.unix_calls.specs.Domains.{roots_of}
@@ -70,8 +71,8 @@ close_run c closed after trace machine s end run stands enough same is = record 
 }
 
 -- and its trace tells of no more faults than the link counted since before the boot
-pub close_tells : {L : Type 0} (faults : L → ℕ → ℕ → ℕ) (old now : Cluster L) (after : L) (run : Closed) → (now.closed ≡ false → now ≡ old) → now.closed ≡ false → Holds faults old.description old.closed old.begun.value old.wire.link old.trace → after ≡ now.wire.link → run.trace ≡ now.trace → (a b : ℕ) → faults old.begun.value a b + faults_between a b run.trace ≤ faults after a b
-close_tells {L} faults old now after run stays unclosed held link trace a b =
+pub close_tells : {L : Type 0} (faults asked : L → ℕ → ℕ → ℕ) (old now : Cluster L) (after : L) (run : Closed) → (now.closed ≡ false → now ≡ old) → now.closed ≡ false → Holds faults asked old.description old.closed old.begun.value old.wire old.trace → after ≡ now.wire.link → run.trace ≡ now.trace → (a b : ℕ) → faults old.begun.value a b + faults_between a b run.trace ≤ faults after a b
+close_tells {L} faults asked old now after run stays unclosed held link trace a b =
     (let same = stays unclosed in
     let told = held.tells (sym (ap (λ (v : Cluster L). v.closed) same) ∙ unclosed) a b in
     let links = ap (λ (v : Cluster L). faults v.wire.link a b) same in
@@ -80,18 +81,24 @@ close_tells {L} faults old now after run stays unclosed held link trace a b =
     let tells = ap (faults_between a b) trace in omega arith)
 
 -- what is always true of a cluster is true as it is booted
-pub boot_holds : {L : Type 0} (faults asked : L → ℕ → ℕ → ℕ) (link : L) (c : Description) (cluster : Cluster L) → Lawful c → cluster.description ≡ c → cluster.trace ≡ [] → cluster.begun.value ≡ link → Stay (faults link) (asked link) (faults cluster.wire.link) (asked cluster.wire.link) → Holds faults cluster.description cluster.closed cluster.begun.value cluster.wire.link cluster.trace
-boot_holds faults asked link c cluster lawful same none begun stay = record {
+pub boot_holds : {L : Type 0} (faults asked : L → ℕ → ℕ → ℕ) (link : L) (c : Description) (cluster : Cluster L) → Lawful c → cluster.description ≡ c → cluster.trace ≡ [] → cluster.begun.value ≡ link → cluster.wire.machine ≡ idle → Stay (faults link) (asked link) (faults cluster.wire.link) (asked cluster.wire.link) → Holds faults asked cluster.description cluster.closed cluster.begun.value cluster.wire cluster.trace
+boot_holds {L} faults asked link c cluster lawful same none begun idles stay = record {
   lawful = subst Lawful (sym same) lawful;
   tells = λ is a b. (let told : faults_between a b cluster.trace ≡ 0 = ap (faults_between a b) none in
       let first = ap (λ l. faults l a b) begun in
       let counts = stay.faults_stay a b in omega arith);
+  reached = λ is. record {
+    first = cluster.wire;
+    idles = idles;
+    counts = subst (λ (l : L). Stay (faults l) (asked l) (faults cluster.wire.link) (asked cluster.wire.link)) (sym begun) stay;
+    runs = on_none faults asked cluster.wire cluster.wire refl;
+  };
 }
 
 -- a run keeps what never changes, and what is always true
-same_of : {L : Type 0} (faults : L → ℕ → ℕ → ℕ) (kernels : ℕ) (old now : Cluster L) → Ran {O = Origin L} (λ (v : Cluster L). record { description = v.description; link = v.begun }) (λ (v : Cluster L). log_of v.trace) (λ (v : Cluster L). Holds faults v.description v.closed v.begun.value v.wire.link v.trace) kernels old now → IsSameRun faults old now
-same_of {L} faults kernels old now ran = record { described = ap (λ (o : Origin L). o.description) ran.origin_stays; begun_so = ap (λ (o : Origin L). o.link) ran.origin_stays; holds = ran.still_holds }
+same_of : {L : Type 0} (faults asked : L → ℕ → ℕ → ℕ) (kernels : ℕ) (old now : Cluster L) → Ran {O = Origin L} (λ (v : Cluster L). record { description = v.description; link = v.begun }) (λ (v : Cluster L). log_of v.trace) (λ (v : Cluster L). Holds faults asked v.description v.closed v.begun.value v.wire v.trace) kernels old now → IsSameRun faults asked old now
+same_of {L} faults asked kernels old now ran = record { described = ap (λ (o : Origin L). o.description) ran.origin_stays; begun_so = ap (λ (o : Origin L). o.link) ran.origin_stays; holds = ran.still_holds }
 
-pub same_run : {L : Type 0} (faults : L → ℕ → ℕ → ℕ) (kernels : ℕ) (old : Cluster L) (r : Result (Cluster L) (Cluster L)) → IfOk r (λ now. Ran {O = Origin L} (λ (v : Cluster L). record { description = v.description; link = v.begun }) (λ (v : Cluster L). log_of v.trace) (λ (v : Cluster L). Holds faults v.description v.closed v.begun.value v.wire.link v.trace) kernels old now) → IfOk r (IsSameRun faults old)
-same_run faults kernels old (Ok now) ran = same_of faults kernels old now ran
-same_run faults kernels old (Err e) ran = tt
+pub same_run : {L : Type 0} (faults asked : L → ℕ → ℕ → ℕ) (kernels : ℕ) (old : Cluster L) (r : Result (Cluster L) (Cluster L)) → IfOk r (λ now. Ran {O = Origin L} (λ (v : Cluster L). record { description = v.description; link = v.begun }) (λ (v : Cluster L). log_of v.trace) (λ (v : Cluster L). Holds faults asked v.description v.closed v.begun.value v.wire v.trace) kernels old now) → IfOk r (IsSameRun faults asked old)
+same_run faults asked kernels old (Ok now) ran = same_of faults asked kernels old now ran
+same_run faults asked kernels old (Err e) ran = tt

@@ -128,10 +128,10 @@ pub record IsRun (c : Description) (run : Closed) : Type 0 where
   pub spent : IsSpent c run.trace run.finish
 
 -- a cluster after a run of it: it is what it was, over the same link
-pub record IsSameRun {L : Type 0} (faults : L → ℕ → ℕ → ℕ) (old new : Cluster L) : Type 0 where
+pub record IsSameRun {L : Type 0} (faults asked : L → ℕ → ℕ → ℕ) (old new : Cluster L) : Type 0 where
   pub described : new.description ≡ old.description
   pub begun_so : new.begun ≡ old.begun
-  pub holds : Holds faults new.description new.closed new.begun.value new.wire.link new.trace
+  pub holds : Holds faults asked new.description new.closed new.begun.value new.wire new.trace
 
 -- nothing was run, and that line is due
 pub record IsLine (closed : Option Closed) (due line : List ℕ) : Type 0 where

@@ -75,7 +75,7 @@ fn run_booted<R: Threads + Wait + Sync, L: Link + Send, W: Watch + Sync>(
     turns: Turns,
     watch: &W,
 ) -> (Result<Closed, NoMemory>, L)
-    requires holds { Holds L.faults cluster.description cluster.closed cluster.begun.value cluster.wire.link cluster.trace }
+    requires holds { Holds L.faults L.asked cluster.description cluster.closed cluster.begun.value cluster.wire cluster.trace }
     requires none_out { cluster.state.out ≡ [] }
     ensures run { IfOk result.0 (IsRun cluster.description) }
     ensures faults { IfOk result.0 (λ run. TellsFaults L.faults cluster.begun.value result.1 (Some run)) }
@@ -98,9 +98,9 @@ fn run_by<R: Threads + Wait + Sync, L: Link + Send, W: Watch + Sync>(
     turns: Turns,
     watch: &W,
 ) -> Result<Cluster<L>, Cluster<L>>
-    requires holds { Holds L.faults cluster.description cluster.closed cluster.begun.value cluster.wire.link cluster.trace }
+    requires holds { Holds L.faults L.asked cluster.description cluster.closed cluster.begun.value cluster.wire cluster.trace }
     requires none_out { cluster.state.out ≡ [] }
-    ensures { IfOk result (IsSameRun L.faults cluster) }
+    ensures { IfOk result (IsSameRun L.faults L.asked cluster) }
 {
     let Ok(kernels) = u8::try_from(cluster.description.kernels.len()) else {
         return Err(cluster);
@@ -113,7 +113,7 @@ fn run_by<R: Threads + Wait + Sync, L: Link + Send, W: Watch + Sync>(
 
 // The run of a cluster that came to its end. The one error is want of memory.
 fn close<L: Link>(alloc: Global, cluster: Cluster<L>) -> (Result<Closed, NoMemory>, L)
-    requires holds { Holds L.faults cluster.description cluster.closed cluster.begun.value cluster.wire.link cluster.trace }
+    requires holds { Holds L.faults L.asked cluster.description cluster.closed cluster.begun.value cluster.wire cluster.trace }
     ensures run { IfOk result.0 (IsRun cluster.description) }
     ensures faults { IfOk result.0 (λ run. TellsFaults L.faults cluster.begun.value result.1 (Some run)) }
 {
