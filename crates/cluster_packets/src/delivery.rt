@@ -23,9 +23,9 @@ use std::alloc::Global;
 use unix_calls::{About, Description, Event};
 use wire_format::Packet;
 
-/// The choice happens at the kernel: the copy comes where it is in flight to it, the timer fires where the call is the kernel's and its
-/// timer may, or the block is written back. Where the choice isn't one of the kernel's, nothing happens. The one error is want of
-/// memory.
+/// The choice happens at the kernel: the copy comes, where it is in flight to it; the timer fires, where the call is the kernel's and its
+/// timer may; or the kernel takes that the block is due to be written back. A copy or a timer that isn't the kernel's to choose changes
+/// nothing. The one error is want of memory.
 pub fn happen<L: Link>(
     alloc: Global,
     c: &Description,
