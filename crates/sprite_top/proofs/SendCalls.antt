@@ -1,8 +1,6 @@
 -- What crosses threads with a cluster: remote calls.
-use denote.Param.Send.{IsSend, IsSync, sendable}
-use denote.Param.SendFields.{as_row_send, declared_send, variants_send}
-use Rattle.std.proofs.Crossing.{crosses}
-use Rattle.std.proofs.MapsCrossing as maps
+use denote.Param.Send.{IsSend}
+use denote.Param.SendFields.{declared_send}
 use Rattle.sprite_top.proofs.SendRecords.{whole, bytes_sends}
 use Rattle.kernel_rpc.specs.contracts.call.Call as call
 use Rattle.kernel_rpc.specs.contracts.table.CallTable as call_table

@@ -1,8 +1,6 @@
 -- What crosses threads with a cluster: a client's kernel.
-use denote.Param.Send.{IsSend, IsSync, sendable}
-use denote.Param.SendFields.{as_row_send, declared_send, variants_send}
-use Rattle.std.proofs.Crossing.{crosses}
-use Rattle.std.proofs.MapsCrossing as maps
+use denote.Param.Send.{IsSend}
+use denote.Param.SendFields.{declared_send, variants_send}
 use Rattle.sprite_top.proofs.SendRecords.{whole, call_sends, image_sends, kernel_line_sends, program_line_sends, reply_sends}
 use Rattle.sprite_top.proofs.SendTables.{device_sends, home_sends}
 use Rattle.sprite_top.proofs.SendFiles.{client_files_sends}
@@ -32,4 +30,24 @@ unfinished_sends = search whole depth 100 fits 400000
 ruleset client_procs_parts = (whole, kernel_line_sends, program_line_sends, client_files_sends, home_sends, proc_sends, leaving_sends, device_sends, kill_state_sends, unfinished_sends)
 
 pub client_procs_sends : IsSend client_procs.the_row
-client_procs_sends = declared_send client_procs.the_type (search client_procs_parts depth 100 fits 400000, (search client_procs_parts depth 100 fits 400000, (search client_procs_parts depth 100 fits 400000, (search client_procs_parts depth 100 fits 400000, (search client_procs_parts depth 100 fits 400000, (search client_procs_parts depth 100 fits 400000, (search client_procs_parts depth 100 fits 400000, (search client_procs_parts depth 100 fits 400000, (search client_procs_parts depth 100 fits 400000, (search client_procs_parts depth 100 fits 400000, (search client_procs_parts depth 100 fits 400000, (search client_procs_parts depth 100 fits 400000, (search client_procs_parts depth 100 fits 400000, (search client_procs_parts depth 100 fits 400000, (search client_procs_parts depth 100 fits 400000, (search client_procs_parts depth 100 fits 400000, (search client_procs_parts depth 100 fits 400000, (search client_procs_parts depth 100 fits 400000, (search client_procs_parts depth 100 fits 400000, (search client_procs_parts depth 100 fits 400000, tt))))))))))))))))))))
+client_procs_sends = declared_send client_procs.the_type
+    (search client_procs_parts depth 100 fits 400000,
+    (search client_procs_parts depth 100 fits 400000,
+    (search client_procs_parts depth 100 fits 400000,
+    (search client_procs_parts depth 100 fits 400000,
+    (search client_procs_parts depth 100 fits 400000,
+    (search client_procs_parts depth 100 fits 400000,
+    (search client_procs_parts depth 100 fits 400000,
+    (search client_procs_parts depth 100 fits 400000,
+    (search client_procs_parts depth 100 fits 400000,
+    (search client_procs_parts depth 100 fits 400000,
+    (search client_procs_parts depth 100 fits 400000,
+    (search client_procs_parts depth 100 fits 400000,
+    (search client_procs_parts depth 100 fits 400000,
+    (search client_procs_parts depth 100 fits 400000,
+    (search client_procs_parts depth 100 fits 400000,
+    (search client_procs_parts depth 100 fits 400000,
+    (search client_procs_parts depth 100 fits 400000,
+    (search client_procs_parts depth 100 fits 400000,
+    (search client_procs_parts depth 100 fits 400000,
+    (search client_procs_parts depth 100 fits 400000, tt))))))))))))))))))))

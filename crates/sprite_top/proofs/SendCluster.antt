@@ -18,5 +18,5 @@ cluster_sends L l s = declared_send (cluster.the_type L l)
     (search (whole, state_sends) depth 60 fits 400000,
     (as_row_send (row_field (wire.the_row packet.the_row L message.ghosts l)) (wire_sends L l s),
     (search (whole, trace_sends) depth 60 fits 400000,
-    (search (whole, s) depth 60 fits 400000,
+    (search whole depth 60 fits 400000,
     (search whole depth 60 fits 400000, tt))))))

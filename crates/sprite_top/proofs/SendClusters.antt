@@ -1,16 +1,12 @@
 -- What crosses threads with a cluster.
-use denote.Param.Send.{IsSend, IsSync, sendable}
-use denote.Param.SendFields.{as_row_send, declared_send, variants_send}
-use Rattle.std.proofs.Crossing.{crosses}
-use Rattle.std.proofs.MapsCrossing as maps
-use Rattle.sprite_top.proofs.SendRecords.{whole, event_sends, image_sends, program_sends, rec_sends}
+use denote.Param.Send.{IsSend}
+use denote.Param.SendFields.{declared_send, variants_send}
+use Rattle.sprite_top.proofs.SendRecords.{whole, event_sends, rec_sends}
 use Rattle.sprite_top.proofs.SendClients.{client_procs_sends}
 use Rattle.sprite_top.proofs.SendServers.{server_sends}
 use Rattle.call_journal.specs.contracts.trace.Trace as trace
 use Rattle.cluster_kernels.specs.contracts.kernel_state.KernelState as kernel_state
 use Rattle.cluster_kernels.specs.contracts.state.State as state
-use Rattle.cluster_bursts.specs.contracts.job.Job as job
-use Rattle.cluster_bursts.specs.contracts.job.Burst as burst
 
 pub trace_sends : IsSend trace.the_row
 trace_sends = search (whole, rec_sends) depth 100 fits 400000
@@ -20,9 +16,3 @@ kernel_state_sends = variants_send kernel_state.enum (search (whole, client_proc
 
 pub state_sends : IsSend state.the_row
 state_sends = declared_send state.the_type (search (whole, kernel_state_sends, event_sends) depth 100 fits 400000)
-
-pub job_sends : IsSend job.the_row
-job_sends = declared_send job.the_type (search (whole, program_sends, image_sends) depth 100 fits 400000)
-
-pub burst_sends : IsSend burst.the_row
-burst_sends = declared_send burst.the_type (search (whole, program_sends, image_sends) depth 100 fits 400000)

@@ -1,23 +1,17 @@
 -- What crosses threads with a cluster: the files' side of a client's kernel.
-use denote.Param.Send.{IsSend, IsSync, sendable}
-use denote.Param.SendFields.{as_row_send, declared_send, variants_send}
-use Rattle.std.proofs.Crossing.{crosses}
-use Rattle.std.proofs.MapsCrossing as maps
+use denote.Param.Send.{IsSend}
+use denote.Param.SendFields.{declared_send, variants_send}
 use Rattle.sprite_top.proofs.SendRecords.{whole, bytes_sends, call_sends, path_sends}
 use Rattle.sprite_top.proofs.SendTables.{cache_sends, delays_sends, prefixes_sends, streams_sends}
 use Rattle.sprite_top.proofs.SendPackets.{out_sends}
 use Rattle.client_tables.specs.contracts.states.NameState as name_state
 use Rattle.client_tables.specs.contracts.states.DataState as data_state
-use Rattle.client_tables.specs.contracts.states.SyncState as sync_state
-use Rattle.client_tables.specs.contracts.states.CloseState as close_state
-use Rattle.client_tables.specs.contracts.states.MoveState as move_state
 use Rattle.client_tables.specs.contracts.names.NameKind as name_kind
 use Rattle.client_tables.specs.contracts.names.NameWork as name_work
 use Rattle.client_tables.specs.contracts.names.NameCall as name_call
 use Rattle.client_tables.specs.contracts.works.DataKind as data_kind
 use Rattle.client_tables.specs.contracts.works.DataCall as data_call
 use Rattle.client_tables.specs.contracts.works.SyncCall as sync_call
-use Rattle.client_tables.specs.contracts.moves.ClosingOf as closing_of
 use Rattle.client_tables.specs.contracts.moves.CloseWork as close_work
 use Rattle.client_tables.specs.contracts.moves.MoveWork as move_work
 use Rattle.client_tables.specs.contracts.moves.Report as report
@@ -30,15 +24,6 @@ name_state_sends = search whole depth 100 fits 400000
 
 pub data_state_sends : IsSend data_state.the_row
 data_state_sends = search whole depth 100 fits 400000
-
-pub sync_state_sends : IsSend sync_state.the_row
-sync_state_sends = search whole depth 100 fits 400000
-
-pub close_state_sends : IsSend close_state.the_row
-close_state_sends = search whole depth 100 fits 400000
-
-pub move_state_sends : IsSend move_state.the_row
-move_state_sends = search whole depth 100 fits 400000
 
 pub name_kind_sends : IsSend name_kind.the_row
 name_kind_sends = search (whole, path_sends) depth 100 fits 400000
@@ -56,19 +41,16 @@ pub data_call_sends : IsSend data_call.the_row
 data_call_sends = declared_send data_call.the_type (search (whole, data_kind_sends, data_state_sends) depth 100 fits 400000)
 
 pub sync_call_sends : IsSend sync_call.the_row
-sync_call_sends = search (whole, sync_state_sends) depth 100 fits 400000
-
-pub closing_of_sends : IsSend closing_of.the_row
-closing_of_sends = search whole depth 100 fits 400000
+sync_call_sends = search whole depth 100 fits 400000
 
 pub close_work_sends : IsSend close_work.the_row
-close_work_sends = search (whole, closing_of_sends, close_state_sends) depth 100 fits 400000
+close_work_sends = search whole depth 100 fits 400000
 
 pub move_work_sends : IsSend move_work.the_row
-move_work_sends = search (whole, move_state_sends) depth 100 fits 400000
+move_work_sends = search whole depth 100 fits 400000
 
 pub report_sends : IsSend report.the_row
-report_sends = search (whole, path_sends, bytes_sends) depth 100 fits 400000
+report_sends = search whole depth 100 fits 400000
 
 pub write_back_out_sends : IsSend write_back_out.the_row
 write_back_out_sends = search whole depth 100 fits 400000

@@ -1,8 +1,6 @@
 -- What crosses threads with a cluster: requests, replies, and what a step says.
-use denote.Param.Send.{IsSend, IsSync, sendable}
-use denote.Param.SendFields.{as_row_send, declared_send, variants_send}
-use Rattle.std.proofs.Crossing.{crosses}
-use Rattle.std.proofs.MapsCrossing as maps
+use denote.Param.Send.{IsSend}
+use denote.Param.SendFields.{declared_send, variants_send}
 use Rattle.sprite_top.proofs.SendRecords.{whole, bytes_sends, event_sends, path_sends, reply_sends}
 use Rattle.packet_bodies.specs.contracts.opening_request.OpeningRequest as opening_request
 use Rattle.packet_bodies.specs.contracts.name_request.NameRequest as name_request
@@ -12,7 +10,6 @@ use Rattle.packet_bodies.specs.contracts.op_request.OpRequest as op_request
 use Rattle.packet_bodies.specs.contracts.write_back_request.WriteBackRequest as write_back_request
 use Rattle.packet_bodies.specs.contracts.carried_stream.CarriedStream as carried_stream
 use Rattle.packet_bodies.specs.contracts.transfer_request.TransferRequest as transfer_request
-use Rattle.packet_bodies.specs.contracts.home_call.HomeCall as home_call
 use Rattle.packet_bodies.specs.contracts.home_request.HomeRequest as home_request
 use Rattle.packet_bodies.specs.contracts.ask_request.AskRequest as ask_request
 use Rattle.packet_bodies.specs.contracts.launch_request.LaunchRequest as launch_request
@@ -45,17 +42,14 @@ carried_stream_sends = search whole depth 100 fits 400000
 pub transfer_request_sends : IsSend transfer_request.the_row
 transfer_request_sends = declared_send transfer_request.the_type (search (whole, carried_stream_sends, bytes_sends, path_sends) depth 100 fits 400000)
 
-pub home_call_sends : IsSend home_call.the_row
-home_call_sends = search (whole, bytes_sends) depth 100 fits 400000
-
 pub home_request_sends : IsSend home_request.the_row
-home_request_sends = search (whole, home_call_sends) depth 100 fits 400000
+home_request_sends = search (whole, bytes_sends) depth 100 fits 400000
 
 pub ask_request_sends : IsSend ask_request.the_row
 ask_request_sends = search (whole, bytes_sends) depth 100 fits 400000
 
 pub launch_request_sends : IsSend launch_request.the_row
-launch_request_sends = search (whole, bytes_sends, path_sends) depth 100 fits 400000
+launch_request_sends = search (whole, path_sends) depth 100 fits 400000
 
 pub request_sends : IsSend request.the_row
 request_sends = variants_send request.enum (search (whole, path_sends, opening_request_sends, name_request_sends, make_request_sends, close_request_sends, op_request_sends, write_back_request_sends, transfer_request_sends, home_request_sends, ask_request_sends, launch_request_sends, bytes_sends) depth 100 fits 400000)

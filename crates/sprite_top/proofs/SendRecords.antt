@@ -72,7 +72,7 @@ pub description_sends : IsSend description.the_row
 description_sends = declared_send description.the_type (search (whole, kernel_line_sends, program_line_sends, file_line_sends, plan_sends) depth 100 fits 400000)
 
 pub part_sends : IsSend part.the_row
-part_sends = variants_send part.enum (search (whole, call_sends, reply_sends) depth 100 fits 400000)
+part_sends = variants_send part.enum (search whole depth 100 fits 400000)
 
 pub entry_sends : IsSend entry.the_row
 entry_sends = declared_send entry.the_type (search (whole, part_sends, call_sends, reply_sends) depth 100 fits 400000)

@@ -1,8 +1,6 @@
 -- What crosses threads with a cluster: a file server.
-use denote.Param.Send.{IsSend, IsSync, sendable}
-use denote.Param.SendFields.{as_row_send, declared_send, variants_send}
-use Rattle.std.proofs.Crossing.{crosses}
-use Rattle.std.proofs.MapsCrossing as maps
+use denote.Param.Send.{IsSend}
+use denote.Param.SendFields.{declared_send}
 use Rattle.sprite_top.proofs.SendRecords.{whole, path_sends}
 use Rattle.sprite_top.proofs.SendTables.{names_sends, shadows_sends, store_sends, swap_sends, versions_sends}
 use Rattle.sprite_top.proofs.SendPackets.{out_sends, request_sends}

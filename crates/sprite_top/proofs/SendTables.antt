@@ -1,8 +1,7 @@
 -- What crosses threads with a cluster: the tables of its kernels.
-use denote.Param.Send.{IsSend, IsSync, sendable}
-use denote.Param.SendFields.{as_row_send, declared_send, variants_send}
+use denote.Param.Send.{IsSend}
+use denote.Param.SendFields.{declared_send}
 use Rattle.std.proofs.Crossing.{crosses}
-use Rattle.std.proofs.MapsCrossing as maps
 use Rattle.sprite_top.proofs.SendRecords.{whole, path_sends}
 use Rattle.lru.proofs.Crosses as nodes
 use Rattle.std.proofs.Crossing as std
@@ -14,7 +13,6 @@ use Rattle.home_table.specs.contracts.home.Home as home
 use Rattle.pseudo_device.specs.contracts.device.Device as device
 use Rattle.file_store.specs.contracts.store.Store as store
 use Rattle.version_table.specs.contracts.opens.Open as opened
-use Rattle.version_table.specs.contracts.action.Action as action
 use Rattle.version_table.specs.contracts.versioned.Asking as asking
 use Rattle.version_table.specs.contracts.versioned.Versioned as versioned
 use Rattle.version_table.specs.contracts.versions.Versions as versions
@@ -23,10 +21,10 @@ use Rattle.shadow_streams.specs.contracts.shadows.Shadows as shadows
 use Rattle.swap_pages.specs.contracts.swap.Swap as swap
 
 pub delays_sends : IsSend delays.the_row
-delays_sends = search (whole, nodes.List-send, nodes.KeyRef-send, nodes.KeyRef-sync, nodes.Deed-send, std.frees) depth 100 fits 400000
+delays_sends = search (whole, nodes.List-send, nodes.KeyRef-send, nodes.Deed-send, std.frees) depth 100 fits 400000
 
 pub cache_sends : IsSend cache.the_row
-cache_sends = search (whole, nodes.List-send, nodes.KeyRef-send, nodes.KeyRef-sync, nodes.Deed-send, std.frees) depth 100 fits 400000
+cache_sends = search (whole, nodes.List-send, nodes.KeyRef-send, nodes.Deed-send, std.frees) depth 100 fits 400000
 
 pub prefixes_sends : IsSend prefixes.the_row
 prefixes_sends = search (whole, path_sends) depth 100 fits 400000
@@ -46,11 +44,8 @@ store_sends = search whole depth 100 fits 400000
 pub opened_sends : IsSend opened.the_row
 opened_sends = search whole depth 100 fits 400000
 
-pub action_sends : IsSend action.the_row
-action_sends = search whole depth 100 fits 400000
-
 pub asking_sends : IsSend asking.the_row
-asking_sends = search (whole, action_sends, opened_sends) depth 100 fits 400000
+asking_sends = search (whole, opened_sends) depth 100 fits 400000
 
 pub versioned_sends : IsSend versioned.the_row
 versioned_sends = declared_send versioned.the_type (search (whole, opened_sends, asking_sends) depth 100 fits 400000)

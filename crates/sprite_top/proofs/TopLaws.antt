@@ -1,5 +1,5 @@
 -- The words of the command line, and what is due for a whole file.
-use Rattle.std.proofs.Common.{◌≡◌, ℕ, ◌+◌, ◌≤◌, List, [], length, Bool, false, Option, Result, Ok, Err, IfOk, ap, sym, arith, inl, inr, None, Some, refl, subst}
+use Rattle.std.proofs.Common.{◌≡◌, ℕ, ◌≤◌, List, length, Option, Result, Ok, Err, IfOk, sym, inl, inr, None, Some, refl, subst}
 use Rattle.std.specs.Io.KnownBytes.{Consumes, IsAtEnd}
 use Rattle.sprite_ids.specs.declared.no_memory.NoMemory.{NoMemory}
 use Rattle.sprite_top.specs.declared.top.Answer.{Answer}
@@ -20,7 +20,6 @@ use Rattle.sprite_words.specs.Words.{IsSpelled}
 use Rattle.sprite_top.specs.Top.{AsksFor, TellsFaults, printed, status_of, Causes, FileCauses, ClusterCauses}
 use Rattle.sprite_ids.specs.declared.running.Finish.{Finish}
 use Rattle.sprite_ids.specs.declared.running.Finish.TheVariants as finish
-use Rattle.call_journal.specs.Journal.{journal_of}
 use Rattle.run_judge.specs.Judged.{IsJudged}
 use Rattle.sprite_cluster.specs.Finishing.{IsSpent}
 
