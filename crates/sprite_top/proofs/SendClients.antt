@@ -30,24 +30,61 @@ unfinished_sends = search whole depth 100 fits 400000
 ruleset client_procs_parts = (whole, kernel_line_sends, program_line_sends, client_files_sends, home_sends, proc_sends, leaving_sends, device_sends, kill_state_sends, unfinished_sends)
 
 pub client_procs_sends : IsSend client_procs.the_row
-client_procs_sends = declared_send client_procs.the_type
-    (search client_procs_parts depth 100 fits 400000,
-    (search client_procs_parts depth 100 fits 400000,
-    (search client_procs_parts depth 100 fits 400000,
-    (search client_procs_parts depth 100 fits 400000,
-    (search client_procs_parts depth 100 fits 400000,
-    (search client_procs_parts depth 100 fits 400000,
-    (search client_procs_parts depth 100 fits 400000,
-    (search client_procs_parts depth 100 fits 400000,
-    (search client_procs_parts depth 100 fits 400000,
-    (search client_procs_parts depth 100 fits 400000,
-    (search client_procs_parts depth 100 fits 400000,
-    (search client_procs_parts depth 100 fits 400000,
-    (search client_procs_parts depth 100 fits 400000,
-    (search client_procs_parts depth 100 fits 400000,
-    (search client_procs_parts depth 100 fits 400000,
-    (search client_procs_parts depth 100 fits 400000,
-    (search client_procs_parts depth 100 fits 400000,
-    (search client_procs_parts depth 100 fits 400000,
-    (search client_procs_parts depth 100 fits 400000,
-    (search client_procs_parts depth 100 fits 400000, tt))))))))))))))))))))
+client_procs_sends = declared_send client_procs.the_type (
+  search client_procs_parts depth 100 fits 400000,
+  (
+    search client_procs_parts depth 100 fits 400000,
+    (
+      search client_procs_parts depth 100 fits 400000,
+      (
+        search client_procs_parts depth 100 fits 400000,
+        (
+          search client_procs_parts depth 100 fits 400000,
+          (
+            search client_procs_parts depth 100 fits 400000,
+            (
+              search client_procs_parts depth 100 fits 400000,
+              (
+                search client_procs_parts depth 100 fits 400000,
+                (
+                  search client_procs_parts depth 100 fits 400000,
+                  (
+                    search client_procs_parts depth 100 fits 400000,
+                    (
+                      search client_procs_parts depth 100 fits 400000,
+                      (
+                        search client_procs_parts depth 100 fits 400000,
+                        (
+                          search client_procs_parts depth 100 fits 400000,
+                          (
+                            search client_procs_parts depth 100 fits 400000,
+                            (
+                              search client_procs_parts depth 100 fits 400000,
+                              (
+                                search client_procs_parts depth 100 fits 400000,
+                                (
+                                  search client_procs_parts depth 100 fits 400000,
+                                  (
+                                    search client_procs_parts depth 100 fits 400000,
+                                    (
+                                      search client_procs_parts depth 100 fits 400000,
+                                      (search client_procs_parts depth 100 fits 400000, tt),
+                                    ),
+                                  ),
+                                ),
+                              ),
+                            ),
+                          ),
+                        ),
+                      ),
+                    ),
+                  ),
+                ),
+              ),
+            ),
+          ),
+        ),
+      ),
+    ),
+  ),
+)

@@ -13,10 +13,19 @@ use Rattle.wire_format.specs.contracts.packet.Packet as packet
 use Rattle.wire_format.specs.contracts.packet.PacketMessage.TheImpl as message
 
 pub cluster_sends : (L : RattleType) (l : link.Ghosts L.Denot) → IsSend L → IsSend (cluster.the_row L l)
-cluster_sends L l s = declared_send (cluster.the_type L l)
-    (search (whole, description_sends) depth 60 fits 400000,
-    (search (whole, state_sends) depth 60 fits 400000,
-    (as_row_send (row_field (wire.the_row packet.the_row L message.ghosts l)) (wire_sends L l s),
-    (search (whole, trace_sends) depth 60 fits 400000,
-    (search whole depth 60 fits 400000,
-    (search whole depth 60 fits 400000, tt))))))
+cluster_sends L l s = declared_send (cluster.the_type L l) (
+  search (whole, description_sends) depth 60 fits 400000,
+  (
+    search (whole, state_sends) depth 60 fits 400000,
+    (
+      as_row_send (row_field (wire.the_row packet.the_row L message.ghosts l)) (wire_sends L l s),
+      (
+        search (whole, trace_sends) depth 60 fits 400000,
+        (
+          search whole depth 60 fits 400000,
+          (search whole depth 60 fits 400000, tt),
+        ),
+      ),
+    ),
+  ),
+)
