@@ -14,11 +14,14 @@ use std::sync::Wait;
 use std::thread;
 use turn_gate::{Gate, Seat};
 
+/// How often a kernel where nothing can happen leaves the processor to others before its next turn.
+const RESTS: u32 = 16;
+
 /// Serves the kernels of the seats, turn after turn, until the value isn't `Running` any more. It may wait for ever.
 ///
 /// In a kernel's turn the first of its choices happens, where it has one, and then a burst begins, where a process of it can run;
 /// the burst is done outside of the turns, and ends in the kernel's next turn. Between two turns, and inside each burst, `watch` is
-/// told. A kernel where nothing can happen leaves the processor to others before its next turn.
+/// told. A kernel where nothing can happen leaves the processor to others for a while before its next turn.
 ///
 /// The seats come back in their order. Each is the same, some turns later.
 pub fn serve<R: Wait, V: Stepped, W: Watch>(
@@ -114,7 +117,7 @@ fn visit<R: Wait, V: Stepped, W: Watch>(
         Act::Over => (seat, false),
         Act::Moved => (seat, true),
         Act::Idle => {
-            thread::yield_now();
+            rest();
             (seat, true)
         }
         Act::Began(job) => {
@@ -122,6 +125,13 @@ fn visit<R: Wait, V: Stepped, W: Watch>(
             let burst = V::run_job(job);
             end_burst(rt, alloc, gate, seat, kernel, burst)
         }
+    }
+}
+
+// Leaves the processor to others for a while, so that kernels where something can happen find the gate free.
+fn rest() {
+    for _ in 0..RESTS {
+        thread::yield_now();
     }
 }
 
