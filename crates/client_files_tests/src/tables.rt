@@ -1,0 +1,713 @@
+use crate::bodies::Says::{
+    Block, Done, Here, Moved, Opened, OpenedDevice, Redirect, Refused, Value,
+};
+use crate::calls::Does::{
+    Chdir, Close, Dup, List, Mkdir, Open, Read, Rename, Rmdir, Seek, Size, Stat, Sync, Unlink,
+    Write,
+};
+use crate::script::Inside::{Arrives, Ends, Fills, Makes, Moves};
+use crate::script::Step::{Answer, Due, GiveUp, Inside, Issue, Stop};
+use crate::script::{Row, first_other};
+use crate::told::Told::{AllClosed, Asks, Fails, Flushes, Gives, MasterClosed, Nothing};
+use crate::told::{Asked, Told};
+use crate::world::Comes;
+use packet_bodies::NameOp;
+use sprite_ids::{Errno, NoMemory};
+use std::alloc::Global;
+use stream_table::Place;
+
+// Two processes meet one prefix: each asks for itself, and it is learned once. The second one's file comes first, and the
+// first one's grant is older then. Then data go through the same steps: a fetch, a write-back, a stop.
+const OPENS: [Row; 17] = [
+    (
+        Issue(1, Open(b"/b", 3)),
+        [1, 0, 0, 2, 1, 0],
+        Asks(Asked::Prefix, 3),
+    ),
+    (
+        Issue(2, Open(b"/b", 1)),
+        [1, 0, 0, 2, 2, 0],
+        Asks(Asked::Prefix, 3),
+    ),
+    (
+        Answer(1, 1, Here(b"/")),
+        [1, 0, 0, 2, 2, 0],
+        Asks(Asked::Echo, 1),
+    ),
+    (
+        Answer(1, 1, Here(b"/")),
+        [1, 0, 0, 1, 2, 0],
+        Asks(Asked::Echo, 1),
+    ),
+    (
+        Answer(1, 1, Done),
+        [1, 0, 0, 1, 2, 0],
+        Asks(Asked::Opening(3, 0), 1),
+    ),
+    (
+        Answer(1, 1, Done),
+        [1, 0, 0, 1, 2, 0],
+        Asks(Asked::Opening(1, 0), 1),
+    ),
+    (Answer(0, 1, Opened(2)), [0, 0, 1, 1, 1, 0], Gives(0, 0)),
+    (Answer(1, 1, Opened(1)), [0, 0, 1, 0, 0, 0], Gives(0, 0)),
+    (
+        Issue(1, Write(0, 5)),
+        [1, 0, 0, 1, 1, 0],
+        Asks(Asked::Fetch(2, 0), 1),
+    ),
+    (Answer(0, 1, Block(2, 100)), [0, 0, 1, 3, 0, 0], Gives(5, 0)),
+    (
+        Issue(2, Write(0, 5)),
+        [0, 0, 1, 1, 0, 0],
+        Fails(Errno::BadMode),
+    ),
+    (Issue(2, Read(0, 10)), [0, 0, 1, 1, 0, 0], Gives(10, 10)),
+    (Due(0), [1, 0, 0, 1, 0, 0], Asks(Asked::Back(2, 0), 1)),
+    (Stop(3), [0, 1, 0, 2, 0, 0], Flushes(100, 1)),
+    (Answer(0, 1, Done), [0, 0, 0, 0, 0, 0], Nothing),
+    (Issue(2, Size(0)), [1, 0, 0, 1, 1, 0], Asks(Asked::Op, 1)),
+    (
+        Answer(0, 1, Value(100, 0)),
+        [0, 0, 1, 0, 0, 0],
+        Gives(100, 0),
+    ),
+];
+
+// A broadcast and an echo are given up, and a request is refused.
+const UNREACHED: [Row; 9] = [
+    (
+        Issue(1, Stat(b"/b")),
+        [1, 0, 0, 2, 1, 0],
+        Asks(Asked::Prefix, 3),
+    ),
+    (GiveUp(0), [0, 0, 1, 1, 0, 0], Fails(Errno::Unreachable)),
+    (
+        Issue(1, Stat(b"/b")),
+        [1, 0, 0, 2, 1, 0],
+        Asks(Asked::Prefix, 3),
+    ),
+    (
+        Answer(0, 1, Here(b"/")),
+        [1, 0, 0, 2, 1, 0],
+        Asks(Asked::Echo, 1),
+    ),
+    (GiveUp(0), [0, 0, 1, 1, 0, 0], Fails(Errno::Unreachable)),
+    (
+        Issue(1, Stat(b"/b")),
+        [1, 0, 0, 1, 1, 0],
+        Asks(Asked::Echo, 1),
+    ),
+    (
+        Answer(0, 1, Done),
+        [1, 0, 0, 1, 1, 0],
+        Asks(Asked::Name(NameOp::Stat), 1),
+    ),
+    (
+        Answer(0, 1, Refused(Errno::NoEntry)),
+        [0, 0, 1, 0, 0, 0],
+        Fails(Errno::NoEntry),
+    ),
+    (GiveUp(0), [0, 0, 0, 0, 0, 0], Nothing),
+];
+
+// Two paths lead on into one domain: the first call asks who serves it, the second one knows by then. The second process's
+// working directory is in that domain from then on.
+const DOMAINS: [Row; 15] = [
+    (
+        Issue(1, Open(b"/a/b", 3)),
+        [1, 0, 0, 2, 1, 0],
+        Asks(Asked::Prefix, 3),
+    ),
+    (
+        Answer(0, 1, Here(b"/")),
+        [1, 0, 0, 2, 1, 0],
+        Asks(Asked::Echo, 1),
+    ),
+    (
+        Answer(0, 1, Done),
+        [1, 0, 0, 1, 1, 0],
+        Asks(Asked::Opening(3, 0), 1),
+    ),
+    (
+        Issue(2, Chdir(b"/a/b")),
+        [1, 0, 0, 1, 2, 0],
+        Asks(Asked::Echo, 1),
+    ),
+    (
+        Answer(0, 1, Done),
+        [1, 0, 0, 1, 2, 0],
+        Asks(Asked::Name(NameOp::Chdir), 1),
+    ),
+    (
+        Answer(2, 1, Redirect(b"/a")),
+        [1, 0, 0, 2, 2, 0],
+        Asks(Asked::Prefix, 3),
+    ),
+    (
+        Answer(0, 3, Here(b"/a")),
+        [1, 0, 0, 2, 2, 0],
+        Asks(Asked::Echo, 3),
+    ),
+    (
+        Answer(2, 1, Redirect(b"/a")),
+        [1, 0, 0, 1, 2, 0],
+        Asks(Asked::Echo, 3),
+    ),
+    (
+        Answer(1, 3, Done),
+        [1, 0, 0, 1, 2, 0],
+        Asks(Asked::Opening(3, 0), 3),
+    ),
+    (
+        Answer(1, 3, Done),
+        [1, 0, 0, 1, 2, 0],
+        Asks(Asked::Name(NameOp::Chdir), 3),
+    ),
+    (
+        Answer(1, 3, Refused(Errno::IsDir)),
+        [0, 0, 1, 0, 1, 0],
+        Fails(Errno::IsDir),
+    ),
+    (Answer(0, 3, Value(0, 0)), [0, 0, 1, 0, 0, 0], Gives(0, 0)),
+    (
+        Issue(2, Stat(b"x")),
+        [1, 0, 0, 1, 1, 0],
+        Asks(Asked::Echo, 3),
+    ),
+    (GiveUp(0), [0, 0, 1, 1, 0, 0], Fails(Errno::Unreachable)),
+    (
+        Issue(1, Stat(b"x")),
+        [1, 0, 0, 1, 1, 0],
+        Asks(Asked::Echo, 1),
+    ),
+];
+
+// The other name calls.
+const NAMES: [Row; 16] = [
+    (
+        Issue(1, Rmdir(b"/d")),
+        [1, 0, 0, 2, 1, 0],
+        Asks(Asked::Prefix, 3),
+    ),
+    (
+        Answer(0, 1, Here(b"/")),
+        [1, 0, 0, 2, 1, 0],
+        Asks(Asked::Echo, 1),
+    ),
+    (
+        Answer(0, 1, Done),
+        [1, 0, 0, 1, 1, 0],
+        Asks(Asked::Name(NameOp::Rmdir), 1),
+    ),
+    (
+        Answer(0, 1, Refused(Errno::NotEmpty)),
+        [0, 0, 1, 0, 0, 0],
+        Fails(Errno::NotEmpty),
+    ),
+    (
+        Issue(1, Unlink(b"/d")),
+        [1, 0, 0, 1, 1, 0],
+        Asks(Asked::Echo, 1),
+    ),
+    (
+        Answer(0, 1, Done),
+        [1, 0, 0, 1, 1, 0],
+        Asks(Asked::Name(NameOp::Unlink), 1),
+    ),
+    (Answer(0, 1, Value(0, 0)), [0, 0, 1, 0, 0, 0], Gives(0, 0)),
+    (
+        Issue(1, Rename(b"/d", b"/e")),
+        [1, 0, 0, 1, 1, 0],
+        Asks(Asked::Echo, 1),
+    ),
+    (
+        Answer(0, 1, Done),
+        [1, 0, 0, 1, 1, 0],
+        Asks(Asked::Name(NameOp::Rename), 1),
+    ),
+    (Answer(0, 1, Value(0, 0)), [0, 0, 1, 0, 0, 0], Gives(0, 0)),
+    (
+        Issue(1, List(b"/d", 100)),
+        [1, 0, 0, 1, 1, 0],
+        Asks(Asked::Echo, 1),
+    ),
+    (
+        Answer(0, 1, Done),
+        [1, 0, 0, 1, 1, 0],
+        Asks(Asked::Name(NameOp::List), 1),
+    ),
+    (Answer(0, 1, Value(4, 4)), [0, 0, 1, 0, 0, 0], Gives(4, 4)),
+    (
+        Issue(1, Mkdir(b"/d")),
+        [1, 0, 0, 1, 1, 0],
+        Asks(Asked::Echo, 1),
+    ),
+    (
+        Answer(0, 1, Done),
+        [1, 0, 0, 1, 1, 0],
+        Asks(Asked::Name(NameOp::Mkdir), 1),
+    ),
+    (Answer(0, 1, Value(0, 0)), [0, 0, 1, 0, 0, 0], Gives(0, 0)),
+];
+
+// What is refused here: no lawful flags, no name, no descriptor, too much.
+const REFUSALS: [Row; 16] = [
+    (
+        Issue(1, Open(b"/b", 0)),
+        [0, 0, 1, 1, 0, 0],
+        Fails(Errno::Invalid),
+    ),
+    (
+        Issue(1, Open(b"/b", 9)),
+        [0, 0, 1, 1, 0, 0],
+        Fails(Errno::Invalid),
+    ),
+    (
+        Issue(1, Open(b"/b", 17)),
+        [0, 0, 1, 1, 0, 0],
+        Fails(Errno::Invalid),
+    ),
+    (
+        Issue(1, Open(b"/b", 32)),
+        [0, 0, 1, 1, 0, 0],
+        Fails(Errno::Invalid),
+    ),
+    (
+        Issue(1, Open(b"", 1)),
+        [0, 0, 1, 1, 0, 0],
+        Fails(Errno::BadName),
+    ),
+    (
+        Issue(1, Stat(b"")),
+        [0, 0, 1, 1, 0, 0],
+        Fails(Errno::BadName),
+    ),
+    (
+        Issue(1, Rename(b"", b"/e")),
+        [0, 0, 1, 1, 0, 0],
+        Fails(Errno::BadName),
+    ),
+    (
+        Issue(1, Rename(b"/d", b"")),
+        [0, 0, 1, 1, 0, 0],
+        Fails(Errno::BadName),
+    ),
+    (
+        Inside(1, Makes(b"")),
+        [0, 0, 1, 1, 0, 0],
+        Fails(Errno::BadName),
+    ),
+    (Issue(1, Close(0)), [0, 0, 1, 1, 0, 0], Fails(Errno::BadFd)),
+    (Issue(1, Dup(16)), [0, 0, 1, 1, 0, 0], Fails(Errno::BadFd)),
+    (
+        Issue(1, Read(0, 1)),
+        [0, 0, 1, 1, 0, 0],
+        Fails(Errno::BadFd),
+    ),
+    (
+        Issue(1, Write(0, 1)),
+        [0, 0, 1, 1, 0, 0],
+        Fails(Errno::BadFd),
+    ),
+    (
+        Issue(1, Seek(0, 0)),
+        [0, 0, 1, 1, 0, 0],
+        Fails(Errno::BadFd),
+    ),
+    (Issue(1, Size(0)), [0, 0, 1, 1, 0, 0], Fails(Errno::BadFd)),
+    (Issue(1, Sync(0)), [0, 0, 1, 1, 0, 0], Fails(Errno::BadFd)),
+];
+
+// All 16 descriptors are in use; a seek past the limit.
+const FULL: [Row; 7] = [
+    (
+        Inside(
+            1,
+            Arrives(Comes {
+                number: 7,
+                fd: 0,
+                stamp: Some(1),
+                place: Place::Local(0),
+            }),
+        ),
+        [0, 0, 0, 1, 0, 0],
+        Nothing,
+    ),
+    (
+        Issue(1, Seek(0, 262_145)),
+        [0, 0, 1, 1, 0, 0],
+        Fails(Errno::Invalid),
+    ),
+    (Inside(1, Fills), [0, 0, 0, 0, 0, 0], Nothing),
+    (Issue(1, Dup(0)), [0, 0, 1, 1, 0, 0], Fails(Errno::TooMany)),
+    (
+        Issue(1, Open(b"", 1)),
+        [0, 0, 1, 1, 0, 0],
+        Fails(Errno::TooMany),
+    ),
+    (
+        Inside(1, Makes(b"")),
+        [0, 0, 1, 1, 0, 0],
+        Fails(Errno::TooMany),
+    ),
+    (
+        Inside(1, Ends),
+        [1, 0, 0, 1, 1, 0],
+        Asks(Asked::Close(1), 1),
+    ),
+];
+
+// A pseudo-device is made and opened; its ends are closed, and a client's end moves at once.
+const DEVICES: [Row; 16] = [
+    (
+        Inside(1, Makes(b"/v")),
+        [1, 0, 0, 2, 1, 0],
+        Asks(Asked::Prefix, 3),
+    ),
+    (
+        Answer(0, 1, Here(b"/")),
+        [1, 0, 0, 2, 1, 0],
+        Asks(Asked::Echo, 1),
+    ),
+    (
+        Answer(0, 1, Done),
+        [1, 0, 0, 1, 1, 0],
+        Asks(Asked::Make(0), 1),
+    ),
+    (Answer(0, 1, Value(0, 0)), [0, 0, 1, 0, 0, 0], Gives(0, 0)),
+    (
+        Issue(1, Read(0, 10)),
+        [0, 0, 1, 1, 0, 0],
+        Fails(Errno::BadMode),
+    ),
+    (
+        Issue(1, Write(0, 1)),
+        [0, 0, 1, 1, 0, 0],
+        Fails(Errno::BadMode),
+    ),
+    (Issue(1, Sync(0)), [0, 0, 1, 1, 0, 0], Fails(Errno::Invalid)),
+    (
+        Issue(2, Open(b"/v", 3)),
+        [1, 0, 0, 1, 1, 0],
+        Asks(Asked::Echo, 1),
+    ),
+    (
+        Answer(0, 1, Done),
+        [1, 0, 0, 1, 1, 0],
+        Asks(Asked::Opening(3, 0), 1),
+    ),
+    (Answer(0, 1, OpenedDevice), [0, 0, 1, 0, 0, 0], Gives(0, 0)),
+    (Issue(2, Dup(0)), [0, 0, 1, 1, 0, 0], Gives(1, 0)),
+    (Issue(2, Close(0)), [0, 0, 1, 1, 0, 0], Gives(0, 0)),
+    (
+        Inside(2, Moves(2)),
+        [0, 0, 0, 0, 0, 1],
+        Told::Moved(Place::Local(0), None, 1),
+    ),
+    (Issue(1, Dup(0)), [0, 0, 1, 1, 0, 0], Gives(1, 0)),
+    (Issue(1, Close(0)), [0, 0, 1, 1, 0, 0], Gives(0, 0)),
+    (Issue(1, Close(1)), [0, 0, 1, 1, 0, 1], MasterClosed),
+];
+
+// The making of a pseudo-device is refused, and leads on.
+const MAKES: [Row; 8] = [
+    (
+        Inside(1, Makes(b"/v")),
+        [1, 0, 0, 2, 1, 0],
+        Asks(Asked::Prefix, 3),
+    ),
+    (
+        Answer(0, 1, Here(b"/")),
+        [1, 0, 0, 2, 1, 0],
+        Asks(Asked::Echo, 1),
+    ),
+    (
+        Answer(0, 1, Done),
+        [1, 0, 0, 1, 1, 0],
+        Asks(Asked::Make(0), 1),
+    ),
+    (
+        Answer(0, 1, Refused(Errno::Exists)),
+        [0, 0, 1, 0, 0, 0],
+        Fails(Errno::Exists),
+    ),
+    (
+        Inside(1, Makes(b"/a/v")),
+        [1, 0, 0, 1, 1, 0],
+        Asks(Asked::Echo, 1),
+    ),
+    (
+        Answer(0, 1, Done),
+        [1, 0, 0, 1, 1, 0],
+        Asks(Asked::Make(0), 1),
+    ),
+    (
+        Answer(0, 1, Redirect(b"/a")),
+        [1, 0, 0, 2, 1, 0],
+        Asks(Asked::Prefix, 3),
+    ),
+    (GiveUp(0), [0, 0, 1, 1, 0, 0], Fails(Errno::Unreachable)),
+];
+
+// A close waits for the lock that a reading has; at the end of a process its last reference is closed at the server, and the
+// same stream arrives again meanwhile: a reading of it waits for the answer.
+const CLOSES: [Row; 15] = [
+    (
+        Inside(
+            1,
+            Arrives(Comes {
+                number: 7,
+                fd: 0,
+                stamp: Some(1),
+                place: Place::Local(0),
+            }),
+        ),
+        [0, 0, 0, 1, 0, 0],
+        Nothing,
+    ),
+    (Issue(1, Dup(0)), [0, 0, 1, 1, 0, 0], Gives(1, 0)),
+    (Issue(1, Dup(1)), [0, 0, 1, 1, 0, 0], Gives(2, 0)),
+    (Issue(1, Close(0)), [0, 0, 1, 1, 0, 0], Gives(0, 0)),
+    (
+        Issue(1, Read(2, 10)),
+        [1, 0, 0, 1, 1, 0],
+        Asks(Asked::Fetch(1, 0), 1),
+    ),
+    (
+        Inside(
+            2,
+            Arrives(Comes {
+                number: 7,
+                fd: 0,
+                stamp: None,
+                place: Place::Local(0),
+            }),
+        ),
+        [0, 0, 0, 0, 1, 0],
+        Nothing,
+    ),
+    (Issue(2, Close(0)), [0, 0, 0, 0, 2, 0], Nothing),
+    (Answer(0, 1, Block(1, 100)), [0, 0, 2, 3, 0, 0], Gives(0, 0)),
+    (
+        Inside(1, Ends),
+        [1, 0, 0, 1, 1, 0],
+        Asks(Asked::Close(2), 1),
+    ),
+    (
+        Inside(
+            2,
+            Arrives(Comes {
+                number: 7,
+                fd: 0,
+                stamp: Some(2),
+                place: Place::Local(0),
+            }),
+        ),
+        [0, 0, 0, 1, 1, 0],
+        Nothing,
+    ),
+    (Issue(2, Read(0, 10)), [0, 0, 0, 0, 2, 0], Nothing),
+    (Answer(0, 1, Done), [0, 0, 1, 1, 0, 1], AllClosed),
+    (
+        Issue(2, Close(0)),
+        [1, 0, 0, 2, 1, 0],
+        Asks(Asked::Close(1), 1),
+    ),
+    (Answer(0, 1, Done), [0, 0, 1, 0, 0, 0], Gives(0, 0)),
+    (Issue(2, Close(0)), [0, 0, 1, 1, 0, 0], Fails(Errno::BadFd)),
+];
+
+// A stream of two processes moves with the first one: the close of the second one waits, and is the last reference here. A
+// stop comes before the grant of a stream that arrives.
+const MOVES: [Row; 10] = [
+    (
+        Inside(
+            1,
+            Arrives(Comes {
+                number: 7,
+                fd: 0,
+                stamp: Some(1),
+                place: Place::Local(5),
+            }),
+        ),
+        [0, 0, 0, 1, 0, 0],
+        Nothing,
+    ),
+    (
+        Inside(
+            2,
+            Arrives(Comes {
+                number: 7,
+                fd: 0,
+                stamp: None,
+                place: Place::Local(5),
+            }),
+        ),
+        [0, 0, 0, 0, 0, 0],
+        Nothing,
+    ),
+    (
+        Inside(1, Moves(7)),
+        [1, 0, 0, 1, 1, 0],
+        Asks(Asked::Move(true, Some(5), 0), 1),
+    ),
+    (Issue(2, Close(0)), [0, 0, 0, 0, 2, 0], Nothing),
+    (
+        Answer(0, 1, Moved(Some(2))),
+        [1, 0, 0, 2, 1, 1],
+        Told::Moved(Place::Shared, Some(2), 1),
+    ),
+    (Answer(0, 1, Done), [0, 0, 1, 0, 0, 0], Gives(0, 0)),
+    (Stop(4), [0, 1, 0, 1, 0, 0], Flushes(100, 0)),
+    (
+        Inside(
+            1,
+            Arrives(Comes {
+                number: 9,
+                fd: 0,
+                stamp: Some(3),
+                place: Place::Local(0),
+            }),
+        ),
+        [0, 0, 0, 0, 0, 0],
+        Nothing,
+    ),
+    (
+        Issue(1, Read(0, 10)),
+        [1, 0, 0, 1, 1, 0],
+        Asks(Asked::Op, 1),
+    ),
+    (
+        Answer(0, 1, Value(10, 10)),
+        [0, 0, 1, 0, 0, 0],
+        Gives(10, 10),
+    ),
+];
+
+// A move waits for the lock that a reading has; the first process's makes the stream shared, the second one's moves a shared
+// one. The same stream arrives again while its move has no answer: a seek of it waits.
+const SHARED: [Row; 16] = [
+    (
+        Inside(
+            1,
+            Arrives(Comes {
+                number: 8,
+                fd: 3,
+                stamp: Some(1),
+                place: Place::Local(0),
+            }),
+        ),
+        [0, 0, 0, 1, 0, 0],
+        Nothing,
+    ),
+    (
+        Inside(
+            2,
+            Arrives(Comes {
+                number: 8,
+                fd: 0,
+                stamp: None,
+                place: Place::Local(0),
+            }),
+        ),
+        [0, 0, 0, 0, 0, 0],
+        Nothing,
+    ),
+    (
+        Issue(2, Read(0, 10)),
+        [1, 0, 0, 1, 1, 0],
+        Asks(Asked::Fetch(1, 0), 1),
+    ),
+    (Inside(1, Moves(8)), [0, 0, 0, 0, 2, 0], Nothing),
+    (
+        Answer(0, 1, Block(1, 100)),
+        [1, 0, 1, 3, 1, 0],
+        Asks(Asked::Move(true, Some(10), 0), 1),
+    ),
+    (
+        Answer(0, 1, Moved(None)),
+        [0, 0, 0, 0, 0, 1],
+        Told::Moved(Place::Shared, None, 1),
+    ),
+    (
+        Issue(2, Read(0, 10)),
+        [1, 0, 0, 1, 1, 0],
+        Asks(Asked::Op, 1),
+    ),
+    (
+        Answer(0, 1, Value(10, 10)),
+        [0, 0, 1, 0, 0, 0],
+        Gives(10, 10),
+    ),
+    (
+        Inside(2, Moves(8)),
+        [1, 0, 0, 1, 1, 0],
+        Asks(Asked::Move(false, None, 2), 1),
+    ),
+    (
+        Answer(0, 1, Moved(Some(2))),
+        [0, 0, 0, 0, 0, 1],
+        Told::Moved(Place::Shared, Some(2), 1),
+    ),
+    (
+        Inside(
+            1,
+            Arrives(Comes {
+                number: 9,
+                fd: 0,
+                stamp: Some(2),
+                place: Place::Local(4),
+            }),
+        ),
+        [0, 0, 0, 1, 0, 0],
+        Nothing,
+    ),
+    (
+        Inside(1, Moves(9)),
+        [1, 0, 0, 1, 1, 0],
+        Asks(Asked::Move(false, None, 1), 1),
+    ),
+    (
+        Inside(
+            2,
+            Arrives(Comes {
+                number: 9,
+                fd: 0,
+                stamp: Some(3),
+                place: Place::Local(4),
+            }),
+        ),
+        [0, 0, 0, 1, 1, 0],
+        Nothing,
+    ),
+    (Issue(2, Seek(0, 6)), [0, 0, 0, 0, 2, 0], Nothing),
+    (
+        Answer(0, 1, Moved(Some(4))),
+        [0, 0, 1, 1, 0, 1],
+        Told::Moved(Place::Local(4), Some(4), 1),
+    ),
+    (Inside(1, Moves(77)), [0, 0, 0, 0, 0, 0], Nothing),
+];
+
+// All scripts, each for a kernel of its own.
+const SCRIPTS: [&[Row]; 11] = [
+    &OPENS, &UNREACHED, &DOMAINS, &NAMES, &REFUSALS, &FULL, &DEVICES, &MAKES, &CLOSES, &MOVES,
+    &SHARED,
+];
+
+// The place of the first row that says something else, behind its script's.
+fn first_place(alloc: Global) -> Result<Option<(usize, usize)>, NoMemory> {
+    for (place, script) in SCRIPTS.iter().enumerate() {
+        if let Some(row) = first_other(alloc, script)? {
+            return Ok(Some((place, row)));
+        }
+    }
+    Ok(None)
+}
+
+#[test]
+fn steps_say_what_the_scripts_say(rt: HostRuntime) -> Result<(), NoMemory> {
+    assert_eq!(rt; first_place(rt.alloc())?, None);
+    Ok(())
+}
