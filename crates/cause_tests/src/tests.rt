@@ -40,7 +40,11 @@ enum Step {
 }
 
 // What is done, and whether the server is called unreachable only for a cause.
-const TRACES: [(&[Step], bool); 15] = [
+type Told = (&'static [Step], bool);
+
+const COUNT: usize = 15;
+
+static TRACES: [Told; COUNT] = [
     (&[], true),
     (&[Step::NoEntry(1)], true),
     (&[Step::Unreachable(1)], false),
@@ -254,20 +258,24 @@ fn record(alloc: Global, step: Step) -> Result<Rec, NoMemory> {
     Ok(Rec { kernel, event })
 }
 
+fn push_record(alloc: Global, records: &mut Vec<Rec>, step: Step) -> Result<(), NoMemory> {
+    records.push(record(alloc, step)?)?;
+    Ok(())
+}
+
 fn push_lost_tries(alloc: Global, records: &mut Vec<Rec>, count: u8) -> Result<(), NoMemory> {
     for _ in 0..count {
-        records.push(record(alloc, Step::Loss)?)?;
-        records.push(record(alloc, Step::Try)?)?;
+        push_record(alloc, records, Step::Loss)?;
+        push_record(alloc, records, Step::Try)?;
     }
     Ok(())
 }
 
 fn push_step(alloc: Global, records: &mut Vec<Rec>, step: Step) -> Result<(), NoMemory> {
     match step {
-        Step::LostTries(count) => push_lost_tries(alloc, records, count)?,
-        _ => records.push(record(alloc, step)?)?,
+        Step::LostTries(count) => push_lost_tries(alloc, records, count),
+        _ => push_record(alloc, records, step),
     }
-    Ok(())
 }
 
 fn trace(alloc: Global, steps: &[Step]) -> Result<Vec<Rec>, NoMemory> {
@@ -291,10 +299,10 @@ fn is_told(
 }
 
 // The first of the traces of which something else is told.
-fn first_of(alloc: Global, c: &Description) -> Result<Option<usize>, NoMemory>
+fn first_of(alloc: Global, c: &Description, traces: &[Told]) -> Result<Option<usize>, NoMemory>
     requires lawful { Lawful c.now }
 {
-    for (place, row) in TRACES.iter().enumerate() {
+    for (place, row) in traces.iter().enumerate() {
         if !is_told(alloc, c, row.0, row.1)? {
             return Ok(Some(place));
         }
@@ -302,10 +310,16 @@ fn first_of(alloc: Global, c: &Description) -> Result<Option<usize>, NoMemory>
     Ok(None)
 }
 
+fn first_of_all(alloc: Global, c: &Description) -> Result<Option<usize>, NoMemory>
+    requires lawful { Lawful c.now }
+{
+    first_of(alloc, c, &TRACES)
+}
+
 fn first_other(alloc: Global, file: &[u8]) -> Result<Option<usize>, NoMemory> {
     match read_description(alloc, file) {
-        Ok(cluster) => first_of(alloc, &cluster),
-        Err(_) => Ok(Some(TRACES.len())),
+        Ok(cluster) => first_of_all(alloc, &cluster),
+        Err(_) => Ok(Some(COUNT)),
     }
 }
 

@@ -11,6 +11,7 @@ use process_machine::{
 };
 use sprite_ids::{Bytes, Items, NoMemory};
 use std::alloc::Global;
+use std::process::Abort;
 
 const MAX: u64 = 18446744073709551615;
 
@@ -34,12 +35,20 @@ fn coded(alloc: Global, code: &[Instruction]) -> Result<Program, NoMemory> {
     })
 }
 
-// A page that is filled with the letter, and none for `-`.
+// A page that begins with `abcdefgh`.
+fn lettered() -> [u8; 4096] {
+    let mut page = [b'-'; 4096];
+    page[..8].copy_from_slice(b"abcdefgh");
+    page
+}
+
+// A page that is filled with the letter, one that begins with `abcdefgh` for `*`, and none for `-`.
 fn page(alloc: Global, letter: u8) -> Result<Option<Bytes>, NoMemory> {
-    if letter == b'-' {
-        return Ok(None);
+    match letter {
+        b'-' => Ok(None),
+        b'*' => Ok(Some(bytes(alloc, &lettered())?)),
+        _ => Ok(Some(bytes(alloc, &[letter; 4096])?)),
     }
-    Ok(Some(bytes(alloc, &[letter; 4096])?))
 }
 
 fn pages(alloc: Global, letters: &[u8]) -> Result<Vec<Option<Bytes>>, NoMemory> {
@@ -74,11 +83,50 @@ fn loaded(
     Ok(Machine { program, image })
 }
 
+// A row of a table: a machine, and how it goes on.
+trait Row {
+    fn load(&self, alloc: Global) -> Result<Machine, NoMemory>;
+    // Whether it goes on as the row says.
+    fn goes(&self, alloc: Global, machine: &mut Machine) -> Result<bool, NoMemory>;
+}
+
+fn holds<R: Row>(alloc: Global, row: &R) -> Result<bool, NoMemory> {
+    let mut machine = row.load(alloc)?;
+    row.goes(alloc, &mut machine)
+}
+
+// The place of the first row that doesn't hold.
+fn first_other<R: Row>(alloc: Global, rows: &[R]) -> Result<Option<usize>, NoMemory> {
+    for (place, row) in rows.iter().enumerate() {
+        if !holds(alloc, row)? {
+            return Ok(Some(place));
+        }
+    }
+    Ok(None)
+}
+
+// Asserts that all rows hold; where they don't, the place of the first one that doesn't is told.
+fn all_hold<R: Row>(rt: &impl Abort, alloc: Global, rows: &[R]) -> Result<(), NoMemory> {
+    assert_eq!(rt; first_other(alloc, rows)?, None);
+    Ok(())
+}
+
 // A burst of at most that many instructions, 1 to 10,000.
 fn run(machine: &mut Machine, limit: u32) -> (u32, BurstEnd)
     requires { (1 ≤ limit) × (limit ≤ 10000) }
 {
     burst(&machine.program, &mut machine.image, limit)
+}
+
+// Whether the first two pages are filled with these letters, but for these four bytes, from 4094 on.
+fn has_across(image: &Image, letters: [u8; 2], text: [u8; 4]) -> bool {
+    let mut first = [letters[0]; 4096];
+    first[4094] = text[0];
+    first[4095] = text[1];
+    let mut second = [letters[1]; 4096];
+    second[0] = text[2];
+    second[1] = text[3];
+    image.page(0) == Some(first.as_slice()) && image.page(1) == Some(second.as_slice())
 }
 
 // Whether the page is there and filled with the letter.

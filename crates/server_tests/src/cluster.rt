@@ -15,26 +15,46 @@ pub(crate) fn kernel(number: u8) -> Result<Kernel, NoMemory> {
     Kernel::new(number).ok_or(NoMemory)
 }
 
-// A kernel that serves these domains.
-fn line(alloc: Global, texts: &[&'static [u8]]) -> Result<KernelLine, NoMemory> {
-    let mut serves = Items::new(alloc);
+fn paths(alloc: Global, texts: &[&'static [u8]]) -> Result<Items<Path>, NoMemory> {
+    let mut paths = Items::new(alloc);
     for text in texts {
-        serves.push(path(alloc, text)?)?;
+        paths.push(path(alloc, text)?)?;
     }
-    Ok(KernelLine {
-        name: Bytes::of_slice(alloc, b"k")?,
-        serves,
-    })
+    Ok(paths)
 }
 
-// Kernels 1 to 14 are clients, 15 serves `/m`, and 16 serves `/` and `/d`.
+// A kernel that serves these domains.
+fn line(alloc: Global, texts: &[&'static [u8]]) -> Result<KernelLine, NoMemory> {
+    let name = Bytes::of_slice(alloc, b"k")?;
+    let serves = paths(alloc, texts)?;
+    Ok(KernelLine { name, serves })
+}
+
+// What the kernels serve: 1 to 14 are clients, 15 serves `/m`, and 16 serves `/` and `/d`.
+const SERVED: [&[&[u8]]; 16] = [
+    &[],
+    &[],
+    &[],
+    &[],
+    &[],
+    &[],
+    &[],
+    &[],
+    &[],
+    &[],
+    &[],
+    &[],
+    &[],
+    &[],
+    &[b"/m"],
+    &[b"/", b"/d"],
+];
+
 fn kernels(alloc: Global) -> Result<Items<KernelLine>, NoMemory> {
     let mut lines = Items::new(alloc);
-    for _number in 0..14 {
-        lines.push(line(alloc, &[])?)?;
+    for texts in SERVED {
+        lines.push(line(alloc, texts)?)?;
     }
-    lines.push(line(alloc, &[b"/m"])?)?;
-    lines.push(line(alloc, &[b"/", b"/d"])?)?;
     Ok(lines)
 }
 
@@ -61,15 +81,28 @@ pub(crate) fn file_line(
     bytes: &[u8],
     append: bool,
 ) -> Result<FileLine, NoMemory> {
+    let path = path(alloc, text)?;
+    let bytes = Bytes::of_slice(alloc, bytes)?;
     Ok(FileLine {
-        path: path(alloc, text)?,
-        bytes: Bytes::of_slice(alloc, bytes)?,
+        path,
+        bytes,
         append,
     })
 }
 
-/// Kernel 16 when the cluster begins with these files.
-pub(crate) fn server(alloc: Global, files: Items<FileLine>) -> Result<Server, NoMemory> {
+fn booted(server: Result<Option<Server>, NoMemory>) -> Result<Server, NoMemory> {
+    match server {
+        Ok(Some(server)) => Ok(server),
+        _ => Err(NoMemory),
+    }
+}
+
+/// That kernel, which is 16, when the cluster begins with these files.
+pub(crate) fn server(
+    alloc: Global,
+    kernel: Kernel,
+    files: Items<FileLine>,
+) -> Result<Server, NoMemory> {
     let description = described(alloc, files)?;
-    Server::boot(alloc, &description, kernel(16)?)?.ok_or(NoMemory)
+    booted(Server::boot(alloc, &description, kernel))
 }

@@ -1,6 +1,6 @@
 use crate::cluster::{file_line, kernel, path, server};
 use crate::rows::{Counts, Told, is_said};
-use kernel_steps::Input;
+use kernel_steps::{Input, Out};
 use packet_bodies::{
     CloseRequest, Descriptor, FetchRequest, FileOp, MakeRequest, MoveRequest, NameOp, NameRequest,
     OpRequest, OpeningRequest, PageOutRequest, ReplyBody, Request, Target, WriteBackRequest,
@@ -43,7 +43,7 @@ enum Step {
 
 // The remote calls of the step at a place, counted over all the following tables, are numbered from 100 and ten times that place on.
 // Names, an open, a redirect and a fetch.
-const NAMES: [(Step, Counts, Told); 10] = [
+static NAMES: [(Step, Counts, Told); 10] = [
     (Step::Echo, (0, 0, 1), Told::Done),
     (Step::Prefix(b"/d"), (0, 0, 1), Told::Here),
     (Step::Prefix(b"/m"), (0, 0, 0), Told::Nothing),
@@ -85,7 +85,7 @@ const NAMES: [(Step, Counts, Told); 10] = [
 ];
 
 // A file that is cached, and whose callbacks are out.
-const BUSY: [(Step, Counts, Told); 10] = [
+static BUSY: [(Step, Counts, Told); 10] = [
     (Step::Open(1, 102, b"/m/f", 1), (0, 0, 1), Told::Redirect),
     (Step::Fetch(1, 1, 1, 0), (0, 0, 1), Told::Block(0)),
     (Step::WriteBack(1, 1, 1, b"hello"), (0, 0, 1), Told::Done),
@@ -113,7 +113,7 @@ const BUSY: [(Step, Counts, Told); 10] = [
 ];
 
 // A file that isn't cached, and a stream that becomes shared.
-const UNCACHED: [(Step, Counts, Told); 11] = [
+static UNCACHED: [(Step, Counts, Told); 11] = [
     (
         Step::Op(2, FileOp::Read, 201, 1, 3, Some(1), b"1234"),
         (0, 1, 1),
@@ -173,7 +173,7 @@ const UNCACHED: [(Step, Counts, Told); 11] = [
 ];
 
 // A shared stream, until it is closed by all.
-const SHARED: [(Step, Counts, Told); 4] = [
+static SHARED: [(Step, Counts, Told); 4] = [
     (Step::Close(1, 101, 1, 1), (0, 1, 1), Told::Done),
     (Step::Close(2, 201, 1, 1), (0, 1, 1), Told::Done),
     (Step::Close(2, 101, 1, 1), (0, 1, 1), Told::Done),
@@ -182,7 +182,7 @@ const SHARED: [(Step, Counts, Told); 4] = [
 ];
 
 // A forgotten file, and a pseudo-device.
-const FORGOTTEN: [(Step, Counts, Told); 9] = [
+static FORGOTTEN: [(Step, Counts, Told); 9] = [
     (Step::Make(b"/x/v"), (0, 1, 1), Told::Value(3, 0, 0)),
     (Step::Open(2, 202, b"/x/v", 3), (0, 1, 1), Told::Device),
     (
@@ -219,7 +219,7 @@ const FORGOTTEN: [(Step, Counts, Told); 9] = [
 ];
 
 // Renames, lists, working directories.
-const TREE: [(Step, Counts, Told); 7] = [
+static TREE: [(Step, Counts, Told); 7] = [
     (
         Step::Name(NameOp::List, b"/"),
         (0, 1, 1),
@@ -250,7 +250,7 @@ const TREE: [(Step, Counts, Told); 7] = [
 ];
 
 // Pages, and recalls and truncations.
-const PAGES: [(Step, Counts, Told); 10] = [
+static PAGES: [(Step, Counts, Told); 10] = [
     (Step::PageIn, (0, 0, 0), Told::Nothing),
     (Step::Close(1, 102, 2, 1), (0, 1, 1), Told::Done),
     // The dirty blocks are recalled from the last writer.
@@ -347,10 +347,8 @@ fn make(alloc: Global, text: &[u8]) -> Result<Request, NoMemory> {
     let pid = pid()?;
     let fd = fd()?;
     let stream = stream(109)?;
-    let device = DeviceId {
-        kernel: kernel(1)?,
-        number: 1,
-    };
+    let kernel = kernel(1)?;
+    let device = DeviceId { kernel, number: 1 };
     let (path, text) = named(alloc, text)?;
     Ok(Request::Make(MakeRequest {
         pid,
@@ -364,87 +362,112 @@ fn make(alloc: Global, text: &[u8]) -> Result<Request, NoMemory> {
 }
 
 fn write_back(alloc: Global, number: u32, stamp: u32, bytes: &[u8]) -> Result<Request, NoMemory> {
+    let file = file(number)?;
+    let size = length(bytes)?;
+    let bytes = Bytes::of_slice(alloc, bytes)?;
     Ok(Request::WriteBack(WriteBackRequest {
-        file: file(number)?,
+        file,
         stamp,
         block: BlockNo(0),
-        size: length(bytes)?,
-        bytes: Bytes::of_slice(alloc, bytes)?,
+        size,
+        bytes,
     }))
 }
 
 fn page_out(alloc: Global) -> Result<Request, NoMemory> {
+    let pid = pid()?;
+    let bytes = Bytes::of_slice(alloc, b"page")?;
     Ok(Request::PageOut(PageOutRequest {
-        pid: pid()?,
+        pid,
         page: 2,
-        bytes: Bytes::of_slice(alloc, b"page")?,
+        bytes,
     }))
 }
 
+fn page_in() -> Result<Request, NoMemory> {
+    let pid = pid()?;
+    Ok(Request::PageIn { pid, page: 2 })
+}
+
 fn fetch(number: u32, stamp: u32, block: u16) -> Result<Request, NoMemory> {
+    let file = file(number)?;
     Ok(Request::Fetch(FetchRequest {
-        file: file(number)?,
+        file,
         stamp,
         block: BlockNo(block),
     }))
 }
 
 fn close(number: u32, of: u32, grants: u32) -> Result<Request, NoMemory> {
+    let file = file(of)?;
+    let stream = stream(number)?;
     Ok(Request::Close(CloseRequest {
-        object: Target::File(file(of)?),
-        stream: stream(number)?,
+        object: Target::File(file),
+        stream,
         grants,
     }))
 }
 
 fn moving(number: u32, of: u32, to: u8, kept: bool, grants: u32) -> Result<Request, NoMemory> {
+    let stream = stream(number)?;
+    let file = file(of)?;
+    let to = kernel(to)?;
     Ok(Request::Move(MoveRequest {
-        stream: stream(number)?,
-        object: Target::File(file(of)?),
-        to: kernel(to)?,
+        stream,
+        object: Target::File(file),
+        to,
         kept,
         offset: Some(3),
         grants,
     }))
 }
 
-// An operation on a file, as a request.
-fn op(alloc: Global, step: Step) -> Result<Request, NoMemory> {
-    match step {
-        Step::Op(_, op, number, of, stamp, offset, bytes) => {
-            let pid = pid()?;
-            let fd = fd()?;
-            let file = file(of)?;
-            let stream = stream(number)?;
-            let length = length(bytes)?;
-            Ok(Request::Op(OpRequest {
-                pid,
-                number: 1,
-                file,
-                stamp,
-                stream,
-                op,
-                offset,
-                length,
-                bytes: Bytes::of_slice(alloc, bytes)?,
-                fd,
-            }))
-        }
-        _ => Ok(Request::Echo),
-    }
+fn op(
+    alloc: Global,
+    op: FileOp,
+    number: u32,
+    of: u32,
+    stamp: u32,
+    offset: Option<u32>,
+    bytes: &[u8],
+) -> Result<Request, NoMemory> {
+    let pid = pid()?;
+    let fd = fd()?;
+    let file = file(of)?;
+    let stream = stream(number)?;
+    let length = length(bytes)?;
+    let bytes = Bytes::of_slice(alloc, bytes)?;
+    Ok(Request::Op(OpRequest {
+        pid,
+        number: 1,
+        file,
+        stamp,
+        stream,
+        op,
+        offset,
+        length,
+        bytes,
+        fd,
+    }))
+}
+
+fn prefix(alloc: Global, text: &[u8]) -> Result<Request, NoMemory> {
+    let path = path(alloc, text)?;
+    Ok(Request::Prefix { path })
 }
 
 // A request about names.
 fn name_request(alloc: Global, step: Step) -> Result<Request, NoMemory> {
     match step {
-        Step::Prefix(text) => Ok(Request::Prefix {
-            path: path(alloc, text)?,
-        }),
+        Step::Prefix(text) => prefix(alloc, text),
         Step::Open(_, number, text, flags) => opening(alloc, number, text, flags),
         Step::Name(op, text) => name(alloc, op, text, b"/"),
         Step::Rename(text, new) => name(alloc, NameOp::Rename, text, new),
         Step::Make(text) => make(alloc, text),
-        _ => op(alloc, step),
+        Step::Op(_, what, number, of, stamp, offset, bytes) => {
+            op(alloc, what, number, of, stamp, offset, bytes)
+        }
+        _ => Ok(Request::Echo),
     }
 }
 
@@ -456,10 +479,7 @@ fn request(alloc: Global, step: Step) -> Result<Request, NoMemory> {
         Step::WriteBack(_, number, stamp, bytes) => write_back(alloc, number, stamp, bytes),
         Step::Move(_, number, of, to, kept, grants) => moving(number, of, to, kept, grants),
         Step::PageOut => page_out(alloc),
-        Step::PageIn => Ok(Request::PageIn {
-            pid: pid()?,
-            page: 2,
-        }),
+        Step::PageIn => page_in(),
         _ => name_request(alloc, step),
     }
 }
@@ -501,15 +521,28 @@ fn flushed(alloc: Global, tx: u32, size: u32, bytes: &[u8]) -> Result<Input, NoM
     })
 }
 
+// A request.
+fn asked(alloc: Global, step: Step) -> Result<Input, NoMemory> {
+    let from = sender(step)?;
+    let body = request(alloc, step)?;
+    Ok(Input::Request {
+        tx: TxNo(1),
+        from,
+        body,
+    })
+}
+
 fn input(alloc: Global, step: Step) -> Result<Input, NoMemory> {
     match step {
         Step::Flushed(tx, size, bytes) => flushed(alloc, tx, size, bytes),
-        _ => Ok(Input::Request {
-            tx: TxNo(1),
-            from: sender(step)?,
-            body: request(alloc, step)?,
-        }),
+        _ => asked(alloc, step),
     }
+}
+
+// The number of the first remote call of the script's step at that place.
+fn first_call(place: usize) -> TxNo {
+    let place = u32::try_from(place).unwrap_or(0);
+    TxNo(place.wrapping_mul(10).wrapping_add(100))
 }
 
 // Makes the step; false where the server says something else.
@@ -517,13 +550,16 @@ fn says(
     alloc: Global,
     server: &mut Server,
     place: usize,
-    row: (Step, Counts, Told),
+    row: &(Step, Counts, Told),
 ) -> Result<bool, NoMemory> {
-    let (step, counts, told) = row;
-    let place = u32::try_from(place).or(Err(NoMemory))?;
-    let next = TxNo(place.wrapping_mul(10).wrapping_add(100));
+    let (step, counts, told) = *row;
     let input = input(alloc, step)?;
-    let out = server.take(alloc, &input, next)?;
+    tells(server.take(alloc, &input, first_call(place)), counts, told)
+}
+
+// Whether the step said so.
+fn tells(out: Result<Out, NoMemory>, counts: Counts, told: Told) -> Result<bool, NoMemory> {
+    let out = out?;
     Ok(is_said(&out, counts, told))
 }
 
@@ -535,7 +571,7 @@ fn first_other(
     rows: &[(Step, Counts, Told)],
 ) -> Result<Option<usize>, NoMemory> {
     for (count, row) in rows.iter().enumerate() {
-        if !says(alloc, server, first.wrapping_add(count), *row)? {
+        if !says(alloc, server, first.wrapping_add(count), row)? {
             return Ok(Some(count));
         }
     }
@@ -552,29 +588,50 @@ fn says_all(
     Ok(first_other(alloc, server, first, rows)?.is_none())
 }
 
-fn says_script(alloc: Global, server: &mut Server) -> Result<bool, NoMemory> {
-    Ok(
-        says_all(alloc, server, 0, &NAMES)?
-            && says_all(alloc, server, 10, &BUSY)?
-            && says_all(alloc, server, 20, &UNCACHED)?
-            && says_all(alloc, server, 31, &SHARED)?
-            && says_all(alloc, server, 35, &FORGOTTEN)?
-            && says_all(alloc, server, 44, &TREE)?
-            && says_all(alloc, server, 51, &PAGES)?,
-    )
+fn says_names(alloc: Global, server: &mut Server) -> Result<bool, NoMemory> {
+    says_all(alloc, server, 0, &NAMES)
 }
 
-#[test]
-fn steps_say_as_worked_out(rt: HostRuntime) -> Result<(), Fail> {
-    let alloc = rt.alloc();
-    let mut server = server(alloc, Items::new(alloc))?;
-    assert!(rt; says_script(alloc, &mut server)?);
-    Ok(())
+fn says_busy(alloc: Global, server: &mut Server) -> Result<bool, NoMemory> {
+    says_all(alloc, server, 10, &BUSY)
+}
+
+fn says_uncached(alloc: Global, server: &mut Server) -> Result<bool, NoMemory> {
+    says_all(alloc, server, 20, &UNCACHED)
+}
+
+fn says_shared(alloc: Global, server: &mut Server) -> Result<bool, NoMemory> {
+    says_all(alloc, server, 31, &SHARED)
+}
+
+fn says_forgotten(alloc: Global, server: &mut Server) -> Result<bool, NoMemory> {
+    says_all(alloc, server, 35, &FORGOTTEN)
+}
+
+fn says_tree(alloc: Global, server: &mut Server) -> Result<bool, NoMemory> {
+    says_all(alloc, server, 44, &TREE)
+}
+
+fn says_pages(alloc: Global, server: &mut Server) -> Result<bool, NoMemory> {
+    says_all(alloc, server, 51, &PAGES)
+}
+
+// Whether the server says to the tables' rows, one table after another, what it is to say.
+fn says_tables(alloc: Global, server: &mut Server) -> Result<bool, NoMemory> {
+    Ok(
+        says_names(alloc, server)?
+            && says_busy(alloc, server)?
+            && says_uncached(alloc, server)?
+            && says_shared(alloc, server)?
+            && says_forgotten(alloc, server)?
+            && says_tree(alloc, server)?
+            && says_pages(alloc, server)?,
+    )
 }
 
 // The first file is there with the bytes of both its lines, the second line's file is another server's, and the next file has
 // number 4.
-const BOOTED: [(Step, Counts, Told); 6] = [
+static BOOTED: [(Step, Counts, Told); 6] = [
     (
         Step::Name(NameOp::Stat, b"/d"),
         (0, 1, 1),
@@ -595,18 +652,69 @@ const BOOTED: [(Step, Counts, Told); 6] = [
     (Step::Close(1, 102, 4, 1), (0, 1, 1), Told::Done),
 ];
 
-fn booted_files(alloc: Global) -> Result<Items<FileLine>, NoMemory> {
-    let mut files = Items::new(alloc);
-    files.push(file_line(alloc, b"/d/e/b", b"hi", false)?)?;
-    files.push(file_line(alloc, b"/m/q", b"other", false)?)?;
-    files.push(file_line(alloc, b"/d/e/b", b"!", true)?)?;
-    Ok(files)
+// The lines of these files: the path, the bytes, and whether they go behind the file's bytes so far.
+const FILES: [(&[u8], &[u8], bool); 3] = [
+    (b"/d/e/b", b"hi", false),
+    (b"/m/q", b"other", false),
+    (b"/d/e/b", b"!", true),
+];
+
+fn file_lines(
+    alloc: Global,
+    rows: &[(&'static [u8], &'static [u8], bool)],
+) -> Result<Items<FileLine>, NoMemory> {
+    let mut lines = Items::new(alloc);
+    for row in rows {
+        lines.push(file_line(alloc, row.0, row.1, row.2)?)?;
+    }
+    Ok(lines)
+}
+
+fn says_booted(alloc: Global, server: &mut Server) -> Result<bool, NoMemory> {
+    says_all(alloc, server, 0, &BOOTED)
+}
+
+// What a server is asked: all tables where it begins without files, and the rows about its files where it begins with these.
+#[derive(Clone, Copy)]
+enum Script {
+    Tables,
+    Booted,
+}
+
+fn says_script(alloc: Global, server: &mut Server, script: Script) -> Result<bool, NoMemory> {
+    match script {
+        Script::Tables => says_tables(alloc, server),
+        Script::Booted => says_booted(alloc, server),
+    }
+}
+
+fn server_with(
+    alloc: Global,
+    files: &[(&'static [u8], &'static [u8], bool)],
+) -> Result<Server, NoMemory> {
+    let kernel = kernel(16)?;
+    let files = file_lines(alloc, files)?;
+    server(alloc, kernel, files)
+}
+
+// Whether a server that begins with these files says to the script what it is to say.
+fn server_says(
+    alloc: Global,
+    files: &[(&'static [u8], &'static [u8], bool)],
+    script: Script,
+) -> Result<bool, NoMemory> {
+    let mut server = server_with(alloc, files)?;
+    says_script(alloc, &mut server, script)
+}
+
+#[test]
+fn steps_say_as_worked_out(rt: HostRuntime) -> Result<(), Fail> {
+    assert!(rt; server_says(rt.alloc(), &[], Script::Tables)?);
+    Ok(())
 }
 
 #[test]
 fn files_are_there_at_boot(rt: HostRuntime) -> Result<(), Fail> {
-    let alloc = rt.alloc();
-    let mut server = server(alloc, booted_files(alloc)?)?;
-    assert_eq!(rt; first_other(alloc, &mut server, 0, &BOOTED)?, None);
+    assert!(rt; server_says(rt.alloc(), &FILES, Script::Booted)?);
     Ok(())
 }

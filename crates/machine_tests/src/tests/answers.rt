@@ -1,53 +1,18 @@
-use super::{MAX, bytes, is_filled, loaded, sys};
+use super::{MAX, Machine, Row, all_hold, bytes, has_across, is_filled, loaded, sys};
 use process_machine::{Image, Reply, SyscallName, give};
 use sprite_ids::{Copying, Errno, NoMemory};
 use std::alloc::Global;
 use std::test::Fail;
 
-const REGISTERS: [u64; 8] = [1, 2, 3, 4, 5, 6, 7, 8];
+static REGISTERS: [u64; 8] = [1, 2, 3, 4, 5, 6, 7, 8];
 
-// A page of `a` and one of `b`, with `wxyz` from 4094 on, and a page of `c`.
+// Whether the bytes `wxyz` lie in pages of `a`, `b` and `c`.
 fn has_the_bytes(image: &Image) -> bool {
-    let mut first = [b'a'; 4096];
-    first[4094] = b'w';
-    first[4095] = b'x';
-    let mut second = [b'b'; 4096];
-    second[0] = b'y';
-    second[1] = b'z';
-    image.page(0) == Some(first.as_slice())
-        && image.page(1) == Some(second.as_slice())
-        && is_filled(image, 2, b'c')
+    has_across(image, [b'a', b'b'], *b"wxyz") && is_filled(image, 2, b'c')
 }
 
 fn has_the_answer(image: &Image) -> bool {
     image.registers() == [0, MAX, 8, 4, 5, 6, 7, 8] && image.counter() == 1 && has_the_bytes(image)
-}
-
-// The answer to a call with those arguments.
-type Given = (SyscallName, [u64; 4]);
-
-fn is_given(alloc: Global, reply: &Reply, row: &Given) -> Result<bool, NoMemory> {
-    let (name, arguments) = *row;
-    let mut machine = loaded(alloc, &[sys(name, arguments)], REGISTERS, b"abc")?;
-    give(&machine.program, &mut machine.image, reply);
-    Ok(has_the_answer(&machine.image))
-}
-
-const CALLS: [Given; 5] = [
-    (SyscallName::Host, [4094, 4, 0, 0]),
-    (SyscallName::Read, [7, 4094, 4, 0]),
-    (SyscallName::List, [0, 1, 4094, 4]),
-    (SyscallName::PdGet, [7, 4094, 16384, 0]),
-    (SyscallName::Ioctl, [7, 7, 4094, 4]),
-];
-
-fn first_other(alloc: Global, reply: &Reply) -> Result<Option<usize>, NoMemory> {
-    for (place, row) in CALLS.iter().enumerate() {
-        if !is_given(alloc, reply, row)? {
-            return Ok(Some(place));
-        }
-    }
-    Ok(None)
 }
 
 fn value(alloc: Global) -> Result<Reply, NoMemory> {
@@ -59,10 +24,29 @@ fn value(alloc: Global) -> Result<Reply, NoMemory> {
     })
 }
 
-fn first_other_call(alloc: Global) -> Result<Option<usize>, NoMemory> {
-    let reply = value(alloc)?;
-    first_other(alloc, &reply)
+// A call with those arguments, to which the answer is a value.
+#[derive(Clone, Copy)]
+struct Given(SyscallName, [u64; 4]);
+
+impl Row for Given {
+    fn load(&self, alloc: Global) -> Result<Machine, NoMemory> {
+        loaded(alloc, &[sys(self.0, self.1)], REGISTERS, b"abc")
+    }
+
+    fn goes(&self, alloc: Global, machine: &mut Machine) -> Result<bool, NoMemory> {
+        let reply = value(alloc)?;
+        give(&machine.program, &mut machine.image, &reply);
+        Ok(has_the_answer(&machine.image))
+    }
 }
+
+static CALLS: [Given; 5] = [
+    Given(SyscallName::Host, [4094, 4, 0, 0]),
+    Given(SyscallName::Read, [7, 4094, 4, 0]),
+    Given(SyscallName::List, [0, 1, 4094, 4]),
+    Given(SyscallName::PdGet, [7, 4094, 16384, 0]),
+    Given(SyscallName::Ioctl, [7, 7, 4094, 4]),
+];
 
 fn is_copied(alloc: Global, reply: &Reply) -> Result<bool, NoMemory> {
     let copy = reply.copy(alloc)?;
@@ -76,7 +60,7 @@ fn value_is_copied(alloc: Global) -> Result<bool, NoMemory> {
 
 #[test]
 fn answers_are_put_in(rt: HostRuntime) -> Result<(), Fail> {
-    assert_eq!(rt; first_other_call(rt.alloc())?, None);
+    all_hold(&rt, rt.alloc(), &CALLS)?;
     assert!(rt; value_is_copied(rt.alloc())?);
     Ok(())
 }
@@ -87,25 +71,27 @@ fn has_the_number(image: &Image, number: u64) -> bool {
         && is_filled(image, 0, b'a')
 }
 
-fn is_refused(alloc: Global, reply: &Reply, number: u64) -> Result<bool, NoMemory> {
-    let call = sys(SyscallName::Print, [4090, 10, 0, 0]);
-    let mut machine = loaded(alloc, &[call], REGISTERS, b"a")?;
-    give(&machine.program, &mut machine.image, reply);
-    Ok(has_the_number(&machine.image, number))
+// That a call is refused for that, and the error's number.
+#[derive(Clone, Copy)]
+struct Refused(Errno, u64);
+
+impl Row for Refused {
+    fn load(&self, alloc: Global) -> Result<Machine, NoMemory> {
+        let call = sys(SyscallName::Print, [4090, 10, 0, 0]);
+        loaded(alloc, &[call], REGISTERS, b"a")
+    }
+
+    fn goes(&self, alloc: Global, machine: &mut Machine) -> Result<bool, NoMemory> {
+        let reply = Reply::Error(self.0);
+        give(&machine.program, &mut machine.image, &reply);
+        Ok(has_the_number(&machine.image, self.1) && is_copied(alloc, &reply)?)
+    }
 }
 
-fn is_told(alloc: Global, reply: &Reply, number: u64) -> Result<bool, NoMemory> {
-    Ok(is_refused(alloc, reply, number)? && is_copied(alloc, reply)?)
-}
-
-fn is_put_in(alloc: Global, errno: Errno, number: u64) -> Result<bool, NoMemory> {
-    let reply = Reply::Error(errno);
-    is_told(alloc, &reply, number)
-}
+static REFUSALS: [Refused; 2] = [Refused(Errno::NoEntry, 1), Refused(Errno::BadAddress, 20)];
 
 #[test]
 fn refusals_are_put_in(rt: HostRuntime) -> Result<(), Fail> {
-    assert!(rt; is_put_in(rt.alloc(), Errno::NoEntry, 1)?);
-    assert!(rt; is_put_in(rt.alloc(), Errno::BadAddress, 20)?);
+    all_hold(&rt, rt.alloc(), &REFUSALS)?;
     Ok(())
 }

@@ -1,4 +1,4 @@
-use super::{MAX, bytes, image, is_filled};
+use super::{MAX, bytes, has_across, image, is_filled};
 use process_machine::{Code, Image, Instruction, PageCount, Program, Register, Text};
 use sprite_ids::{Bytes, Copying, Items, NoMemory};
 use std::alloc::Global;
@@ -13,15 +13,29 @@ fn is_code(alloc: Global, length: u16) -> Result<bool, NoMemory> {
     Ok(Code::of_vec(code).is_some())
 }
 
+fn registers_are_0_to_7() -> bool {
+    Register::new(0).is_some()
+        && Register::new(7).is_some()
+        && Register::new(8).is_none()
+        && Register::new(255).is_none()
+}
+
+fn page_counts_are_1_to_8() -> bool {
+    PageCount::new(1).is_some()
+        && PageCount::new(8).is_some()
+        && PageCount::new(0).is_none()
+        && PageCount::new(9).is_none()
+}
+
+fn codes_have_at_most_512(alloc: Global) -> Result<bool, NoMemory> {
+    Ok(is_code(alloc, 0)? && is_code(alloc, 512)? && !is_code(alloc, 513)?)
+}
+
 #[test]
 fn numbers_have_their_ranges(rt: HostRuntime) -> Result<(), Fail> {
-    assert!(rt; Register::new(0).is_some() && Register::new(7).is_some());
-    assert!(rt; Register::new(8).is_none() && Register::new(255).is_none());
-    assert!(rt; PageCount::new(1).is_some() && PageCount::new(8).is_some());
-    assert!(rt; PageCount::new(0).is_none() && PageCount::new(9).is_none());
-    assert!(rt; is_code(rt.alloc(), 0)?);
-    assert!(rt; is_code(rt.alloc(), 512)?);
-    assert!(rt; !is_code(rt.alloc(), 513)?);
+    assert!(rt; registers_are_0_to_7());
+    assert!(rt; page_counts_are_1_to_8());
+    assert!(rt; codes_have_at_most_512(rt.alloc())?);
     Ok(())
 }
 
@@ -43,7 +57,7 @@ fn is_image(alloc: Global, count: u8, length: u16) -> Result<bool, NoMemory> {
 }
 
 // How many pages of which length, and whether they are an image's.
-const SIZES: [(u8, u16, bool); 6] = [
+static SIZES: [(u8, u16, bool); 6] = [
     (1, 4096, true),
     (8, 4096, true),
     (0, 4096, false),
@@ -159,17 +173,6 @@ fn fresh(alloc: Global, count: u8, rows: Texts, arg: u64) -> Result<Image, NoMem
     Image::fresh(alloc, &program, arg)
 }
 
-// Two pages of zeros, with `ab` at the end of the first and `cX` at the beginning of the second.
-fn has_both_texts(image: &Image) -> bool {
-    let mut first = [0; 4096];
-    first[4094] = b'a';
-    first[4095] = b'b';
-    let mut second = [0; 4096];
-    second[0] = b'c';
-    second[1] = b'X';
-    image.page(0) == Some(first.as_slice()) && image.page(1) == Some(second.as_slice())
-}
-
 fn is_fresh(image: &Image) -> bool {
     image.program_number() == 3
         && image.counter() == 0
@@ -182,7 +185,7 @@ const OVER: Texts = &[(4094, b"abcd"), (4097, b"X")];
 
 fn has_its_texts(alloc: Global) -> Result<bool, NoMemory> {
     let fresh = fresh(alloc, 2, OVER, MAX)?;
-    Ok(is_fresh(&fresh) && has_both_texts(&fresh))
+    Ok(is_fresh(&fresh) && has_across(&fresh, [0, 0], *b"abcX"))
 }
 
 fn program_is_copied(alloc: Global) -> Result<bool, NoMemory> {
