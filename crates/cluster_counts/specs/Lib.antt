@@ -1,0 +1,4 @@
+pub mod Tallies
+pub mod Told
+pub mod Turns
+pub mod Traces

@@ -1,0 +1,6 @@
+//! What a run's trace says of its wire: which of its records count acts of the wire, and how many there are at most.
+#![tactic(auto)]
+
+mod laws;
+
+pub use laws::{ends_are_counted, happenings_are_counted, records_are_acts, six_copies_each};
