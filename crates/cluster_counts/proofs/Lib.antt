@@ -1,6 +1,7 @@
-pub mod CountingLaws
-pub mod TallyLaws
+pub mod OrderLaws
 pub mod TurnLaws
 pub mod EndingLaws
+pub mod TallyLaws
 pub mod TraceLaws
 pub mod SixLaws
+pub mod ExpiryLaws

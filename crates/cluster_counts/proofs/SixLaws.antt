@@ -14,9 +14,9 @@ use Rattle.kernel_rpc.proofs.ComeLaws.{two_requests_each}
 use Rattle.kernel_rpc.proofs.OwnerLaws.{four_replies_each}
 use Rattle.kernel_rpc.proofs.RunLaws.{unfinished_replied}
 use Rattle.kernel_rpc.proofs.TryLaws.{delivered_begun}
-use Rattle.cluster_counts.specs.Told.{is_copy_at, sends_again, tells_again, tells_copy}
+use Rattle.cluster_counts.specs.Told.{is_copy_at, sends_again}
 use Rattle.cluster_counts.specs.Traces.{SixCopiesEach}
-use Rattle.cluster_counts.proofs.TallyLaws.{packets_counted, sendings_counted}
+use Rattle.cluster_counts.proofs.TallyLaws.{agains_so, copies_so}
 
 -- whether the call of that number begins
 abbrev begins : ℕ → Machine → Act → Bool
@@ -108,8 +108,8 @@ pub six_copies : {L : Type 0} (faults asked : L → ℕ → ℕ → ℕ) → Six
 six_copies faults asked begun wire trace tx at reached =
     (let counts = counts_in faults asked reached.first.link in
     let run : IsRun idle counts reached.steps = subst (λ (machine : Machine). IsRun machine counts reached.steps) reached.idles reached.ran.run in
-    let copies = reached.counted (tells_copy tx at) (brings (is_copy_at tx at)) (packets_counted tx at) in
-    let again = reached.counted (tells_again tx) (sends_again tx) (sendings_counted tx) in
+    let copies = copies_so tx at trace reached.steps idle reached.in_order in
+    let again = agains_so tx trace reached.steps idle reached.in_order in
     let requests = two_requests_each counts reached.steps tx at run in
     let replies = four_replies_each counts reached.steps tx run in
     let either = run_brings tx at reached.steps idle in

@@ -1,4 +1,4 @@
-pub mod Tallies
+pub mod Orders
 pub mod Told
 pub mod Turns
 pub mod Traces

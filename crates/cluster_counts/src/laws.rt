@@ -1,22 +1,24 @@
-ghost use Rattle.cluster_counts.specs.Traces.{EndingsAreCounted, RepliesAreCounted, RequestsAreCounted, SendingsAreCounted, SixCopiesEach, TurnKeepsCounts};
-ghost use Rattle.cluster_counts.specs.Turns.{EndIsCounted, HappeningIsCounted};
+ghost use Rattle.cluster_counts.specs.Traces.{EndingsAreCounted, LossBeforeEachExpiry, RepliesAreCounted, RequestsAreCounted, SendingsAreCounted, SixCopiesEach, TurnKeepsOrder};
+ghost use Rattle.cluster_counts.specs.Turns.{EndIsTold, HappeningIsTold};
 
 use link_plan::Link;
 
-/// A law: whatever happens at a kernel, of what can be counted it tells as much as the acts of its turn are.
-pub fn happenings_are_counted<L: Link>()
-    ensures { HappeningIsCounted L.faults L.asked }
+/// A law: whatever happens at a kernel, of copies that come and timers that fire it tells exactly the acts of its turn, in their
+/// order.
+pub fn happenings_are_told<L: Link>()
+    ensures { HappeningIsTold L.faults L.asked }
 {}
 
-/// A law: whatever becomes of a burst, of what can be counted its kernel tells as much as the acts of its turn are.
-pub fn ends_are_counted<L: Link>()
-    ensures { EndIsCounted L.faults L.asked }
+/// A law: whatever becomes of a burst, of copies that come and timers that fire its kernel tells exactly the acts of its turn, in
+/// their order.
+pub fn ends_are_told<L: Link>()
+    ensures { EndIsTold L.faults L.asked }
 {}
 
-/// A law: where each turn of a run is counted, its trace counts the acts of the run: the records that a copy of a call's request
-/// or reply came to a kernel, that its request was sent again, and that it was given up.
+/// A law: where each turn of a run is told so, the run's trace tells its acts in their order, and so counts them: the records that
+/// a copy of a call's request or reply came to a kernel, that its request was sent again, and that it was given up.
 pub fn records_are_acts<L: Link>()
-    ensures turn { TurnKeepsCounts L.faults L.asked }
+    ensures turn { TurnKeepsOrder L.faults L.asked }
     ensures requests { RequestsAreCounted L.faults L.asked }
     ensures replies { RepliesAreCounted L.faults L.asked }
     ensures sendings { SendingsAreCounted L.faults L.asked }
@@ -27,4 +29,10 @@ pub fn records_are_acts<L: Link>()
 /// that its request was sent (Welch 1986: a request is sent again until it is answered).
 pub fn six_copies_each<L: Link>()
     ensures { SixCopiesEach L.faults L.asked }
+{}
+
+/// A law: a trace has a record that a timer fired only where a packet of that call between its caller and its owner was lost
+/// since its request was sent last (Welch 1986: a client sends again where no answer comes in time).
+pub fn expiries_follow_losses<L: Link>()
+    ensures { LossBeforeEachExpiry L.faults L.asked }
 {}

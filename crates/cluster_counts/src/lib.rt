@@ -3,4 +3,6 @@
 
 mod laws;
 
-pub use laws::{ends_are_counted, happenings_are_counted, records_are_acts, six_copies_each};
+pub use laws::{
+    ends_are_told, expiries_follow_losses, happenings_are_told, records_are_acts, six_copies_each,
+};
