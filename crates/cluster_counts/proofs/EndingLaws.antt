@@ -14,7 +14,8 @@ use Rattle.cluster_bursts.specs.declared.job.Burst.{Burst}
 use Rattle.cluster_bursts.specs.Bursts.{EndsAs, GoesOn, came_to, recorded}
 use Rattle.cluster_counts.specs.Turns.{EndIsTold, RanSo}
 use Rattle.cluster_counts.proofs.OrderLaws.{none_more, wire_told}
-use Rattle.cluster_counts.proofs.TurnLaws.{so_join, so_none, so_taken}
+use Rattle.cluster_counts.proofs.TurnLaws.{quiet_same, so_join, so_none, so_taken}
+use Rattle.cluster_counts.proofs.SendLaws.{none_told, sendings}
 
 -- an image that is put tells nothing
 image_stays : (kernel pid : ℕ) (image : images.Machine) (s : State) → (put_image kernel pid image s).told ≡ s.told
@@ -30,17 +31,20 @@ goes_so faults asked c kernel (Some input) (ended.Took said) old new s t goes = 
 goes_so faults asked c kernel (Some input) ended.Done old new s t goes = absurd goes
 goes_so faults asked c kernel (Some input) ended.Stale old new s t goes = absurd goes
 goes_so faults asked c kernel None (ended.Took said) old new s t goes = absurd goes
-goes_so faults asked c kernel None ended.Done old new s t goes = so_none faults asked kernel old new s.told t.told goes.0 (ap (λ (t : State). wire_told kernel t.told) goes.1)
+goes_so faults asked c kernel None ended.Done old new s t goes = so_none faults asked kernel old new s.told t.told goes.0 (quiet_same kernel s.told t.told (ap (λ (t : State). t.told) goes.1))
 goes_so faults asked c kernel None ended.Stale old new s t goes = absurd goes
 
 -- behind a burst that is recorded
 recorded_so : {L : Type 0} (faults asked : L → ℕ → ℕ → ℕ) (kernel : ℕ) (b : Burst) (old new : Wired L) (s t : State) → RanSo faults asked kernel old new (put_image kernel b.pid b.to (recorded kernel b s)).told t.told → RanSo faults asked kernel old new s.told t.told
 recorded_so faults asked kernel b old new s t so = so_join faults asked kernel old old new s.told (put_image kernel b.pid b.to (recorded kernel b s)).told t.told
-    (so_none faults asked kernel old old s.told (put_image kernel b.pid b.to (recorded kernel b s)).told refl (ap (wire_told kernel) (image_stays kernel b.pid b.to (recorded kernel b s)) ∙ none_more kernel s.told (events.Burst b.pid b.count) refl))
+    (so_none faults asked kernel old old s.told (put_image kernel b.pid b.to (recorded kernel b s)).told refl (record {
+      wire = ap (wire_told kernel) (image_stays kernel b.pid b.to (recorded kernel b s)) ∙ none_more kernel s.told (events.Burst b.pid b.count) refl;
+      sends = λ x y. ap (sendings x y kernel) (image_stays kernel b.pid b.to (recorded kernel b s)) ∙ none_told x y kernel s.told (events.Burst b.pid b.count) refl;
+    }))
     so
 
 end_so : {L : Type 0} (faults asked : L → ℕ → ℕ → ℕ) (c : Description) (kernel : ℕ) (b : Burst) (what : Ended) (old new : Wired L) (s t : State) → EndsAs faults asked c kernel b what old new s t → RanSo faults asked kernel old new s.told t.told
-end_so faults asked c kernel b ended.Stale old new s t ends = so_none faults asked kernel old new s.told t.told ends.1 (ap (λ (t : State). wire_told kernel t.told) ends.2)
+end_so faults asked c kernel b ended.Stale old new s t ends = so_none faults asked kernel old new s.told t.told ends.1 (quiet_same kernel s.told t.told (ap (λ (t : State). t.told) ends.2))
 end_so faults asked c kernel b ended.Done old new s t ends = recorded_so faults asked kernel b old new s t (goes_so faults asked c kernel (came_to kernel b b.end (recorded kernel b s)) ended.Done old new (put_image kernel b.pid b.to (recorded kernel b s)) t ends.1)
 end_so faults asked c kernel b (ended.Took said) old new s t ends = recorded_so faults asked kernel b old new s t (goes_so faults asked c kernel (came_to kernel b b.end (recorded kernel b s)) (ended.Took said) old new (put_image kernel b.pid b.to (recorded kernel b s)) t ends.1)
 

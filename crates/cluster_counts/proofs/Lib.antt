@@ -5,3 +5,5 @@ pub mod TallyLaws
 pub mod TraceLaws
 pub mod SixLaws
 pub mod ExpiryLaws
+pub mod SendLaws
+pub mod AskLaws

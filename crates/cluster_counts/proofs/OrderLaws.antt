@@ -82,7 +82,7 @@ noted_apart kernel (e ∷ events) (packet ∷ sent) told = by_first (is_of e pac
     by_first false is taken left = left (noted_one kernel e None told) ∙ own_none kernel e (is_own e) refl told
 
 -- what a kernel takes
-told_stays : (kernel : ℕ) (input : Input) (next : TxNo) (s : State) → (stepped kernel input next s).0.told ≡ s.told
+pub told_stays : (kernel : ℕ) (input : Input) (next : TxNo) (s : State) → (stepped kernel input next s).0.told ≡ s.told
 told_stays kernel input next s = by_found (kernel_at kernel s)
   where
     by_found : (o : Option KernelState) → (stepped_by kernel o input next s).0.told ≡ s.told

@@ -1,5 +1,5 @@
 -- What happens at a choice of a kernel is told.
-use Rattle.std.proofs.Common.{◌≡◌, ℕ, ◌==◌, Bool, true, false, ◌&&◌, cond, List, [], ◌∷◌, ◌++◌, Option, Some, None, refl, sym, ap, ap₂, subst, ◌∙◌, append-nil, append_assoc}
+use Rattle.std.proofs.Common.{arith, ◌≡◌, ℕ, ◌+◌, ◌≤◌, ◌==◌, Bool, true, false, ◌&&◌, cond, List, [], ◌∷◌, ◌++◌, Option, Some, None, refl, sym, ap, ap₂, subst, ◌∙◌, append-nil, append_assoc}
 use Rattle.std.proofs.lemmas.Bool.{and_parts, eqb-true}
 use Rattle.sprite_ids.specs.declared.CopyNo.{CopyNo}
 use Rattle.sprite_ids.specs.declared.TxNo.{TxNo}
@@ -39,30 +39,59 @@ use Rattle.cluster_packets.specs.declared.choice.Choice.TheVariants as choices
 use Rattle.cluster_packets.specs.Acts.{Comes, Expires, FiredAs, Given, delivery}
 use Rattle.cluster_counts.specs.Orders.{copy_told, firing_told, told_by}
 use Rattle.cluster_counts.specs.Turns.{HappeningIsTold, RanSo}
-use Rattle.cluster_counts.proofs.OrderLaws.{each_none, fault_apart, faults_apart, taken_apart, told_join, wire_more, wire_told}
+use Rattle.cluster_counts.proofs.OrderLaws.{each_none, fault_apart, faults_apart, taken_apart, told_join, told_stays, wire_more, wire_told}
+use Rattle.cluster_counts.proofs.SendLaws.{all_sent_join, each_packets, fault_unsent, faults_unsent, none_told, noted_sends, sendings}
+use Rattle.cluster_counts.specs.Asks.{all_sent_between, packets_between}
+use Rattle.cluster_wire.specs.Noted.{faulted, faulted_all, noted_all}
+use Rattle.cluster_wire.specs.Faults.{packets}
+use Rattle.cluster_wire.specs.declared.telling.Sent.{Sent}
+use Rattle.link_plan.specs.declared.Fate.{Fate}
 
--- nothing was done, and nothing is told of the wire
-pub so_none : {L : Type 0} (faults asked : L → ℕ → ℕ → ℕ) (kernel : ℕ) (old new : Wired L) (before after : List Event) → new ≡ old → wire_told kernel after ≡ wire_told kernel before → RanSo faults asked kernel old new before after
-so_none faults asked kernel old new before after same apart = record {
+-- of neither the wire nor sendings more is told
+pub record Quiet (kernel : ℕ) (before after : List Event) : Type 0 where
+  pub wire : wire_told kernel after ≡ wire_told kernel before
+  pub sends : (a b : ℕ) → sendings a b kernel after ≡ sendings a b kernel before
+
+pub quiet_same : (kernel : ℕ) (before after : List Event) → after ≡ before → Quiet kernel before after
+quiet_same kernel before after is = record { wire = ap (wire_told kernel) is; sends = λ a b. ap (sendings a b kernel) is }
+
+quiet_fault : (kernel from to : ℕ) (fate : Fate) (before after : List Event) → after ≡ faulted from to fate before → Quiet kernel before after
+quiet_fault kernel from to fate before after is = record {
+  wire = ap (wire_told kernel) is ∙ fault_apart kernel from to fate before;
+  sends = λ a b. ap (sendings a b kernel) is ∙ fault_unsent a b kernel from to fate before;
+}
+
+quiet_faults : (kernel : ℕ) (fates : List (ℕ × Fate)) (before after : List Event) → after ≡ faulted_all kernel fates before → Quiet kernel before after
+quiet_faults kernel fates before after is = record {
+  wire = ap (wire_told kernel) is ∙ faults_apart kernel fates before;
+  sends = λ a b. ap (sendings a b kernel) is ∙ faults_unsent a b kernel kernel fates before;
+}
+
+-- nothing was done, and no more is told
+pub so_none : {L : Type 0} (faults asked : L → ℕ → ℕ → ℕ) (kernel : ℕ) (old new : Wired L) (before after : List Event) → new ≡ old → Quiet kernel before after → RanSo faults asked kernel old new before after
+so_none faults asked kernel old new before after same quiet = record {
   steps = [];
   ran = none_ran faults asked old new same;
-  in_order = apart ∙ sym (append-nil (wire_told kernel before));
+  in_order = quiet.wire ∙ sym (append-nil (wire_told kernel before));
+  sends = λ a b. (let is = quiet.sends a b in omega arith);
 }
 
 -- one act
-so_one : {L : Type 0} (faults asked : L → ℕ → ℕ → ℕ) (kernel : ℕ) (act : Act) (old new : Wired L) (before after : List Event) → IsStep faults asked old act new → wire_told kernel after ≡ wire_told kernel before ++ told_by old.machine act → RanSo faults asked kernel old new before after
-so_one faults asked kernel act old new before after step told = record {
+so_one : {L : Type 0} (faults asked : L → ℕ → ℕ → ℕ) (kernel : ℕ) (act : Act) (old new : Wired L) (before after : List Event) → IsStep faults asked old act new → wire_told kernel after ≡ wire_told kernel before ++ told_by old.machine act → ((a b : ℕ) → sendings a b kernel after ≡ sendings a b kernel before) → RanSo faults asked kernel old new before after
+so_one faults asked kernel act old new before after step told unsent = record {
   steps = (act, counts_in faults asked new.link) ∷ [];
   ran = one_ran faults asked old new act step;
   in_order = told ∙ ap (λ (xs : List Rec). wire_told kernel before ++ xs) (sym (append-nil (told_by old.machine act)));
+  sends = λ a b. (let is = unsent a b in omega arith);
 }
 
--- acts of which nothing is told
-so_still : {L : Type 0} (faults asked : L → ℕ → ℕ → ℕ) (kernel : ℕ) (old new : Wired L) (before after : List Event) (steps : List (Act × Counts)) → Ran faults asked old new steps → told_of told_by old.machine steps ≡ [] → wire_told kernel after ≡ wire_told kernel before → RanSo faults asked kernel old new before after
-so_still faults asked kernel old new before after steps ran none apart = record {
+-- acts of which nothing is told but sendings
+so_still : {L : Type 0} (faults asked : L → ℕ → ℕ → ℕ) (kernel : ℕ) (old new : Wired L) (before after : List Event) (steps : List (Act × Counts)) → Ran faults asked old new steps → told_of told_by old.machine steps ≡ [] → wire_told kernel after ≡ wire_told kernel before → ((a b : ℕ) → sendings a b kernel after ≤ sendings a b kernel before + all_sent_between a b steps) → RanSo faults asked kernel old new before after
+so_still faults asked kernel old new before after steps ran none apart sends = record {
   steps = steps;
   ran = ran;
   in_order = apart ∙ sym (append-nil (wire_told kernel before)) ∙ ap (λ (xs : List Rec). wire_told kernel before ++ xs) (sym none);
+  sends = sends;
 }
 
 -- some acts, and then some more
@@ -74,6 +103,7 @@ so_join faults asked kernel old between new before middle after first next = rec
       ∙ ap₂ (λ (xs ys : List Rec). xs ++ ys) first.in_order (ap (λ (machine : Machine). told_of told_by machine next.steps) first.ran.reaches)
       ∙ append_assoc (wire_told kernel before) (told_of told_by old.machine first.steps) (told_of told_by (reached old.machine first.steps) next.steps)
       ∙ ap (λ (xs : List Rec). wire_told kernel before ++ xs) (sym (told_join first.steps next.steps old.machine));
+  sends = λ a b. (let one = first.sends a b in let two = next.sends a b in let all = all_sent_join a b first.steps next.steps in omega arith);
 }
 
 -- what a kernel takes
@@ -83,27 +113,37 @@ begin_none kernel machine going act is = ap (told_by machine) is.is
 answer_none : (machine : Machine) (packet : Packet) (act : Act) → IsAnswer machine packet act → told_by machine act ≡ []
 answer_none machine packet act is = ap (told_by machine) is.1
 
+taken_sends : {L : Type 0} (faults asked : L → ℕ → ℕ → ℕ) (c : Description) (kernel : ℕ) (input : Input) (said : Said) (old new : Wired L) (s t : State) (takes : TakesSo faults asked c kernel input said old new s t) (a b : ℕ) → sendings a b kernel t.told ≤ sendings a b kernel s.told + all_sent_between a b takes.goes_out.requests.steps
+taken_sends faults asked c kernel input said old new s t takes a b =
+    (let made = stepped kernel input said.next s in
+    let requests = takes.goes_out.requests in
+    let state = ap (λ (t : State). sendings a b kernel t.told) takes.state in
+    let answers = faults_unsent a b kernel kernel said.answered (noted_all kernel made.1.events said.sent made.0.told) in
+    let noted = noted_sends a b kernel made.1.events said.sent made.0.told in
+    let same = ap (sendings a b kernel) (told_stays kernel input said.next s) in
+    let sent = ap (λ (xs : List Sent). packets_between a b kernel (packets xs)) requests.told_so ∙ each_packets a b kernel (λ (machine : Machine) (sending : Sending). goes c kernel sending) made.1.sends old.machine requests.steps requests.each in omega arith)
+
 pub so_taken : {L : Type 0} (faults asked : L → ℕ → ℕ → ℕ) (c : Description) (kernel : ℕ) (input : Input) (said : Said) (old new : Wired L) (s t : State) → TakesSo faults asked c kernel input said old new s t → RanSo faults asked kernel old new s.told t.told
 so_taken faults asked c kernel input said old new s t takes =
     let requests = takes.goes_out.requests in
     let answers = takes.goes_out.answers in
     let between = takes.goes_out.between in
     let out = (stepped kernel input said.next s).1 in
-    so_join faults asked kernel old between new s.told s.told t.told
-    (so_still faults asked kernel old between s.told s.told requests.steps requests.ran (each_none (λ (machine : Machine) (sending : Sending). goes c kernel sending) (IsBegin kernel) (begin_none kernel) out.sends old.machine requests.steps requests.each) refl)
-    (so_still faults asked kernel between new s.told t.told answers.steps answers.ran (each_none (goes_back kernel) IsAnswer answer_none out.answers between.machine answers.steps answers.each)
-    (ap (λ (t : State). wire_told kernel t.told) takes.state ∙ taken_apart kernel input said s))
+    so_join faults asked kernel old between new s.told t.told t.told
+    (so_still faults asked kernel old between s.told t.told requests.steps requests.ran (each_none (λ (machine : Machine) (sending : Sending). goes c kernel sending) (IsBegin kernel) (begin_none kernel) out.sends old.machine requests.steps requests.each)
+    (ap (λ (t : State). wire_told kernel t.told) takes.state ∙ taken_apart kernel input said s) (taken_sends faults asked c kernel input said old new s t takes))
+    (so_still faults asked kernel between new t.told t.told answers.steps answers.ran (each_none (goes_back kernel) IsAnswer answer_none out.answers between.machine answers.steps answers.each) refl (λ a b. omega arith))
 
 -- a server goes silent, or doesn't
 silent_so : {L : Type 0} (faults asked : L → ℕ → ℕ → ℕ) (b : Bool) (tx : TxNo) (kernel : ℕ) (old new : Wired L) (told : List Event) → SilentIf faults asked b tx kernel old new → RanSo faults asked kernel old new told told
-silent_so faults asked true tx kernel old new told silent = so_one faults asked kernel (Silence tx kernel) old new told told silent (sym (append-nil (wire_told kernel told)))
-silent_so faults asked false tx kernel old new told silent = so_none faults asked kernel old new told told silent refl
+silent_so faults asked true tx kernel old new told silent = so_one faults asked kernel (Silence tx kernel) old new told told silent (sym (append-nil (wire_told kernel told))) (λ a b. refl)
+silent_so faults asked false tx kernel old new told silent = so_none faults asked kernel old new told told silent (quiet_same kernel told told refl)
 
 -- what a copy brings
 given_so : {L : Type 0} (faults asked : L → ℕ → ℕ → ℕ) (c : Description) (kernel : ℕ) (tx : TxNo) (came : Arrived) (old new : Wired L) (s t : State) → Given faults asked c kernel tx came old new s t → RanSo faults asked kernel old new s.told t.told
 given_so faults asked c kernel tx (arrived.Message input) old new s t given = so_join faults asked kernel old given.between new s.told t.told t.told (so_taken faults asked c kernel input given.said old given.between s t given.takes) (silent_so faults asked (asks_prefix input && may_be_silent given.between.machine tx kernel) tx kernel given.between new t.told given.silent)
-given_so faults asked c kernel tx (arrived.Again from to what) old new s t given = so_none faults asked kernel old new s.told t.told given.0 (ap (λ (t : State). wire_told kernel t.told) given.1 ∙ fault_apart kernel from to what s.told)
-given_so faults asked c kernel tx arrived.Old old new s t given = so_none faults asked kernel old new s.told t.told given.0 (ap (λ (t : State). wire_told kernel t.told) given.1)
+given_so faults asked c kernel tx (arrived.Again from to what) old new s t given = so_none faults asked kernel old new s.told t.told given.0 (quiet_fault kernel from to what s.told t.told (ap (λ (t : State). t.told) given.1))
+given_so faults asked c kernel tx arrived.Old old new s t given = so_none faults asked kernel old new s.told t.told given.0 (quiet_same kernel s.told t.told (ap (λ (t : State). t.told) given.1))
 
 -- a copy in flight to a kernel
 only_is : (kernel : ℕ) (o : Option PacketCopy) (copy : PacketCopy) → only_to kernel o ≡ Some copy → (o ≡ Some copy) × (copy.to ≡ kernel)
@@ -121,11 +161,12 @@ copy_there kernel machine number copy is =
 
 -- a copy comes
 comes_so : {L : Type 0} (faults asked : L → ℕ → ℕ → ℕ) (c : Description) (kernel : ℕ) (number : CopyNo) (o : Option PacketCopy) (old new : Wired L) (s t : State) → copy_to kernel old.machine number ≡ o → Comes faults asked c kernel number o old new s t → RanSo faults asked kernel old new s.told t.told
-comes_so faults asked c kernel number None old new s t is comes = so_none faults asked kernel old new s.told t.told comes.0 (ap (λ (t : State). wire_told kernel t.told) comes.1)
+comes_so faults asked c kernel number None old new s t is comes = so_none faults asked kernel old new s.told t.told comes.0 (quiet_same kernel s.told t.told (ap (λ (t : State). t.told) comes.1))
 comes_so faults asked c kernel number (Some copy) old new s t is comes =
     so_join faults asked kernel old comes.between new s.told (noted_step kernel (delivery copy) s).told t.told
     (so_one faults asked kernel (Deliver number (given_in comes.came)) old comes.between s.told (noted_step kernel (delivery copy) s).told comes.arrives.step
-    (wire_more kernel s.told (delivery copy) refl ∙ ap (λ (xs : List Rec). wire_told kernel s.told ++ xs) (sym (copy_there kernel old.machine number copy is))))
+    (wire_more kernel s.told (delivery copy) refl ∙ ap (λ (xs : List Rec). wire_told kernel s.told ++ xs) (sym (copy_there kernel old.machine number copy is)))
+    (λ a b. none_told a b kernel s.told (delivery copy) refl))
     (given_so faults asked c kernel copy.tx comes.came comes.between new (noted_step kernel (delivery copy) s) t comes.given)
 
 -- a timer that may fire is the kernel's
@@ -135,17 +176,18 @@ firing_there kernel tx copies (Some call) may = ap (λ (k : ℕ). record { kerne
 
 -- what becomes of a call whose timer fired
 fired_so : {L : Type 0} (faults asked : L → ℕ → ℕ → ℕ) (c : Description) (kernel : ℕ) (tx : TxNo) (what : Expired) (old new : Wired L) (s t : State) → FiredAs faults asked c kernel tx what old new s t → RanSo faults asked kernel old new (noted_step kernel (events.Expire tx (gives_up what)) s).told t.told
-fired_so faults asked c kernel tx (expired.Resent fates) old new s t fired = so_none faults asked kernel old new (noted_step kernel (events.Expire tx false) s).told t.told fired.0 (ap (λ (t : State). wire_told kernel t.told) fired.1 ∙ faults_apart kernel fates (noted_step kernel (events.Expire tx false) s).told)
+fired_so faults asked c kernel tx (expired.Resent fates) old new s t fired = so_none faults asked kernel old new (noted_step kernel (events.Expire tx false) s).told t.told fired.0 (quiet_faults kernel fates (noted_step kernel (events.Expire tx false) s).told t.told (ap (λ (t : State). t.told) fired.1))
 fired_so faults asked c kernel tx (expired.GivenUp before now) old new s t fired = so_taken faults asked c kernel (inputs.GaveUp tx) fired.said old new (noted_step kernel (events.Expire tx true) s) t fired.takes
 
 expires_so : {L : Type 0} (faults asked : L → ℕ → ℕ → ℕ) (c : Description) (kernel : ℕ) (tx : TxNo) (may : Bool) (old new : Wired L) (s t : State) → may_fire kernel old.machine tx ≡ may → Expires faults asked c kernel tx may old new s t → RanSo faults asked kernel old new s.told t.told
-expires_so faults asked c kernel tx false old new s t is expires = so_none faults asked kernel old new s.told t.told expires.0 (ap (λ (t : State). wire_told kernel t.told) expires.1)
+expires_so faults asked c kernel tx false old new s t is expires = so_none faults asked kernel old new s.told t.told expires.0 (quiet_same kernel s.told t.told (ap (λ (t : State). t.told) expires.1))
 expires_so faults asked c kernel tx true old new s t is expires =
     so_join faults asked kernel old expires.between new s.told (noted_step kernel (events.Expire tx (gives_up expires.what)) s).told t.told
     (so_one faults asked kernel (Expire tx (sent_in expires.what)) old expires.between s.told (noted_step kernel (events.Expire tx (gives_up expires.what)) s).told expires.fires.step
     (wire_more kernel s.told (events.Expire tx (gives_up expires.what)) refl
     ∙ ap (λ (b : Bool). wire_told kernel s.told ++ record { kernel = kernel; event = events.Expire tx b } ∷ []) expires.fires.last
-    ∙ ap (λ (xs : List Rec). wire_told kernel s.told ++ xs) (sym (firing_there kernel tx old.machine.copies (call_of old.machine tx) is))))
+    ∙ ap (λ (xs : List Rec). wire_told kernel s.told ++ xs) (sym (firing_there kernel tx old.machine.copies (call_of old.machine tx) is)))
+    (λ a b. none_told a b kernel s.told (events.Expire tx (gives_up expires.what)) refl))
     (fired_so faults asked c kernel tx expires.what expires.between new s t expires.then_so)
 
 -- whatever happens at a kernel

@@ -2,3 +2,4 @@ pub mod Orders
 pub mod Told
 pub mod Turns
 pub mod Traces
+pub mod Asks

@@ -14,13 +14,15 @@ use Rattle.cluster_wire.specs.Ran.{Ran, told_of}
 use Rattle.cluster_counts.specs.Orders.{of_wire, records_by, told_by}
 use Rattle.cluster_counts.specs.Told.{is_reply_at, sends_again, tells_again, tells_copy, tells_last, tells_reply, tells_request}
 use Rattle.cluster_counts.specs.Turns.{RanSo}
+use Rattle.cluster_counts.specs.Asks.{RoseBy, all_sent_between, tells_sending}
 
 -- how many records of a trace are so, each told by its kernel
 abbrev pub records_so : (ℕ → Event → Bool) → List Rec → ℕ
 records_so told trace = count_by (λ (r : Rec). told r.kernel r.event) trace
 
 -- the wire is one that a run of these acts reaches: the run began with no call, and with the counts that the link had before the boot;
--- and of copies and timers the trace tells these acts, in their order
+-- and of copies and timers the trace tells these acts, in their order; and of the sendings between any two no more than the packets
+-- with which calls begin in these acts
 pub record ReachedSo {L : Type 0} (faults asked : L → ℕ → ℕ → ℕ) (begun : L) (wire : Wired L) (trace : List Rec) : Type 0 where
   pub first : Wired L
   pub idles : first.machine ≡ idle
@@ -28,6 +30,7 @@ pub record ReachedSo {L : Type 0} (faults asked : L → ℕ → ℕ → ℕ) (be
   pub steps : List (Act × Counts)
   pub ran : Ran faults asked first wire steps
   pub in_order : of_wire trace ≡ told_of told_by idle steps
+  pub sends : (a b : ℕ) → records_so (tells_sending a b) trace ≤ all_sent_between a b steps
 
 -- a turn of a kernel keeps that, where all that the kernel told stands in the trace
 abbrev pub TurnKeepsOrder : {L : Type 0} → (L → ℕ → ℕ → ℕ) → (L → ℕ → ℕ → ℕ) → Type 0
@@ -73,3 +76,8 @@ pub record FiresAfterLoss (steps : List (Act × Counts)) (before : List Rec) (tx
 -- that of each record that a timer fired
 abbrev pub LossBeforeEachExpiry : {L : Type 0} → (L → ℕ → ℕ → ℕ) → (L → ℕ → ℕ → ℕ) → Type 0
 LossBeforeEachExpiry {L} faults asked = (begun : L) (wire : Wired L) (trace before rest : List Rec) (kernel : ℕ) (tx : TxNo) (last : Bool) (reached : ReachedSo faults asked begun wire trace) → trace ≡ before ++ record { kernel = kernel; event = events.Expire tx last } ∷ rest → FiresAfterLoss reached.steps before tx
+
+-- between any two of the kernels that there may be, the link was asked since the boot at least as often as the trace tells of a sending
+-- between the two
+abbrev pub SendingsWereAsked : {L : Type 0} → (L → ℕ → ℕ → ℕ) → (L → ℕ → ℕ → ℕ) → Type 0
+SendingsWereAsked {L} faults asked = (begun : L) (wire : Wired L) (trace : List Rec) (a b : ℕ) → (1 ≤ a) × (a ≤ 16) → (1 ≤ b) × (b ≤ 16) → ReachedSo faults asked begun wire trace → RoseBy (asked begun a b) (records_so (tells_sending a b) trace) (asked wire.link a b)

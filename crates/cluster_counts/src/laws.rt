@@ -1,4 +1,4 @@
-ghost use Rattle.cluster_counts.specs.Traces.{EndingsAreCounted, LossBeforeEachExpiry, RepliesAreCounted, RequestsAreCounted, SendingsAreCounted, SixCopiesEach, TurnKeepsOrder};
+ghost use Rattle.cluster_counts.specs.Traces.{EndingsAreCounted, LossBeforeEachExpiry, RepliesAreCounted, RequestsAreCounted, SendingsAreCounted, SendingsWereAsked, SixCopiesEach, TurnKeepsOrder};
 ghost use Rattle.cluster_counts.specs.Turns.{EndIsTold, HappeningIsTold};
 
 use link_plan::Link;
@@ -35,4 +35,11 @@ pub fn six_copies_each<L: Link>()
 /// since its request was sent last (Welch 1986: a client sends again where no answer comes in time).
 pub fn expiries_follow_losses<L: Link>()
     ensures { LossBeforeEachExpiry L.faults L.asked }
+{}
+
+/// A law: between any two of the sixteen kernels that there may be, the link was asked since the boot at least as often as the
+/// trace has records that a packet of a new call was sent between the two; its count stays at `u64::MAX` where it would pass that
+/// (this project).
+pub fn sendings_were_asked<L: Link>()
+    ensures { SendingsWereAsked L.faults L.asked }
 {}

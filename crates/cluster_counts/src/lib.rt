@@ -4,5 +4,6 @@
 mod laws;
 
 pub use laws::{
-    ends_are_told, expiries_follow_losses, happenings_are_told, records_are_acts, six_copies_each,
+    ends_are_told, expiries_follow_losses, happenings_are_told, records_are_acts,
+    sendings_were_asked, six_copies_each,
 };
