@@ -1,0 +1,5 @@
+pub mod Orders
+pub mod Told
+pub mod Turns
+pub mod Traces
+pub mod Asks

@@ -1,0 +1,9 @@
+//! What a run's trace says of its wire: which of its records count acts of the wire, and how many there are at most.
+#![tactic(auto)]
+
+mod laws;
+
+pub use laws::{
+    ends_are_told, expiries_follow_losses, happenings_are_told, records_are_acts,
+    sendings_were_asked, six_copies_each,
+};
