@@ -1,5 +1,5 @@
 -- What a kernel takes tells of no more faults than the link counts.
-use Rattle.std.proofs.Common.{arith, ◌≡◌, ℕ, false, List, Option, Some, None, Result, Ok, Err, IfOk, refl, sym, ap, subst}
+use Rattle.std.proofs.Common.{arith, ◌≡◌, ℕ, false, List, [], Option, Some, None, Result, Ok, Err, IfOk, refl, sym, ap, subst}
 use Rattle.sprite_ids.specs.declared.TxNo.{TxNo}
 use Rattle.kernel_steps.specs.declared.Input.{Input}
 use Rattle.cluster_kernels.specs.declared.KernelState.{KernelState}
@@ -7,7 +7,7 @@ use Rattle.cluster_wire.specs.declared.Said.{Said}
 use Rattle.cluster_kernels.specs.declared.State.{State}
 use Rattle.unix_calls.specs.declared.Event.{Event}
 use Rattle.cluster_kernels.specs.States.{kernel_at, noted_step, stepped, stepped_by}
-use Rattle.cluster_wire.specs.Noted.{noted_all}
+use Rattle.cluster_wire.specs.Noted.{noted_all, untold}
 use Rattle.cluster_wire.specs.Faults.{FaultsTold, faults_told, is_fault_between}
 use Rattle.cluster_wire.proofs.FaultLaws.{other_more, told_all, told_faults}
 use Rattle.cluster_wire.specs.Links.{AskedFor}
@@ -66,10 +66,16 @@ said_after faults asked c kernel input next s between out old new (Ok said) made
     subst (λ (n : TxNo). GoesOut faults asked c kernel (stepped kernel input n s).1 old new said) (sym number) (subst (λ (out : Out). GoesOut faults asked c kernel out old new said) (sym (ap (λ (made : State × Out). made.1) made)) says)
 said_after faults asked c kernel input next s between out old new (Err e) made number says = tt
 
+-- and each packet of it is told
+pub whole_after : (kernel : ℕ) (input : Input) (next : TxNo) (s between : State) (out : Out) (r : Result Said NoMemory) → stepped kernel input next s ≡ (between, out) → IfOk r (λ said. said.next ≡ next) → IfOk r (λ said. untold out.events said.sent ≡ []) → IfOk r (λ said. untold (stepped kernel input said.next s).1.events said.sent ≡ [])
+whole_after kernel input next s between out (Ok said) made number whole =
+    subst (λ (n : TxNo). untold (stepped kernel input n s).1.events said.sent ≡ []) (sym number) (subst (λ (out : Out). untold out.events said.sent ≡ []) (sym (ap (λ (made : State × Out). made.1) made)) whole)
+whole_after kernel input next s between out (Err e) made number whole = tt
+
 -- the parts of what a kernel takes
-pub takes_so : {L : Type 0} (faults asked : L → ℕ → ℕ → ℕ) (c : Description) (kernel : ℕ) (input : Input) (old new : Wired L) (s t : State) (r : Result Said NoMemory) → IfOk r (λ said. t ≡ took kernel input said s) → IfOk r (λ said. said.next ≡ next_of old.machine) → IfOk r (λ said. GoesOut faults asked c kernel (stepped kernel input said.next s).1 old new said) → IfOk r (AskedFor faults asked kernel old.link new.link) → IfOk r (λ said. TakesSo faults asked c kernel input said old new s t)
-takes_so faults asked c kernel input old new s t (Ok said) state next says asks = record { next = next; state = state; goes_out = says; asks = asks }
-takes_so faults asked c kernel input old new s t (Err e) state next says asks = tt
+pub takes_so : {L : Type 0} (faults asked : L → ℕ → ℕ → ℕ) (c : Description) (kernel : ℕ) (input : Input) (old new : Wired L) (s t : State) (r : Result Said NoMemory) → IfOk r (λ said. t ≡ took kernel input said s) → IfOk r (λ said. said.next ≡ next_of old.machine) → IfOk r (λ said. GoesOut faults asked c kernel (stepped kernel input said.next s).1 old new said) → IfOk r (λ said. untold (stepped kernel input said.next s).1.events said.sent ≡ []) → IfOk r (AskedFor faults asked kernel old.link new.link) → IfOk r (λ said. TakesSo faults asked c kernel input said old new s t)
+takes_so faults asked c kernel input old new s t (Ok said) state next says whole asks = record { next = next; state = state; goes_out = says; whole = whole; asks = asks }
+takes_so faults asked c kernel input old new s t (Err e) state next says whole asks = tt
 
 -- the wire went on by steps of its runs
 pub takes_ran : {L : Type 0} (faults asked : L → ℕ → ℕ → ℕ) (c : Description) (kernel : ℕ) (input : Input) (said : Said) (old new : Wired L) (s t : State) → TakesSo faults asked c kernel input said old new s t → RanOn faults asked old new

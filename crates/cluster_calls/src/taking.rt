@@ -1,9 +1,10 @@
-ghost use Rattle.std.specs.Prelude.{◌≡◌, IfOk};
+ghost use Rattle.std.specs.Prelude.{◌≡◌, [], IfOk};
 ghost use Rattle.unix_calls.specs.Lawful.{Lawful};
 ghost use Rattle.cluster_calls.specs.Steps.{says, took, GoesOut, TakesSo};
 ghost use Rattle.cluster_kernels.specs.States.{stepped};
 ghost use Rattle.cluster_wire.specs.Goings.{next_of};
 ghost use Rattle.cluster_wire.specs.Links.{AskedFor};
+ghost use Rattle.cluster_wire.specs.Noted.{untold};
 
 use cluster_kernels::State;
 use cluster_wire::{Said, answer_all, begin_all, next_call, note_all, note_faults};
@@ -33,7 +34,7 @@ pub fn take<L: Link>(
 }
 
 // The same with an input that is lent.
-#[tactic(auto, using(crate::proofs::TakenLaws::said_after))]
+#[tactic(auto, using(crate::proofs::TakenLaws::said_after, crate::proofs::TakenLaws::whole_after))]
 fn take_in<L: Link>(
     alloc: Global,
     c: &Description,
@@ -46,6 +47,7 @@ fn take_in<L: Link>(
     ensures state { IfOk result (λ said. state.new ≡ took kernel input.now said state.old) }
     ensures next { IfOk result (λ said. said.next ≡ next_of wire.old.machine) }
     ensures goes_out { IfOk result (λ said. GoesOut L.faults L.asked c.now kernel (stepped kernel input.now said.next state.old).1 wire.old wire.new said) }
+    ensures whole { IfOk result (λ said. untold (stepped kernel input.now said.next state.old).1.events said.sent ≡ []) }
     ensures asked { IfOk result (AskedFor L.faults L.asked kernel wire.old.link wire.new.link) }
 {
     let next = next_call(wire)?;
@@ -67,6 +69,7 @@ fn say<L: Link>(
     ensures state { IfOk result (λ said. state.new ≡ says kernel said (state.old, out.old)) }
     ensures next { IfOk result (λ said. said.next ≡ next) }
     ensures goes_out { IfOk result (GoesOut L.faults L.asked c.now kernel out.old wire.old wire.new) }
+    ensures whole { IfOk result (λ said. untold out.old.events said.sent ≡ []) }
     ensures asked { IfOk result (AskedFor L.faults L.asked kernel wire.old.link wire.new.link) }
 {
     let sent = begin_all(alloc, c, wire, kernel, &mut out.sends)?;

@@ -13,6 +13,7 @@ use Rattle.cluster_bursts.specs.declared.ended.Ended.TheVariants as ended
 use Rattle.cluster_bursts.specs.declared.job.Burst.{Burst}
 use Rattle.cluster_bursts.specs.Bursts.{EndsAs, GoesOn, came_to, recorded}
 use Rattle.cluster_counts.specs.Turns.{EndIsTold, RanSo}
+use Rattle.cluster_counts.proofs.LinkLaws.{link_told, unlinked}
 use Rattle.cluster_counts.proofs.OrderLaws.{none_more, wire_told}
 use Rattle.cluster_counts.proofs.TurnLaws.{quiet_same, so_join, so_none, so_taken}
 use Rattle.cluster_counts.proofs.SendLaws.{none_told, sendings}
@@ -38,6 +39,7 @@ goes_so faults asked c kernel None ended.Stale old new s t goes = absurd goes
 recorded_so : {L : Type 0} (faults asked : L → ℕ → ℕ → ℕ) (kernel : ℕ) (b : Burst) (old new : Wired L) (s t : State) → RanSo faults asked kernel old new (put_image kernel b.pid b.to (recorded kernel b s)).told t.told → RanSo faults asked kernel old new s.told t.told
 recorded_so faults asked kernel b old new s t so = so_join faults asked kernel old old new s.told (put_image kernel b.pid b.to (recorded kernel b s)).told t.told
     (so_none faults asked kernel old old s.told (put_image kernel b.pid b.to (recorded kernel b s)).told refl (record {
+      link = ap (link_told kernel) (image_stays kernel b.pid b.to (recorded kernel b s)) ∙ unlinked kernel s.told (events.Burst b.pid b.count) refl;
       wire = ap (wire_told kernel) (image_stays kernel b.pid b.to (recorded kernel b s)) ∙ none_more kernel s.told (events.Burst b.pid b.count) refl;
       sends = λ x y. ap (sendings x y kernel) (image_stays kernel b.pid b.to (recorded kernel b s)) ∙ none_told x y kernel s.told (events.Burst b.pid b.count) refl;
     }))

@@ -1,4 +1,5 @@
 pub mod OrderLaws
+pub mod LinkLaws
 pub mod TurnLaws
 pub mod EndingLaws
 pub mod TallyLaws

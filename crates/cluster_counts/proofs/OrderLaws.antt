@@ -72,7 +72,7 @@ own_none kernel e true is told = none_more kernel told e (own_apart e is)
 own_none kernel e false is told = refl
 
 -- all that a kernel did
-noted_apart : (kernel : ℕ) (events : List Event) (sent : List Sent) (told : List Event) → wire_told kernel (noted_all kernel events sent told) ≡ wire_told kernel told
+pub noted_apart : (kernel : ℕ) (events : List Event) (sent : List Sent) (told : List Event) → wire_told kernel (noted_all kernel events sent told) ≡ wire_told kernel told
 noted_apart kernel [] sent told = refl
 noted_apart kernel (e ∷ events) [] told = noted_apart kernel events [] (noted_one kernel e None told) ∙ own_none kernel e (is_own e) refl told
 noted_apart kernel (e ∷ events) (packet ∷ sent) told = by_first (is_of e packet) refl (λ told. noted_apart kernel events sent told) (λ told. noted_apart kernel events (packet ∷ sent) told)

@@ -5,8 +5,10 @@ use Rattle.kernel_rpc.specs.Machine.{Machine, idle}
 use Rattle.unix_calls.specs.declared.Rec.{Rec}
 use Rattle.cluster_wire.specs.Ran.{told_of}
 use Rattle.cluster_wire.proofs.RanLaws.{ran_join}
+use Rattle.cluster_counts.specs.Links.{all_told_by, of_link}
 use Rattle.cluster_counts.specs.Orders.{of_wire, records_by, told_by}
 use Rattle.cluster_counts.specs.Traces.{EndingsAreCounted, RepliesAreCounted, RequestsAreCounted, SendingsAreCounted, SendingsWereAsked, TurnKeepsOrder, records_so}
+use Rattle.cluster_counts.proofs.LinkLaws.{all_join, link_on}
 use Rattle.cluster_counts.proofs.OrderLaws.{told_join, wire_on}
 use Rattle.cluster_counts.proofs.TallyLaws.{agains_so, lasts_so, replies_so, requests_so}
 use Rattle.std.proofs.lemmas.List.Sums.{sum_by-append}
@@ -32,6 +34,10 @@ turn_keeps faults asked begun kernel old new told before after run so written = 
   counts = run.counts;
   steps = run.steps ++ so.steps;
   ran = ran_join faults asked run.first old new run.steps so.steps run.ran so.ran;
+  linked = ap of_link written
+      ∙ link_on before (records_by kernel told)
+      ∙ ap₂ (λ (xs ys : List Rec). xs ++ ys) run.linked (so.linked ∙ ap (λ (machine : Machine). told_of all_told_by machine so.steps) (run.ran.reaches ∙ ap (λ (machine : Machine). reached machine run.steps) run.idles))
+      ∙ sym (all_join run.steps so.steps idle);
   in_order = ap of_wire written
       ∙ wire_on before (records_by kernel told)
       ∙ ap₂ (λ (xs ys : List Rec). xs ++ ys) run.in_order (so.in_order ∙ ap (λ (machine : Machine). told_of told_by machine so.steps) (run.ran.reaches ∙ ap (λ (machine : Machine). reached machine run.steps) run.idles))

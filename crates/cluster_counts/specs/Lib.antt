@@ -1,5 +1,6 @@
 pub mod Orders
 pub mod Told
+pub mod Links
 pub mod Turns
 pub mod Traces
 pub mod Asks

@@ -11,6 +11,7 @@ use Rattle.unix_calls.specs.declared.Event.{Event}
 use Rattle.unix_calls.specs.declared.Event.TheVariants as events
 use Rattle.unix_calls.specs.declared.Rec.{Rec}
 use Rattle.cluster_wire.specs.Ran.{Ran, told_of}
+use Rattle.cluster_counts.specs.Links.{all_told_by, of_link}
 use Rattle.cluster_counts.specs.Orders.{of_wire, records_by, told_by}
 use Rattle.cluster_counts.specs.Told.{is_reply_at, sends_again, tells_again, tells_copy, tells_last, tells_reply, tells_request}
 use Rattle.cluster_counts.specs.Turns.{RanSo}
@@ -21,7 +22,7 @@ abbrev pub records_so : (ℕ → Event → Bool) → List Rec → ℕ
 records_so told trace = count_by (λ (r : Rec). told r.kernel r.event) trace
 
 -- the wire is one that a run of these acts reaches: the run began with no call, and with the counts that the link had before the boot;
--- and of copies and timers the trace tells these acts, in their order; and of the sendings between any two no more than the packets
+-- and of packets and timers the trace tells these acts, in their order; so of copies and timers; and of the sendings between any two no more than the packets
 -- with which calls begin in these acts
 pub record ReachedSo {L : Type 0} (faults asked : L → ℕ → ℕ → ℕ) (begun : L) (wire : Wired L) (trace : List Rec) : Type 0 where
   pub first : Wired L
@@ -29,6 +30,7 @@ pub record ReachedSo {L : Type 0} (faults asked : L → ℕ → ℕ → ℕ) (be
   pub counts : Stay (faults begun) (asked begun) (faults first.link) (asked first.link)
   pub steps : List (Act × Counts)
   pub ran : Ran faults asked first wire steps
+  pub linked : of_link trace ≡ told_of all_told_by idle steps
   pub in_order : of_wire trace ≡ told_of told_by idle steps
   pub sends : (a b : ℕ) → records_so (tells_sending a b) trace ≤ all_sent_between a b steps
 

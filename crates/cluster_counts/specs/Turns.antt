@@ -10,14 +10,16 @@ use Rattle.cluster_packets.specs.declared.Choice.{Choice}
 use Rattle.cluster_packets.specs.Acts.{Happens}
 use Rattle.cluster_bursts.specs.declared.Burst.{Burst}
 use Rattle.cluster_bursts.specs.Ends.{Ends}
+use Rattle.cluster_counts.specs.Links.{all_told_by, of_link}
 use Rattle.cluster_counts.specs.Orders.{of_wire, records_by, told_by}
 use Rattle.cluster_counts.specs.Asks.{all_sent_between, tells_sending}
 
--- in a turn of the kernel the wire went from here to there by some acts, and of copies and timers the kernel told these acts, in
--- their order; and of the sendings between any two it told no more than the packets with which calls begin in these acts
+-- in a turn of the kernel the wire went from here to there by some acts, and of packets and timers the kernel told these acts, in
+-- their order; so of copies and timers, and of the sendings between any two no more than the packets with which calls begin in these acts
 pub record RanSo {L : Type 0} (faults asked : L → ℕ → ℕ → ℕ) (kernel : ℕ) (old new : Wired L) (before after : List Event) : Type 0 where
   pub steps : List (Act × Counts)
   pub ran : Ran faults asked old new steps
+  pub linked : of_link (records_by kernel after) ≡ of_link (records_by kernel before) ++ told_of all_told_by old.machine steps
   pub in_order : of_wire (records_by kernel after) ≡ of_wire (records_by kernel before) ++ told_of told_by old.machine steps
   pub sends : (a b : ℕ) → count_by (tells_sending a b kernel) after ≤ count_by (tells_sending a b kernel) before + all_sent_between a b steps
 

@@ -40,6 +40,11 @@ abbrev pub left_after : Event → List Sent → List Sent
 left_after event [] = []
 left_after event (packet ∷ packets) = if is_of event packet then packets else packet ∷ packets
 
+-- the packets that went out of which none of these events tells
+abbrev pub untold : List Event → List Sent → List Sent
+untold [] sent = sent
+untold (event ∷ events) sent = untold events (left_after event sent)
+
 -- one thing that the kernel did: a sending is told with its packet's fault exactly where its packet went out
 abbrev pub noted_one : ℕ → Event → Option Sent → List Event → List Event
 noted_one kernel event None told = if is_own event then told ++ event ∷ [] else told

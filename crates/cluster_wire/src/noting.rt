@@ -1,5 +1,5 @@
-ghost use Rattle.std.specs.Prelude.{◌≡◌, None, OnOk};
-ghost use Rattle.cluster_wire.specs.Noted.{faulted, faulted_all, is_of, is_own, left_after, noted_all, noted_one, packet_of};
+ghost use Rattle.std.specs.Prelude.{◌≡◌, [], None, OnOk};
+ghost use Rattle.cluster_wire.specs.Noted.{faulted, faulted_all, is_of, is_own, left_after, noted_all, noted_one, packet_of, untold};
 
 use crate::telling::Sent;
 use link_plan::Fate;
@@ -40,17 +40,17 @@ pub fn note_faults(
 }
 
 /// Tells what the kernel did, which takes it out of the list, beside the packets that went out: a sending is told exactly where its
-/// packet went out, directly followed by the packet's fault, where the link made one. The one error is want of memory.
-///
-/// The kernel tells its sendings in the order in which its packets go out, so none is left out; and of bursts, timers, packets that
-/// come and faults no kernel tells.
+/// packet went out, directly followed by the packet's fault, where the link made one. So each packet that went out is told. The one
+/// error is want of memory; it is also the answer where one of them isn't told, which never comes, since the kernel tells its sendings
+/// in the order in which its packets go out. Of bursts, timers, packets that come and faults no kernel tells.
 pub fn note_all(
     told: &mut Items<Event>,
     kernel: Kernel,
     events: &mut Items<Event>,
     sent: &[Sent],
 ) -> Result<(), NoMemory>
-    ensures { OnOk result (told.new ≡ noted_all kernel events.old sent.now told.old) }
+    ensures told { OnOk result (told.new ≡ noted_all kernel events.old sent.now told.old) }
+    ensures whole { OnOk result (untold events.old sent.now ≡ []) }
 {
     let mut left = sent;
     'events: while !events.is_empty() {
@@ -58,6 +58,9 @@ pub fn note_all(
         let rest = left_after(&event, left);
         note_one(told, kernel, event, left)?;
         left = rest;
+    }
+    if !left.is_empty() {
+        return Err(NoMemory);
     }
     Ok(())
 }

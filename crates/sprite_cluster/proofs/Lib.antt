@@ -1,1 +1,13 @@
+pub mod SendCalls
+pub mod SendClients
+pub mod SendCluster
+pub mod SendClusters
+pub mod SendFiles
+pub mod SendMoves
+pub mod SendPackets
+pub mod SendRecords
+pub mod SendServers
+pub mod SendTables
+pub mod SendWires
 pub mod StepLaws
+pub mod WireLaws

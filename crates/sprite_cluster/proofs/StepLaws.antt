@@ -1,5 +1,5 @@
 -- The calls of a cluster as steps of a value that kernels take in turns.
-use Rattle.std.proofs.Common.{arith, ◌≡◌, ◌≢◌, ℕ, zero, suc, ◌+◌, ◌<◌, ◌≤◌, ◌==◌, ◌⊎◌, Bool, true, false, ◌||◌, not, cond, List, [], ◌∷◌, ◌++◌, refl, sym, ap, ap₂, subst, Option, Some, None, Result, Ok, Err, IfOk, IfSome, OnOk, ◌∙◌, length, map, nat_le, inl, inr, if◌then◌else◌, IsTrue}
+use Rattle.std.proofs.Common.{arith, ◌≡◌, ◌≢◌, ℕ, zero, suc, ◌+◌, ◌<◌, ◌≤◌, ◌==◌, ◌⊎◌, Bool, true, false, ◌||◌, not, cond, List, [], ◌∷◌, ◌++◌, append-nil, refl, sym, ap, ap₂, subst, Option, Some, None, Result, Ok, Err, IfOk, IfSome, OnOk, ◌∙◌, length, map, nat_le, inl, inr, if◌then◌else◌, IsTrue}
 use Rattle.std.proofs.lemmas.Bool.{and_parts, leb-false, leb-true}
 use Rattle.std.proofs.lemmas.List.{length-append, map-append}
 use Rattle.std.proofs.lemmas.List.Sums.{sum_by-append}
@@ -18,17 +18,21 @@ use Rattle.turn_gate.specs.Steps.{AllBy, Grows}
 use Rattle.cluster_kernels.specs.declared.State.{State}
 use Rattle.cluster_kernels.specs.Kernels.{has_ended}
 use Rattle.cluster_wire.specs.Faults.{FaultsTold, faults_told, is_fault_between}
-use Rattle.cluster_wire.specs.Ran.{RanOn}
-use Rattle.cluster_wire.proofs.RanLaws.{on_join}
 use Rattle.cluster_packets.specs.Choosing.{choices_at}
 use Rattle.cluster_packets.specs.declared.Choice.{Choice}
 use Rattle.kernel_rpc.specs.Sound.{Wired}
-use Rattle.cluster_packets.proofs.ActLaws.{happens_ran, out_happening, told_happening}
+use Rattle.cluster_packets.proofs.ActLaws.{out_happening, told_happening}
 use Rattle.cluster_bursts.specs.Bursts.{has_job_at}
 use Rattle.cluster_bursts.specs.declared.Burst.{Burst}
-use Rattle.cluster_bursts.proofs.EndLaws.{ends_ran, out_ends, out_less, stale_ends, told_ends}
+use Rattle.cluster_bursts.proofs.EndLaws.{out_ends, out_less, stale_ends, told_ends}
 use Rattle.sprite_cluster.specs.Finishing.{are_busy, finish_of, is_busy, may_go_on, stands_so}
-use Rattle.sprite_cluster.specs.Logs.{Holds, Reached, TellsFaults, faults_between, log_of, records_of}
+use Rattle.sprite_cluster.specs.Logs.{Holds, TellsFaults, faults_between, log_of}
+use Rattle.cluster_counts.specs.Orders.{records_by}
+use Rattle.cluster_counts.specs.Traces.{ReachedSo}
+use Rattle.cluster_counts.specs.Turns.{RanSo}
+use Rattle.cluster_counts.proofs.TraceLaws.{turn_keeps}
+use Rattle.cluster_counts.proofs.TurnLaws.{happening_so}
+use Rattle.cluster_counts.proofs.EndingLaws.{ending_so}
 use Rattle.std.specs.declared.snapshot.Snapshot.{Snapshot}
 use Rattle.sprite_ids.specs.declared.NoMemory.{NoMemory}
 use Rattle.kernel_threads.specs.Steps.{Adds, Stays}
@@ -39,13 +43,14 @@ use Rattle.cluster_bursts.proofs.BeginLaws.{counts_begun}
 use Rattle.sprite_cluster.specs.declared.cluster.Cluster.{Cluster}
 use Rattle.sprite_cluster.specs.declared.origin.Origin.{Origin}
 use Rattle.sprite_cluster.specs.Steps.{Moved, TookBurst, begun_turn}
+use Rattle.sprite_cluster.proofs.WireLaws.{finish_holds}
 
 -- a kernel's records in the log
-log_records : (kernel : ℕ) (told : List Event) → AllBy kernel (log_of (records_of kernel told))
+log_records : (kernel : ℕ) (told : List Event) → AllBy kernel (log_of (records_by kernel told))
 log_records kernel [] = tt
 log_records kernel (e ∷ told) = (refl, log_records kernel told)
 
-length_records : (kernel : ℕ) (told : List Event) → length (records_of kernel told) ≡ length told
+length_records : (kernel : ℕ) (told : List Event) → length (records_by kernel told) ≡ length told
 length_records kernel [] = refl
 length_records kernel (e ∷ told) = ap suc (length_records kernel told)
 
@@ -54,14 +59,14 @@ length_log [] = refl
 length_log (r ∷ trace) = ap suc (length_log trace)
 
 -- the log grows by them
-pub log_grows : (kernel : ℕ) (told : List Event) (old new : List Rec) → new ≡ old ++ records_of kernel told → Grows kernel (log_of old) (log_of new)
-log_grows kernel told old new written = (log_of (records_of kernel told), ap log_of written ∙ map-append (λ (r : Rec). (r.kernel, r.event)) old (records_of kernel told), log_records kernel told)
+pub log_grows : (kernel : ℕ) (told : List Event) (old new : List Rec) → new ≡ old ++ records_by kernel told → Grows kernel (log_of old) (log_of new)
+log_grows kernel told old new written = (log_of (records_by kernel told), ap log_of written ∙ map-append (λ (r : Rec). (r.kernel, r.event)) old (records_by kernel told), log_records kernel told)
 
-pub log_longer : (kernel : ℕ) (told : List Event) (old new : List Rec) → new ≡ old ++ records_of kernel told → 0 < length told → length (log_of old) < length (log_of new)
+pub log_longer : (kernel : ℕ) (told : List Event) (old new : List Rec) → new ≡ old ++ records_by kernel told → 0 < length told → length (log_of old) < length (log_of new)
 log_longer kernel told old new written some =
     (let before = length_log old in
     let after = length_log new in
-    let grown = ap length written ∙ length-append old (records_of kernel told) in
+    let grown = ap length written ∙ length-append old (records_by kernel told) in
     let added = length_records kernel told in omega arith)
 
 -- the faults that are told are those of the records
@@ -71,21 +76,17 @@ first_record a b kernel e trace = sum_by-append (λ (r : Rec). cond {A = ℕ} (i
 first_told : (a b : ℕ) (e : Event) (told : List Event) → faults_told a b (e ∷ told) ≡ (0 + cond {A = ℕ} (is_fault_between a b e) 1 0) + faults_told a b told
 first_told a b e told = sum_by-append (λ (e : Event). cond {A = ℕ} (is_fault_between a b e) 1 0) (e ∷ []) told
 
-faults_of_records : (a b kernel : ℕ) (told : List Event) → faults_between a b (records_of kernel told) ≡ faults_told a b told
+faults_of_records : (a b kernel : ℕ) (told : List Event) → faults_between a b (records_by kernel told) ≡ faults_told a b told
 faults_of_records a b kernel [] = refl
-faults_of_records a b kernel (e ∷ told) = first_record a b kernel e (records_of kernel told) ∙ ap (λ n. (0 + cond {A = ℕ} (is_fault_between a b e) 1 0) + n) (faults_of_records a b kernel told) ∙ sym (first_told a b e told)
+faults_of_records a b kernel (e ∷ told) = first_record a b kernel e (records_by kernel told) ∙ ap (λ n. (0 + cond {A = ℕ} (is_fault_between a b e) 1 0) + n) (faults_of_records a b kernel told) ∙ sym (first_told a b e told)
 
 -- what a kernel told keeps what is always true
-pub tells_more : {L : Type 0} (faults : L → ℕ → ℕ → ℕ) (begun before after : L) (kernel : ℕ) (told : List Event) (old new : List Rec) → new ≡ old ++ records_of kernel told → FaultsTold faults before after [] told → TellsFaults faults begun before old → TellsFaults faults begun after new
+pub tells_more : {L : Type 0} (faults : L → ℕ → ℕ → ℕ) (begun before after : L) (kernel : ℕ) (told : List Event) (old new : List Rec) → new ≡ old ++ records_by kernel told → FaultsTold faults before after [] told → TellsFaults faults begun before old → TellsFaults faults begun after new
 tells_more faults begun before after kernel told old new written more tells a b =
     (let so_far = tells a b in
     let now = more a b in
-    let sum = ap (faults_between a b) written ∙ sum_by-append (λ (r : Rec). cond {A = ℕ} (is_fault_between a b r.event) 1 0) old (records_of kernel told) in
+    let sum = ap (faults_between a b) written ∙ sum_by-append (λ (r : Rec). cond {A = ℕ} (is_fault_between a b r.event) 1 0) old (records_by kernel told) in
     let same = faults_of_records a b kernel told in omega arith)
-
--- a wire that goes on from one that a run reaches is one that a run reaches
-pub reached_more : {L : Type 0} (faults asked : L → ℕ → ℕ → ℕ) (begun : L) (old new : Wired L) → Reached faults asked begun old → RanOn faults asked old new → Reached faults asked begun new
-reached_more faults asked begun old new before ran = record { first = before.first; idles = before.idles; counts = before.counts; runs = on_join faults asked before.first old new before.runs ran }
 
 -- each record costs a unit at least
 unit_at_least : (e : Event) → 1 ≤ units_of_event e
@@ -172,7 +173,7 @@ may_move closed c trace machine s is none = busy_somewhere (length c.kernels) ma
     by_out (inr busy) = busy
 
 -- what a call of a cluster adds to it
-pub adds_of : {L : Type 0} (faults asked : L → ℕ → ℕ → ℕ) (kernel : ℕ) (old now : Cluster L) (told : List Event) → now.description ≡ old.description → now.begun ≡ old.begun → now.closed ≡ old.closed → now.trace ≡ old.trace ++ records_of kernel told → 0 < length told → FaultsTold faults old.wire.link now.wire.link [] told → RanOn faults asked old.wire now.wire → Holds faults asked old.description old.closed old.begun.value old.wire old.trace → Adds {O = Origin L} (λ (v : Cluster L). record { description = v.description; link = v.begun }) (λ (v : Cluster L). log_of v.trace) (λ (v : Cluster L). Holds faults asked v.description v.closed v.begun.value v.wire v.trace) kernel old now
+pub adds_of : {L : Type 0} (faults asked : L → ℕ → ℕ → ℕ) (kernel : ℕ) (old now : Cluster L) (told : List Event) → now.description ≡ old.description → now.begun ≡ old.begun → now.closed ≡ old.closed → now.trace ≡ old.trace ++ records_by kernel told → 0 < length told → FaultsTold faults old.wire.link now.wire.link [] told → RanSo faults asked kernel old.wire now.wire [] told → Holds faults asked old.description old.closed old.begun.value old.wire old.trace → Adds {O = Origin L} (λ (v : Cluster L). record { description = v.description; link = v.begun }) (λ (v : Cluster L). log_of v.trace) (λ (v : Cluster L). Holds faults asked v.description v.closed v.begun.value v.wire v.trace) kernel old now
 adds_of {L} faults asked kernel old now told same begun unclosed written some more ran held = record {
   origin_stays = ap₂ (λ (d : Description) (l : Snapshot L). record { description = d; link = l }) same begun;
   grows = log_grows kernel told old.trace now.trace written;
@@ -180,14 +181,14 @@ adds_of {L} faults asked kernel old now told same begun unclosed written some mo
   still_holds = record {
     lawful = subst Lawful (sym same) held.lawful;
     tells = λ is. subst (λ (l : Snapshot L). TellsFaults faults l.value now.wire.link now.trace) (sym begun) (tells_more faults old.begun.value old.wire.link now.wire.link kernel told old.trace now.trace written more (held.tells (sym unclosed ∙ is)));
-    reached = λ is. subst (λ (l : Snapshot L). Reached faults asked l.value now.wire) (sym begun) (reached_more faults asked old.begun.value old.wire now.wire (held.reached (sym unclosed ∙ is)) ran);
+    reached = λ is. subst (λ (l : Snapshot L). ReachedSo faults asked l.value now.wire now.trace) (sym begun) (turn_keeps faults asked old.begun.value kernel old.wire now.wire told old.trace now.trace (held.reached (sym unclosed ∙ is)) ran written);
   };
 }
 
 -- a step
 pub step_adds : {L : Type 0} (faults asked : L → ℕ → ℕ → ℕ) (kernel : ℕ) (choice : Choice) (old now : Cluster L) (r : Result (Unit {0}) NoMemory) → OnOk r (Moved faults asked old.description kernel choice old.wire now.wire old.state now.state old.trace now.trace) → OnOk r (now.closed ≡ old.closed) → now.description ≡ old.description → now.begun ≡ old.begun → Holds faults asked old.description old.closed old.begun.value old.wire old.trace → OnOk r (Adds {O = Origin L} (λ (v : Cluster L). record { description = v.description; link = v.begun }) (λ (v : Cluster L). log_of v.trace) (λ (v : Cluster L). Holds faults asked v.description v.closed v.begun.value v.wire v.trace) kernel old now)
 step_adds faults asked kernel choice old now (Ok x) moved unclosed same begun held =
-    adds_of faults asked kernel old now moved.turn.told same begun unclosed moved.written moved.some_told (told_happening faults asked old.description kernel choice old.wire now.wire (begun_turn old.state) moved.turn moved.happens) (happens_ran faults asked old.description kernel choice old.wire now.wire (begun_turn old.state) moved.turn moved.happens) held
+    adds_of faults asked kernel old now moved.turn.told same begun unclosed moved.written moved.some_told (told_happening faults asked old.description kernel choice old.wire now.wire (begun_turn old.state) moved.turn moved.happens) (happening_so faults asked old.description kernel choice old.wire now.wire (begun_turn old.state) moved.turn moved.happens) held
 step_adds faults asked kernel choice old now (Err e) moved unclosed same begun held = tt
 
 pub step_keeps_out : {L : Type 0} (faults asked : L → ℕ → ℕ → ℕ) (kernel : ℕ) (choice : Choice) (old now : Cluster L) (r : Result (Unit {0}) NoMemory) → OnOk r (Moved faults asked old.description kernel choice old.wire now.wire old.state now.state old.trace now.trace) → OnOk r (length now.state.out ≡ length old.state.out)
@@ -199,17 +200,13 @@ pub finish_stays : {L : Type 0} (faults asked : L → ℕ → ℕ → ℕ) (old 
 finish_stays {L} faults asked old now same begun written stays held = record {
   origin_stays = ap₂ (λ (d : Description) (l : Snapshot L). record { description = d; link = l }) same begun;
   log_stays = ap log_of written;
-  still_holds = record {
-    lawful = subst Lawful (sym same) held.lawful;
-    tells = λ is. subst (λ (v : Cluster L). TellsFaults faults v.begun.value v.wire.link v.trace) (sym (stays is)) (held.tells (sym (ap (λ (v : Cluster L). v.closed) (stays is)) ∙ is));
-    reached = λ is. subst (λ (v : Cluster L). Reached faults asked v.begun.value v.wire) (sym (stays is)) (held.reached (sym (ap (λ (v : Cluster L). v.closed) (stays is)) ∙ is));
-  };
+  still_holds = finish_holds faults asked old now same stays held;
 }
 
 -- a burst that was taken
 pub taken_adds : {L : Type 0} (faults asked : L → ℕ → ℕ → ℕ) (kernel : ℕ) (b : Burst) (old now : Cluster L) → TookBurst faults asked old.description kernel b old.wire now.wire old.state now.state old.trace now.trace → now.closed ≡ old.closed → now.description ≡ old.description → now.begun ≡ old.begun → Holds faults asked old.description old.closed old.begun.value old.wire old.trace → Adds {O = Origin L} (λ (v : Cluster L). record { description = v.description; link = v.begun }) (λ (v : Cluster L). log_of v.trace) (λ (v : Cluster L). Holds faults asked v.description v.closed v.begun.value v.wire v.trace) kernel old now
 taken_adds faults asked kernel burst old now took unclosed same begun held =
-    adds_of faults asked kernel old now took.turn.told same begun unclosed took.written took.some_told (told_ends faults asked old.description kernel burst true old.wire now.wire (begun_turn old.state) took.turn took.ends) (ends_ran faults asked old.description kernel burst true old.wire now.wire (begun_turn old.state) took.turn took.ends) held
+    adds_of faults asked kernel old now took.turn.told same begun unclosed took.written took.some_told (told_ends faults asked old.description kernel burst true old.wire now.wire (begun_turn old.state) took.turn took.ends) (ending_so faults asked old.description kernel burst true old.wire now.wire (begun_turn old.state) took.turn took.ends) held
 
 pub taken_out : {L : Type 0} (faults asked : L → ℕ → ℕ → ℕ) (c : Description) (kernel : ℕ) (b : Burst) (before after : Wired L) (s t : State) (old new : List Rec) → TookBurst faults asked c kernel b before after s t old new → length t.out + 1 ≡ length s.out
 taken_out faults asked c kernel burst before after s t old new took = ap (λ (s : State). length s.out + 1) took.stands ∙ out_ends faults asked c kernel burst before after (begun_turn s) took.turn took.ends
@@ -225,7 +222,7 @@ stale_keeps {L} faults asked kernel burst old now ends written unclosed same beg
         let more = told_ends faults asked old.description kernel burst false old.wire now.wire (begun_turn old.state) now.state ends a b in
         let one = ap (λ (l : Snapshot L). faults l.value a b) begun in
         let two = ap (faults_between a b) written in omega arith);
-    reached = λ is. subst (λ (l : Snapshot L). Reached faults asked l.value now.wire) (sym begun) (reached_more faults asked old.begun.value old.wire now.wire (held.reached (sym unclosed ∙ is)) (ends_ran faults asked old.description kernel burst false old.wire now.wire (begun_turn old.state) now.state ends));
+    reached = λ is. subst (λ (l : Snapshot L). ReachedSo faults asked l.value now.wire now.trace) (sym begun) (turn_keeps faults asked old.begun.value kernel old.wire now.wire [] old.trace now.trace (held.reached (sym unclosed ∙ is)) (subst (λ (told : List Event). RanSo faults asked kernel old.wire now.wire [] told) (ap (λ (s : State). s.told) (stale_ends faults asked old.description kernel burst old.wire now.wire (begun_turn old.state) now.state ends).1) (ending_so faults asked old.description kernel burst false old.wire now.wire (begun_turn old.state) now.state ends)) (written ∙ sym (append-nil old.trace)));
   };
 }
 

@@ -1,3 +1,4 @@
 pub mod Finishing
 pub mod Logs
 pub mod Steps
+pub mod Wires

@@ -1,18 +1,12 @@
 -- What a cluster has written, and what is always true of it.
 use Rattle.std.specs.Prelude.{◌≡◌, ℕ, ◌+◌, ◌≤◌, Bool, false, List, count_by, map}
-use Rattle.link_plan.specs.Counts.{Stay}
-use Rattle.kernel_rpc.specs.Machine.{idle}
 use Rattle.kernel_rpc.specs.Sound.{Wired}
 use Rattle.unix_calls.specs.declared.Description.{Description}
 use Rattle.unix_calls.specs.declared.Event.{Event}
 use Rattle.unix_calls.specs.declared.Rec.{Rec}
 use Rattle.unix_calls.specs.Lawful.{Lawful}
 use Rattle.cluster_wire.specs.Faults.{is_fault_between}
-use Rattle.cluster_wire.specs.Ran.{RanOn}
-
--- what a kernel told, as records of it
-abbrev pub records_of : ℕ → List Event → List Rec
-records_of kernel told = map (λ event. record { kernel = kernel; event = event }) told
+use Rattle.cluster_counts.specs.Traces.{ReachedSo}
 
 -- the records of a trace, each as its kernel's
 abbrev pub log_of : List Rec → List (ℕ × Event)
@@ -26,16 +20,9 @@ faults_between a b trace = count_by (λ (r : Rec). is_fault_between a b r.event)
 abbrev pub TellsFaults : {L : Type 0} → (L → ℕ → ℕ → ℕ) → L → L → List Rec → Type 0
 TellsFaults faults begun link trace = (a b : ℕ) → faults begun a b + faults_between a b trace ≤ faults link a b
 
--- the wire is one that a run of it reaches: the run began with no call, and with the counts that the link had before the boot
-pub record Reached {L : Type 0} (faults asked : L → ℕ → ℕ → ℕ) (begun : L) (wire : Wired L) : Type 0 where
-  pub first : Wired L
-  pub idles : first.machine ≡ idle
-  pub counts : Stay (faults begun) (asked begun) (faults first.link) (asked first.link)
-  pub runs : RanOn faults asked first wire
-
 -- what is always true of a cluster: what it runs is lawful, and as long as memory isn't wanting, its trace tells of the link's faults
--- alone, and its wire is one that a run reaches
+-- alone, and its wire is one that a run reaches whose acts the trace tells
 pub record Holds {L : Type 0} (faults asked : L → ℕ → ℕ → ℕ) (c : Description) (closed : Bool) (begun : L) (wire : Wired L) (trace : List Rec) : Type 0 where
   pub lawful : Lawful c
   pub tells : closed ≡ false → TellsFaults faults begun wire.link trace
-  pub reached : closed ≡ false → Reached faults asked begun wire
+  pub reached : closed ≡ false → ReachedSo faults asked begun wire trace

@@ -10,7 +10,7 @@ use Rattle.cluster_packets.specs.declared.Choice.{Choice}
 use Rattle.cluster_packets.specs.Acts.{Happens}
 use Rattle.cluster_bursts.specs.declared.Burst.{Burst}
 use Rattle.cluster_bursts.specs.Ends.{Ends}
-use Rattle.sprite_cluster.specs.Logs.{records_of}
+use Rattle.cluster_counts.specs.Orders.{records_by}
 
 -- the kernels as a turn begins: nothing is told yet
 abbrev pub begun_turn : State → State
@@ -21,7 +21,7 @@ pub record Moved {L : Type 0} (faults asked : L → ℕ → ℕ → ℕ) (c : De
   pub turn : State
   pub happens : Happens faults asked c kernel choice before after (begun_turn s) turn
   pub stands : t ≡ begun_turn turn
-  pub written : new ≡ old ++ records_of kernel turn.told
+  pub written : new ≡ old ++ records_by kernel turn.told
   pub some_told : 0 < length turn.told
 
 -- a burst of the kernel that counted ended, and all that the kernel told, which is something, stands in the trace
@@ -29,7 +29,7 @@ pub record TookBurst {L : Type 0} (faults asked : L → ℕ → ℕ → ℕ) (c 
   pub turn : State
   pub ends : Ends faults asked c kernel b true before after (begun_turn s) turn
   pub stands : t ≡ begun_turn turn
-  pub written : new ≡ old ++ records_of kernel turn.told
+  pub written : new ≡ old ++ records_by kernel turn.told
   pub some_told : 0 < length turn.told
 
 -- a burst of the kernel ended: where it counted, it was taken, and else lost, and nothing is written

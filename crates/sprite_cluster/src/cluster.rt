@@ -7,8 +7,10 @@ ghost use Rattle.cluster_kernels.specs.Booted.{IsBooted};
 ghost use Rattle.cluster_packets.specs.Choosing.{choices_at};
 ghost use Rattle.cluster_bursts.specs.Bursts.{begun_by, has_job_at, job_at, EndsSo};
 ghost use Rattle.sprite_cluster.specs.Finishing.{stands_so};
-ghost use Rattle.sprite_cluster.specs.Logs.{records_of};
+ghost use Rattle.sprite_cluster.specs.Logs.{Holds, TellsFaults};
+ghost use Rattle.cluster_counts.specs.Orders.{records_by};
 ghost use Rattle.sprite_cluster.specs.Steps.{begun_turn, EndedSo, Moved};
+ghost use Rattle.sprite_cluster.specs.Wires.{TellsWire};
 
 use crate::finishing::finish;
 use crate::writing::write;
@@ -126,7 +128,7 @@ impl<L: Link> Cluster<L> {
 
     // What the kernel told since its turn began stands in the trace. The one error is want of memory, and then the cluster is closed.
     fn write(&mut self, alloc: Global, kernel: Kernel) -> Result<(), NoMemory>
-        ensures written { OnOk result (self.new.trace ≡ self.old.trace ++ records_of kernel self.old.state.told) }
+        ensures written { OnOk result (self.new.trace ≡ self.old.trace ++ records_by kernel self.old.state.told) }
         ensures some { OnOk result (0 < length self.old.state.told) }
         ensures state { OnOk result (self.new.state ≡ begun_turn self.old.state) }
         ensures open { OnOk result (self.new.closed ≡ self.old.closed) }
@@ -252,10 +254,14 @@ impl<L: Link> Cluster<L> {
         }
     }
 
-    /// The run as it stands, with that finish, and the link.
+    /// The run as it stands, with that finish, and the link. Where memory wasn't wanting, its trace tells of no more faults than the
+    /// link counted since before the boot, and of packets what the wire did.
     pub fn close(self, finish: Finish) -> (Closed, L)
+        requires { Holds L.faults L.asked self.description self.closed self.begun.value self.wire self.trace }
         ensures closed { result.0 ≡ record { description = self.description; trace = self.trace; finish = finish } }
         ensures link { result.1 ≡ self.wire.link }
+        ensures faults { self.closed ≡ false → TellsFaults L.faults self.begun.value result.1 result.0.trace }
+        ensures wire { self.closed ≡ false → TellsWire L.asked self.begun.value result.1 result.0.trace }
     {
         let Cluster {
             description,
@@ -271,5 +277,20 @@ impl<L: Link> Cluster<L> {
             finish,
         };
         (closed, wire.into_link())
+    }
+
+    /// The link of a cluster whose run is given up.
+    pub fn into_link(self) -> L
+        ensures { result ≡ self.wire.link }
+    {
+        let Cluster {
+            description: _description,
+            state: _state,
+            wire,
+            trace: _trace,
+            begun: _begun,
+            closed: _closed,
+        } = self;
+        wire.into_link()
     }
 }

@@ -1,5 +1,5 @@
 ghost use Rattle.std.specs.Prelude.{◌≡◌, ◌++◌, ◌<◌, [], IfOk, OnErr, OnOk, length};
-ghost use Rattle.sprite_cluster.specs.Logs.{records_of};
+ghost use Rattle.cluster_counts.specs.Orders.{records_by};
 
 use call_journal::Trace;
 use sprite_ids::{Items, Kernel, NoMemory};
@@ -14,7 +14,7 @@ pub(crate) fn write(
     kernel: Kernel,
     told: &mut Items<Event>,
 ) -> Result<(), NoMemory>
-    ensures ok { OnOk result (trace.new ≡ trace.old ++ records_of kernel told.old) }
+    ensures ok { OnOk result (trace.new ≡ trace.old ++ records_by kernel told.old) }
     ensures some { OnOk result (0 < length told.old) }
     ensures none_left { OnOk result (told.new ≡ []) }
     ensures err { OnErr result (trace.new ≡ trace.old) }
@@ -32,7 +32,7 @@ fn records_of(
     kernel: Kernel,
     told: &mut Items<Event>,
 ) -> Result<Items<Rec>, NoMemory>
-    ensures recs { IfOk result (λ recs. recs ≡ records_of kernel told.old) }
+    ensures recs { IfOk result (λ recs. recs ≡ records_by kernel told.old) }
     ensures none_left { OnOk result (told.new ≡ []) }
 {
     let mut recs = Items::new(alloc);

@@ -1,13 +1,2 @@
 pub mod RunLaws
-pub mod SendCalls
-pub mod SendClients
-pub mod SendCluster
-pub mod SendClusters
-pub mod SendFiles
-pub mod SendMoves
-pub mod SendPackets
-pub mod SendRecords
-pub mod SendServers
-pub mod SendTables
-pub mod SendWires
 pub mod TopLaws

@@ -7,7 +7,11 @@ use Rattle.sprite_ids.specs.declared.running.Finish.{Finish}
 use Rattle.sprite_ids.specs.declared.running.Finish.TheVariants as finish
 use Rattle.call_journal.specs.Units.{units_of}
 use Rattle.kernel_rpc.specs.Machine.{Machine, idle}
-use Rattle.cluster_wire.proofs.RanLaws.{on_none}
+use Rattle.cluster_wire.proofs.RanLaws.{none_ran}
+use Rattle.cluster_counts.specs.Asks.{tells_sending}
+use Rattle.cluster_counts.specs.Links.{of_link}
+use Rattle.cluster_counts.specs.Orders.{of_wire}
+use Rattle.cluster_counts.specs.Traces.{records_so}
 use Rattle.unix_calls.specs.declared.description.Description.{Description}
 use Rattle.unix_calls.specs.declared.Rec.{Rec}
 use Rattle.unix_calls.specs.Domains.{roots_of}
@@ -70,16 +74,6 @@ close_run c closed after trace machine s end run stands enough same is = record 
   spent = subst (λ (r : Closed). IsSpent c r.trace r.finish) (sym is) (subst (λ (d : Description). IsSpent d trace end) same (spent_of closed after trace machine s end stands enough));
 }
 
--- and its trace tells of no more faults than the link counted since before the boot
-pub close_tells : {L : Type 0} (faults asked : L → ℕ → ℕ → ℕ) (old now : Cluster L) (after : L) (run : Closed) → (now.closed ≡ false → now ≡ old) → now.closed ≡ false → Holds faults asked old.description old.closed old.begun.value old.wire old.trace → after ≡ now.wire.link → run.trace ≡ now.trace → (a b : ℕ) → faults old.begun.value a b + faults_between a b run.trace ≤ faults after a b
-close_tells {L} faults asked old now after run stays unclosed held link trace a b =
-    (let same = stays unclosed in
-    let told = held.tells (sym (ap (λ (v : Cluster L). v.closed) same) ∙ unclosed) a b in
-    let links = ap (λ (v : Cluster L). faults v.wire.link a b) same in
-    let traces = ap (λ (v : Cluster L). faults_between a b v.trace) same in
-    let counted = ap (λ l. faults l a b) link in
-    let tells = ap (faults_between a b) trace in omega arith)
-
 -- what is always true of a cluster is true as it is booted
 pub boot_holds : {L : Type 0} (faults asked : L → ℕ → ℕ → ℕ) (link : L) (c : Description) (cluster : Cluster L) → Lawful c → cluster.description ≡ c → cluster.trace ≡ [] → cluster.begun.value ≡ link → cluster.wire.machine ≡ idle → Stay (faults link) (asked link) (faults cluster.wire.link) (asked cluster.wire.link) → Holds faults asked cluster.description cluster.closed cluster.begun.value cluster.wire cluster.trace
 boot_holds {L} faults asked link c cluster lawful same none begun idles stay = record {
@@ -91,7 +85,11 @@ boot_holds {L} faults asked link c cluster lawful same none begun idles stay = r
     first = cluster.wire;
     idles = idles;
     counts = subst (λ (l : L). Stay (faults l) (asked l) (faults cluster.wire.link) (asked cluster.wire.link)) (sym begun) stay;
-    runs = on_none faults asked cluster.wire cluster.wire refl;
+    steps = [];
+    ran = none_ran faults asked cluster.wire cluster.wire refl;
+    linked = ap of_link none;
+    in_order = ap of_wire none;
+    sends = λ a b. (let told : records_so (tells_sending a b) cluster.trace ≡ 0 = ap (records_so (tells_sending a b)) none in omega arith);
   };
 }
 

@@ -17,7 +17,7 @@ use Rattle.history_check.specs.declared.judgement.Judgement.TheVariants as judge
 use Rattle.sprite_top.specs.Judged.{TextCauses, judgement_status}
 use Rattle.sprite_words.specs.declared.Command.TheVariants as command
 use Rattle.sprite_words.specs.Words.{IsSpelled}
-use Rattle.sprite_top.specs.Top.{AsksFor, TellsFaults, printed, status_of, Causes, FileCauses, ClusterCauses}
+use Rattle.sprite_top.specs.Top.{AsksFor, TellsFaults, TellsWireOf, printed, status_of, Causes, FileCauses, ClusterCauses}
 use Rattle.sprite_ids.specs.declared.running.Finish.{Finish}
 use Rattle.sprite_ids.specs.declared.running.Finish.TheVariants as finish
 use Rattle.run_judge.specs.Judged.{IsJudged}
@@ -178,3 +178,7 @@ accepted print run output due spent j is = accepted_at print run.description run
 pub none_tells : {L : Type 0} (faults : L → ℕ → ℕ → ℕ) (before after : L) (r : Result Answer NoMemory) → IfOk r (λ a. a.closed ≡ None) → IfOk r (λ a. TellsFaults faults before after a.closed)
 none_tells faults before after (Ok a) none = subst (TellsFaults faults before after) (sym none) tt
 none_tells faults before after (Err e) none = none
+
+pub none_of_wire : {L : Type 0} (asked : L → ℕ → ℕ → ℕ) (before after : L) (r : Result Answer NoMemory) → IfOk r (λ a. a.closed ≡ None) → IfOk r (λ a. TellsWireOf asked before after a.closed)
+none_of_wire asked before after (Ok a) none = subst (TellsWireOf asked before after) (sym none) tt
+none_of_wire asked before after (Err e) none = none

@@ -26,6 +26,7 @@ use Rattle.run_judge.specs.Ends.{EndsAs}
 use Rattle.run_judge.specs.Judged.{JudgesTo}
 use Rattle.sprite_cluster.specs.Finishing.{IsSpent}
 use Rattle.sprite_cluster.specs.Logs.{Holds, faults_between}
+use Rattle.sprite_cluster.specs.Wires.{TellsWire}
 use Rattle.sprite_cluster.specs.declared.Cluster.{Cluster}
 use Rattle.sprite_top.specs.Judged.{numbered_line}
 use Rattle.unix_calls.specs.State.{Unix}
@@ -121,6 +122,11 @@ is_out_of_memory _ = false
 abbrev pub TellsFaults : {L : Type 0} → (L → ℕ → ℕ → ℕ) → L → L → Option Closed → Type 0
 TellsFaults faults before after None = Unit {0}
 TellsFaults faults before after (Some run) = (a b : ℕ) → faults before a b + faults_between a b run.trace ≤ faults after a b
+
+-- of a run that was made: what its trace tells of the packets that went over the link
+abbrev pub TellsWireOf : {L : Type 0} → (L → ℕ → ℕ → ℕ) → L → L → Option Closed → Type 0
+TellsWireOf asked before after None = Unit {0}
+TellsWireOf asked before after (Some run) = TellsWire asked before after run.trace
 
 -- what the run of a cluster comes to is the cluster's, and its budget is spent where it says so
 pub record IsRun (c : Description) (run : Closed) : Type 0 where

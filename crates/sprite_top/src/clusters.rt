@@ -5,7 +5,7 @@ ghost use Rattle.unix_calls.specs.Lawful.{Lawful};
 ghost use Rattle.call_journal.specs.Journal.{journal_of};
 ghost use Rattle.run_judge.specs.Judged.{IsJudged, JudgesTo};
 ghost use Rattle.sprite_cluster.specs.Logs.{Holds};
-ghost use Rattle.sprite_top.specs.Top.{ClusterCauses, IsBroken, IsRun, IsSameRun, TellsFaults, is_out_of_memory, printed, status_of};
+ghost use Rattle.sprite_top.specs.Top.{ClusterCauses, IsBroken, IsRun, IsSameRun, TellsFaults, TellsWireOf, is_out_of_memory, printed, status_of};
 
 use crate::judged::refuted_line;
 use crate::top::{Answer, Printing, Status, Turns};
@@ -39,6 +39,7 @@ pub(crate) fn answer_cluster<R: Threads + Wait + Sync, L: Link + Send, W: Watch 
     requires { Lawful description }
     ensures causes { IfOk result.0 (λ a. ClusterCauses print a.status description a.closed a.due) }
     ensures faults { IfOk result.0 (λ a. TellsFaults L.faults link result.1 a.closed) }
+    ensures wire { IfOk result.0 (λ a. TellsWireOf L.asked link result.1 a.closed) }
 {
     let (closed, link) = run_cluster(rt, alloc, description, turns, link, watch);
     let answer = match closed {
@@ -60,6 +61,7 @@ fn run_cluster<R: Threads + Wait + Sync, L: Link + Send, W: Watch + Sync>(
     requires { Lawful description }
     ensures run { IfOk result.0 (IsRun description) }
     ensures faults { IfOk result.0 (λ run. TellsFaults L.faults link result.1 (Some run)) }
+    ensures wire { IfOk result.0 (λ run. TellsWireOf L.asked link result.1 (Some run)) }
 {
     match Cluster::boot(alloc, description, link) {
         Ok(cluster) => run_booted(rt, alloc, cluster, turns, watch),
@@ -79,11 +81,12 @@ fn run_booted<R: Threads + Wait + Sync, L: Link + Send, W: Watch + Sync>(
     requires none_out { cluster.state.out ≡ [] }
     ensures run { IfOk result.0 (IsRun cluster.description) }
     ensures faults { IfOk result.0 (λ run. TellsFaults L.faults cluster.begun.value result.1 (Some run)) }
+    ensures wire { IfOk result.0 (λ run. TellsWireOf L.asked cluster.begun.value result.1 (Some run)) }
 {
     match run_by(rt, alloc, cluster, turns, watch) {
         Ok(cluster) => close(alloc, cluster),
         Err(cluster) => {
-            let (_closed, link) = cluster.close(Finish::OutOfMemory);
+            let link = cluster.into_link();
             (Err(NoMemory), link)
         }
     }
@@ -116,6 +119,7 @@ fn close<L: Link>(alloc: Global, cluster: Cluster<L>) -> (Result<Closed, NoMemor
     requires holds { Holds L.faults L.asked cluster.description cluster.closed cluster.begun.value cluster.wire cluster.trace }
     ensures run { IfOk result.0 (IsRun cluster.description) }
     ensures faults { IfOk result.0 (λ run. TellsFaults L.faults cluster.begun.value result.1 (Some run)) }
+    ensures wire { IfOk result.0 (λ run. TellsWireOf L.asked cluster.begun.value result.1 (Some run)) }
 {
     let mut cluster = cluster;
     let finish = cluster.finish(alloc);

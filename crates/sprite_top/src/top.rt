@@ -4,7 +4,7 @@ ghost use Rattle.sprite_words.specs.declared.Command.TheVariants.{Check};
 ghost use Rattle.sprite_ids.specs.declared.running.Finish.TheVariants.{AllEnded, Budget as Spent, Stalled as Stopped};
 ghost use Rattle.report_print.specs.Refused.{refusal_line};
 ghost use Rattle.sprite_top.specs.Judged.{TextCauses, judgement_status, verdict_status};
-ghost use Rattle.sprite_top.specs.Top.{TellsFaults, AsksFor, IsEnded, IsChecked, IsRefuted, IsRefused, IsUsage, IsReadFault, Causes, FileCauses, Wrote, Broke, status_number};
+ghost use Rattle.sprite_top.specs.Top.{TellsFaults, TellsWireOf, AsksFor, IsEnded, IsChecked, IsRefuted, IsRefused, IsUsage, IsReadFault, Causes, FileCauses, Wrote, Broke, status_number};
 
 use crate::clusters::answer_cluster;
 use crate::judged::judgement_line;
@@ -136,6 +136,7 @@ pub fn sprite<R: Threads + Wait + Sync, S: Source, K: Sink, L: Link + Send, W: W
     ensures no_memory { result.status ≡ Status.NoMemory → (K.held sink.new ≡ K.held sink.old) × (result.closed ≡ None) }
     ensures write_fault { result.status ≡ Status.WriteFault → Broke (K.held sink.old) (K.held sink.new) (K.faults sink.old) (K.faults sink.new) (λ status. Causes status (spelled words.now) (S.left source.old) (S.left source.new) (S.faults source.old) (S.faults source.new) result.closed) }
     ensures faults { TellsFaults L.faults link result.link result.closed }
+    ensures wire { TellsWireOf L.asked link result.link result.closed }
 {
     let (answer, link) = answer_to(rt, alloc, words, source, link, watch);
     let Ok(answer) = answer else {
@@ -160,7 +161,7 @@ pub fn sprite<R: Threads + Wait + Sync, S: Source, K: Sink, L: Link + Send, W: W
 }
 
 /// What is due for these words and this source, and the link. The one error is want of memory.
-#[tactic(auto, using(crate::proofs::TopLaws::none_tells))]
+#[tactic(auto, using(crate::proofs::TopLaws::none_tells, crate::proofs::TopLaws::none_of_wire))]
 fn answer_to<R: Threads + Wait + Sync, S: Source, L: Link + Send, W: Watch + Sync>(
     rt: &R,
     alloc: Global,
@@ -171,6 +172,7 @@ fn answer_to<R: Threads + Wait + Sync, S: Source, L: Link + Send, W: Watch + Syn
 ) -> (Result<Answer, NoMemory>, L)
     ensures causes { IfOk result.0 (λ a. Causes a.status (spelled words.now) (S.left source.old) (S.left source.new) (S.faults source.old) (S.faults source.new) a.closed a.due) }
     ensures faults { IfOk result.0 (λ a. TellsFaults L.faults link result.1 a.closed) }
+    ensures wire { IfOk result.0 (λ a. TellsWireOf L.asked link result.1 a.closed) }
 {
     match command_of(words) {
         Some(Command::Run) => {
@@ -234,6 +236,7 @@ fn answer_run<R: Threads + Wait + Sync, S: Source, L: Link + Send, W: Watch + Sy
 ) -> (Result<Answer, NoMemory>, L)
     ensures causes { (words : List (List ℕ)) → AsksFor print words → IfOk result.0 (λ a. Causes a.status words (S.left source.old) (S.left source.new) (S.faults source.old) (S.faults source.new) a.closed a.due) }
     ensures faults { IfOk result.0 (λ a. TellsFaults L.faults link result.1 a.closed) }
+    ensures wire { IfOk result.0 (λ a. TellsWireOf L.asked link result.1 a.closed) }
 {
     match read_all(alloc, source, FILE_BYTES) {
         Ok(bytes) => answer_file(rt, alloc, bytes.as_slice(), print, turns, link, watch),
@@ -311,6 +314,7 @@ fn answer_file<R: Threads + Wait + Sync, L: Link + Send, W: Watch + Sync>(
 ) -> (Result<Answer, NoMemory>, L)
     ensures causes { IfOk result.0 (λ a. FileCauses print a.status bytes.now a.closed a.due) }
     ensures faults { IfOk result.0 (λ a. TellsFaults L.faults link result.1 a.closed) }
+    ensures wire { IfOk result.0 (λ a. TellsWireOf L.asked link result.1 a.closed) }
 {
     match read_description(alloc, bytes) {
         Ok(description) => { answer_cluster(rt, alloc, description, print, turns, link, watch) }

@@ -1,7 +1,7 @@
 use denote.Exit.{yes}
 use denote.Param.{param}
 use denote.Param.Send.{arg_send, param_send}
-use Rattle.sprite_top.proofs.SendCluster.{cluster_sends}
+use Rattle.sprite_cluster.proofs.SendCluster.{cluster_sends}
 use Rattle.sprite_cluster.specs.contracts.cluster.Cluster as cluster
 use Rattle.sprite_top.proofs.clusters.run_by.Goals as goal
 

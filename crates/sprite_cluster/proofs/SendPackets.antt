@@ -1,7 +1,7 @@
 -- What crosses threads with a cluster: requests, replies, and what a step says.
 use denote.Param.Send.{IsSend}
 use denote.Param.SendFields.{declared_send, variants_send}
-use Rattle.sprite_top.proofs.SendRecords.{whole, bytes_sends, event_sends, path_sends, reply_sends}
+use Rattle.sprite_cluster.proofs.SendRecords.{whole, bytes_sends, event_sends, path_sends, reply_sends}
 use Rattle.packet_bodies.specs.contracts.opening_request.OpeningRequest as opening_request
 use Rattle.packet_bodies.specs.contracts.name_request.NameRequest as name_request
 use Rattle.packet_bodies.specs.contracts.make_request.MakeRequest as make_request

@@ -3,9 +3,9 @@ use denote.RattleType.{RattleType}
 use denote.Struct.Field.{row_field}
 use denote.Param.Send.{IsSend}
 use denote.Param.SendFields.{as_row_send, declared_send}
-use Rattle.sprite_top.proofs.SendRecords.{whole, description_sends}
-use Rattle.sprite_top.proofs.SendClusters.{state_sends, trace_sends}
-use Rattle.sprite_top.proofs.SendWires.{wire_sends}
+use Rattle.sprite_cluster.proofs.SendRecords.{whole, description_sends}
+use Rattle.sprite_cluster.proofs.SendClusters.{state_sends, trace_sends}
+use Rattle.sprite_cluster.proofs.SendWires.{wire_sends}
 use Rattle.kernel_rpc.specs.contracts.wire.Wire as wire
 use Rattle.link_plan.specs.declared.link.Link as link
 use Rattle.sprite_cluster.specs.contracts.cluster.Cluster as cluster

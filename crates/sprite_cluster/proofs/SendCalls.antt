@@ -1,7 +1,7 @@
 -- What crosses threads with a cluster: remote calls.
 use denote.Param.Send.{IsSend}
 use denote.Param.SendFields.{declared_send}
-use Rattle.sprite_top.proofs.SendRecords.{whole, bytes_sends}
+use Rattle.sprite_cluster.proofs.SendRecords.{whole, bytes_sends}
 use Rattle.kernel_rpc.specs.contracts.call.Call as call
 use Rattle.kernel_rpc.specs.contracts.table.CallTable as call_table
 

@@ -1,10 +1,10 @@
 -- What crosses threads with a cluster: a client's kernel.
 use denote.Param.Send.{IsSend}
 use denote.Param.SendFields.{declared_send, variants_send}
-use Rattle.sprite_top.proofs.SendRecords.{whole, call_sends, image_sends, kernel_line_sends, program_line_sends, reply_sends}
-use Rattle.sprite_top.proofs.SendTables.{device_sends, home_sends}
-use Rattle.sprite_top.proofs.SendFiles.{client_files_sends}
-use Rattle.sprite_top.proofs.SendMoves.{move_step_sends}
+use Rattle.sprite_cluster.proofs.SendRecords.{whole, call_sends, image_sends, kernel_line_sends, program_line_sends, reply_sends}
+use Rattle.sprite_cluster.proofs.SendTables.{device_sends, home_sends}
+use Rattle.sprite_cluster.proofs.SendFiles.{client_files_sends}
+use Rattle.sprite_cluster.proofs.SendMoves.{move_step_sends}
 use Rattle.client_homes.specs.contracts.process.ProcState as proc_state
 use Rattle.client_homes.specs.contracts.process.Proc as proc
 use Rattle.client_homes.specs.contracts.client.Leaving as leaving

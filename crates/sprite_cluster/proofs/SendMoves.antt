@@ -1,7 +1,7 @@
 -- What crosses threads with a cluster: processes on their way.
 use denote.Param.Send.{IsSend}
 use denote.Param.SendFields.{variants_send}
-use Rattle.sprite_top.proofs.SendRecords.{whole, image_sends, path_sends}
+use Rattle.sprite_cluster.proofs.SendRecords.{whole, image_sends, path_sends}
 use Rattle.migrate_freeze.specs.contracts.frozen.Moving as moving
 use Rattle.migrate_freeze.specs.contracts.frozen.Sent as sent
 use Rattle.migrate_freeze.specs.contracts.frozen.MoveStep as move_step

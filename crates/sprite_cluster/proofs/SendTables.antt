@@ -2,7 +2,7 @@
 use denote.Param.Send.{IsSend}
 use denote.Param.SendFields.{declared_send}
 use Rattle.std.proofs.Crossing.{crosses}
-use Rattle.sprite_top.proofs.SendRecords.{whole, path_sends}
+use Rattle.sprite_cluster.proofs.SendRecords.{whole, path_sends}
 use Rattle.lru.proofs.Crosses as nodes
 use Rattle.std.proofs.Crossing as std
 use Rattle.write_delay.specs.contracts.delays.Delays as delays

@@ -1,9 +1,9 @@
 -- What crosses threads with a cluster: a file server.
 use denote.Param.Send.{IsSend}
 use denote.Param.SendFields.{declared_send}
-use Rattle.sprite_top.proofs.SendRecords.{whole, path_sends}
-use Rattle.sprite_top.proofs.SendTables.{names_sends, shadows_sends, store_sends, swap_sends, versions_sends}
-use Rattle.sprite_top.proofs.SendPackets.{out_sends, request_sends}
+use Rattle.sprite_cluster.proofs.SendRecords.{whole, path_sends}
+use Rattle.sprite_cluster.proofs.SendTables.{names_sends, shadows_sends, store_sends, swap_sends, versions_sends}
+use Rattle.sprite_cluster.proofs.SendPackets.{out_sends, request_sends}
 use Rattle.server_kernel.specs.contracts.asked.Asked as asked
 use Rattle.server_kernel.specs.contracts.server.Domain as domain
 use Rattle.server_kernel.specs.contracts.server.Server as server

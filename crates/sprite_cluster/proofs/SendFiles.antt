@@ -1,9 +1,9 @@
 -- What crosses threads with a cluster: the files' side of a client's kernel.
 use denote.Param.Send.{IsSend}
 use denote.Param.SendFields.{declared_send, variants_send}
-use Rattle.sprite_top.proofs.SendRecords.{whole, bytes_sends, call_sends, path_sends}
-use Rattle.sprite_top.proofs.SendTables.{cache_sends, delays_sends, prefixes_sends, streams_sends}
-use Rattle.sprite_top.proofs.SendPackets.{out_sends}
+use Rattle.sprite_cluster.proofs.SendRecords.{whole, bytes_sends, call_sends, path_sends}
+use Rattle.sprite_cluster.proofs.SendTables.{cache_sends, delays_sends, prefixes_sends, streams_sends}
+use Rattle.sprite_cluster.proofs.SendPackets.{out_sends}
 use Rattle.client_tables.specs.contracts.states.NameState as name_state
 use Rattle.client_tables.specs.contracts.states.DataState as data_state
 use Rattle.client_tables.specs.contracts.names.NameKind as name_kind

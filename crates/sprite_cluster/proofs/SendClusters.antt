@@ -1,9 +1,9 @@
 -- What crosses threads with a cluster.
 use denote.Param.Send.{IsSend}
 use denote.Param.SendFields.{declared_send, variants_send}
-use Rattle.sprite_top.proofs.SendRecords.{whole, event_sends, rec_sends}
-use Rattle.sprite_top.proofs.SendClients.{client_procs_sends}
-use Rattle.sprite_top.proofs.SendServers.{server_sends}
+use Rattle.sprite_cluster.proofs.SendRecords.{whole, event_sends, rec_sends}
+use Rattle.sprite_cluster.proofs.SendClients.{client_procs_sends}
+use Rattle.sprite_cluster.proofs.SendServers.{server_sends}
 use Rattle.call_journal.specs.contracts.trace.Trace as trace
 use Rattle.cluster_kernels.specs.contracts.kernel_state.KernelState as kernel_state
 use Rattle.cluster_kernels.specs.contracts.state.State as state

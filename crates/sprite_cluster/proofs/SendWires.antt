@@ -3,8 +3,8 @@ use denote.RattleType.{RattleType}
 use denote.Struct.Field.{row_field}
 use denote.Param.Send.{IsSend, view_send}
 use denote.Param.SendFields.{as_row_send, declared_send}
-use Rattle.sprite_top.proofs.SendRecords.{whole}
-use Rattle.sprite_top.proofs.SendCalls.{call_table_sends}
+use Rattle.sprite_cluster.proofs.SendRecords.{whole}
+use Rattle.sprite_cluster.proofs.SendCalls.{call_table_sends}
 use Rattle.kernel_rpc.specs.contracts.wire.Wire as wire
 use Rattle.kernel_rpc.specs.contracts.wire.Wire.TheInside as inside
 use Rattle.link_plan.specs.declared.link.Link as link

@@ -1,0 +1,39 @@
+-- What is always true of a cluster says what its trace tells of the wire.
+use Rattle.std.proofs.Common.{◌≡◌, ℕ, Bool, false, List, sym, ap, subst, ◌∙◌}
+use Rattle.std.specs.declared.snapshot.Snapshot.{Snapshot}
+use Rattle.kernel_rpc.specs.Sound.{Wired}
+use Rattle.unix_calls.specs.declared.Description.{Description}
+use Rattle.unix_calls.specs.declared.Rec.{Rec}
+use Rattle.unix_calls.specs.Lawful.{Lawful}
+use Rattle.cluster_counts.specs.Traces.{ReachedSo}
+use Rattle.cluster_counts.proofs.ExpiryLaws.{loss_before}
+use Rattle.cluster_counts.proofs.SixLaws.{six_copies}
+use Rattle.cluster_counts.proofs.TraceLaws.{sendings_asked}
+use Rattle.sprite_cluster.specs.Logs.{Holds, TellsFaults}
+use Rattle.sprite_cluster.specs.Wires.{TellsWire}
+use Rattle.sprite_cluster.specs.declared.cluster.Cluster.{Cluster}
+
+-- of a run that reaches the wire
+reached_tells : {L : Type 0} (faults asked : L → ℕ → ℕ → ℕ) (begun : L) (wire : Wired L) (trace : List Rec) → ReachedSo faults asked begun wire trace → TellsWire asked begun wire.link trace
+reached_tells faults asked begun wire trace reached = record {
+  steps = reached.steps;
+  in_order = reached.linked;
+  few = λ tx at. six_copies faults asked begun wire trace tx at reached;
+  lost = λ before rest kernel tx last is. loss_before faults asked begun wire trace before rest kernel tx last reached is;
+  were_asked = λ a b one other. sendings_asked faults asked begun wire trace a b one other reached;
+}
+
+-- of a cluster that is closed while its memory isn't wanting
+pub closed_tells : {L : Type 0} (faults asked : L → ℕ → ℕ → ℕ) (c : Description) (closed : Bool) (begun after : L) (wire : Wired L) (trace : List Rec) → Holds faults asked c closed begun wire trace → after ≡ wire.link → closed ≡ false → TellsWire asked begun after trace
+closed_tells {L} faults asked c closed begun after wire trace held link unclosed = subst (λ (l : L). TellsWire asked begun l trace) (sym link) (reached_tells faults asked begun wire trace (held.reached unclosed))
+
+pub closed_faults : {L : Type 0} (faults asked : L → ℕ → ℕ → ℕ) (c : Description) (closed : Bool) (begun after : L) (wire : Wired L) (trace : List Rec) → Holds faults asked c closed begun wire trace → after ≡ wire.link → closed ≡ false → TellsFaults faults begun after trace
+closed_faults {L} faults asked c closed begun after wire trace held link unclosed = subst (λ (l : L). TellsFaults faults begun l trace) (sym link) (held.tells unclosed)
+
+-- what only finds out how a run stands keeps what is always true
+pub finish_holds : {L : Type 0} (faults asked : L → ℕ → ℕ → ℕ) (old now : Cluster L) → now.description ≡ old.description → (now.closed ≡ false → now ≡ old) → Holds faults asked old.description old.closed old.begun.value old.wire old.trace → Holds faults asked now.description now.closed now.begun.value now.wire now.trace
+finish_holds {L} faults asked old now same stays held = record {
+  lawful = subst Lawful (sym same) held.lawful;
+  tells = λ is. subst (λ (v : Cluster L). TellsFaults faults v.begun.value v.wire.link v.trace) (sym (stays is)) (held.tells (sym (ap (λ (v : Cluster L). v.closed) (stays is)) ∙ is));
+  reached = λ is. subst (λ (v : Cluster L). ReachedSo faults asked v.begun.value v.wire v.trace) (sym (stays is)) (held.reached (sym (ap (λ (v : Cluster L). v.closed) (stays is)) ∙ is));
+}
