@@ -7,3 +7,5 @@ pub mod SixLaws
 pub mod ExpiryLaws
 pub mod SendLaws
 pub mod AskLaws
+pub mod DifferLaws
+pub mod ReplyLaws

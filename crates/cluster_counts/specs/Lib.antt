@@ -3,3 +3,4 @@ pub mod Told
 pub mod Turns
 pub mod Traces
 pub mod Asks
+pub mod Replies

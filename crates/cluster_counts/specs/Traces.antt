@@ -15,6 +15,7 @@ use Rattle.cluster_counts.specs.Orders.{of_wire, records_by, told_by}
 use Rattle.cluster_counts.specs.Told.{is_reply_at, sends_again, tells_again, tells_copy, tells_last, tells_reply, tells_request}
 use Rattle.cluster_counts.specs.Turns.{RanSo}
 use Rattle.cluster_counts.specs.Asks.{RoseBy, all_sent_between, tells_sending}
+use Rattle.cluster_counts.specs.Replies.{calls_replied}
 
 -- how many records of a trace are so, each told by its kernel
 abbrev pub records_so : (ℕ → Event → Bool) → List Rec → ℕ
@@ -81,3 +82,7 @@ LossBeforeEachExpiry {L} faults asked = (begun : L) (wire : Wired L) (trace befo
 -- between the two
 abbrev pub SendingsWereAsked : {L : Type 0} → (L → ℕ → ℕ → ℕ) → (L → ℕ → ℕ → ℕ) → Type 0
 SendingsWereAsked {L} faults asked = (begun : L) (wire : Wired L) (trace : List Rec) (a b : ℕ) → (1 ≤ a) × (a ≤ 16) → (1 ≤ b) × (b ≤ 16) → ReachedSo faults asked begun wire trace → RoseBy (asked begun a b) (records_so (tells_sending a b) trace) (asked wire.link a b)
+
+-- the same with once more for each call of which it tells that a reply came between the two
+abbrev pub RepliesWereAsked : {L : Type 0} → (L → ℕ → ℕ → ℕ) → (L → ℕ → ℕ → ℕ) → Type 0
+RepliesWereAsked {L} faults asked = (begun : L) (wire : Wired L) (trace : List Rec) (a b : ℕ) → (1 ≤ a) × (a ≤ 16) → (1 ≤ b) × (b ≤ 16) → ReachedSo faults asked begun wire trace → RoseBy (asked begun a b) (records_so (tells_sending a b) trace + calls_replied a b trace) (asked wire.link a b)

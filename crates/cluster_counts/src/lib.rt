@@ -5,5 +5,5 @@ mod laws;
 
 pub use laws::{
     ends_are_told, expiries_follow_losses, happenings_are_told, records_are_acts,
-    sendings_were_asked, six_copies_each,
+    replies_were_asked, sendings_were_asked, six_copies_each,
 };
