@@ -9,3 +9,4 @@ pub mod SendLaws
 pub mod AskLaws
 pub mod DifferLaws
 pub mod ReplyLaws
+pub mod FewLaws

@@ -1,5 +1,5 @@
 -- What a run's trace says of its wire.
-use Rattle.std.specs.Prelude.{◌≡◌, ℕ, ◌+◌, ◌*◌, ◌≤◌, Bool, true, false, List, [], ◌∷◌, ◌++◌, count_by}
+use Rattle.std.specs.Prelude.{◌≡◌, ℕ, ◌+◌, ◌*◌, ◌≤◌, Bool, true, false, List, [], ◌∷◌, ◌++◌, count_by, IsTrue}
 use Rattle.sprite_ids.specs.declared.TxNo.{TxNo}
 use Rattle.link_plan.specs.Counts.{Stay}
 use Rattle.link_plan.specs.declared.Fate.{Fate}
@@ -7,10 +7,14 @@ use Rattle.kernel_rpc.specs.Histories.{brings, is_request_of, lost_since, times}
 use Rattle.kernel_rpc.specs.Machine.{Machine, idle}
 use Rattle.kernel_rpc.specs.Runs.{Act, Counts, Expire, after, gives_up}
 use Rattle.kernel_rpc.specs.Sound.{Wired}
+use Rattle.unix_calls.specs.declared.Description.{Description}
 use Rattle.unix_calls.specs.declared.Event.{Event}
 use Rattle.unix_calls.specs.declared.Event.TheVariants as events
 use Rattle.unix_calls.specs.declared.Rec.{Rec}
+use Rattle.call_journal.specs.Formed.{formed}
+use Rattle.call_journal.specs.WorthPackets.{deliveries_are_few}
 use Rattle.cluster_wire.specs.Ran.{Ran, told_of}
+use Rattle.cluster_counts.specs.Deliveries.{are_of_sendings}
 use Rattle.cluster_counts.specs.Orders.{of_wire, records_by, told_by}
 use Rattle.cluster_counts.specs.Told.{is_reply_at, sends_again, tells_again, tells_copy, tells_last, tells_reply, tells_request}
 use Rattle.cluster_counts.specs.Turns.{RanSo}
@@ -86,3 +90,12 @@ SendingsWereAsked {L} faults asked = (begun : L) (wire : Wired L) (trace : List 
 -- the same with once more for each call of which it tells that a reply came between the two
 abbrev pub RepliesWereAsked : {L : Type 0} → (L → ℕ → ℕ → ℕ) → (L → ℕ → ℕ → ℕ) → Type 0
 RepliesWereAsked {L} faults asked = (begun : L) (wire : Wired L) (trace : List Rec) (a b : ℕ) → (1 ≤ a) × (a ≤ 16) → (1 ≤ b) × (b ≤ 16) → ReachedSo faults asked begun wire trace → RoseBy (asked begun a b) (records_so (tells_sending a b) trace + calls_replied a b trace) (asked wire.link a b)
+
+-- of the packets of a call few come between its sender and a receiver, where of each packet that comes the trace tells that its call was
+-- sent to that receiver
+abbrev pub FewWhereSent : {L : Type 0} → (L → ℕ → ℕ → ℕ) → (L → ℕ → ℕ → ℕ) → Type 0
+FewWhereSent {L} faults asked = (begun : L) (wire : Wired L) (trace : List Rec) → ReachedSo faults asked begun wire trace → IsTrue (are_of_sendings trace) → IsTrue (deliveries_are_few trace)
+
+-- and so where the trace is formed
+abbrev pub FewWhereFormed : {L : Type 0} → (L → ℕ → ℕ → ℕ) → (L → ℕ → ℕ → ℕ) → Type 0
+FewWhereFormed {L} faults asked = (c : Description) (begun : L) (wire : Wired L) (trace : List Rec) → ReachedSo faults asked begun wire trace → IsTrue (formed c trace) → IsTrue (deliveries_are_few trace)

@@ -1,4 +1,4 @@
-ghost use Rattle.cluster_counts.specs.Traces.{EndingsAreCounted, LossBeforeEachExpiry, RepliesAreCounted, RepliesWereAsked, RequestsAreCounted, SendingsAreCounted, SendingsWereAsked, SixCopiesEach, TurnKeepsOrder};
+ghost use Rattle.cluster_counts.specs.Traces.{EndingsAreCounted, FewWhereFormed, FewWhereSent, LossBeforeEachExpiry, RepliesAreCounted, RepliesWereAsked, RequestsAreCounted, SendingsAreCounted, SendingsWereAsked, SixCopiesEach, TurnKeepsOrder};
 ghost use Rattle.cluster_counts.specs.Turns.{EndIsTold, HappeningIsTold};
 
 use link_plan::Link;
@@ -49,4 +49,12 @@ pub fn sendings_were_asked<L: Link>()
 /// record that its reply came between the two; its count stays at `u64::MAX` where it would pass that (this project).
 pub fn replies_were_asked<L: Link>()
     ensures { RepliesWereAsked L.faults L.asked }
+{}
+
+/// A law: a trace has, of each call and receiver of which it has a record that a packet came between that and the call's sender, at
+/// most six such records for each record that the call was sent to the receiver and each that its timer fired; where it has of
+/// each packet that came a record that its call was sent to that receiver, as a trace that is formed has (Welch 1986).
+pub fn few_packets_come<L: Link>()
+    ensures sent { FewWhereSent L.faults L.asked }
+    ensures formed { FewWhereFormed L.faults L.asked }
 {}
