@@ -1,9 +1,11 @@
 -- Few packets come of a call that a trace tells to have been sent.
-use Rattle.std.proofs.Common.{arith, ◌≡◌, ℕ, ◌+◌, ◌*◌, ◌≤◌, ◌==◌, Bool, true, false, ◌&&◌, ◌||◌, not, cond, List, [], ◌∷◌, ◌++◌, Option, refl, ap, subst, ◌∙◌, append_assoc, count_by}
+use Rattle.std.proofs.Common.{arith, ◌≡◌, ℕ, zero, suc, ◌+◌, ◌*◌, ◌≤◌, ◌==◌, Bool, true, false, ◌&&◌, ◌||◌, not, cond, List, [], ◌∷◌, ◌++◌, Option, refl, ap, subst, ◌∙◌, append_assoc, count_by}
 use Rattle.std.specs.List.{list_all, list_any}
 use Rattle.std.proofs.lemmas.Bool.{and_parts, le-leb}
+use Rattle.link_plan.specs.declared.Fate.{Fate}
 use Rattle.kernel_rpc.specs.Machine.{Machine, idle}
-use Rattle.kernel_rpc.specs.Runs.{IsRun, once_if}
+use Rattle.kernel_rpc.specs.Histories.{brings, times}
+use Rattle.kernel_rpc.specs.Runs.{Act, Begin, Deliver, Answer, Silence, Expire, Counts, IsRun, after, once_if}
 use Rattle.kernel_rpc.specs.Steps.{counts_in}
 use Rattle.kernel_rpc.specs.Sound.{Wired}
 use Rattle.unix_calls.specs.declared.About.{About}
@@ -16,9 +18,10 @@ use Rattle.call_journal.specs.Matching.{has_event, is_expire, is_send_to}
 use Rattle.call_journal.specs.Past.{Past, each_from, no_past, past_with}
 use Rattle.call_journal.specs.WorthPackets.{are_few, deliveries, delivers_few, is_delivered_at, sendings}
 use Rattle.cluster_counts.specs.Deliveries.{is_of_sending, is_sent_to}
-use Rattle.cluster_counts.specs.Told.{is_packet_of, tells_again, tells_packet}
-use Rattle.cluster_counts.specs.Traces.{FewWhereFormed, FewWhereSent, ReachedSo, records_so}
-use Rattle.cluster_counts.proofs.SixLaws.{six_of}
+use Rattle.cluster_counts.specs.Told.{begins_to, is_packet_of, sends_again, tells_again, tells_packet}
+use Rattle.cluster_counts.specs.Traces.{FewWhereFormed, FewWhereSent, FewWhereTold, ReachedSo, SixPacketsEach, records_so}
+use Rattle.cluster_counts.proofs.AwayLaws.{none_come}
+use Rattle.cluster_counts.proofs.SixLaws.{begins, once_begins, six_of}
 use Rattle.cluster_counts.proofs.TallyLaws.{agains_so, first_of, packets_so}
 
 -- counts of what passes a test
@@ -56,25 +59,64 @@ either_packet true true false t = omega arith
 either_packet true false k t = omega arith
 either_packet false r k t = omega arith
 
--- of a call that was sent to a receiver few packets come
-few_sent : {L : Type 0} (faults asked : L → ℕ → ℕ → ℕ) (begun : L) (wire : Wired L) (trace : List Rec) (tx receiver : ℕ) → ReachedSo faults asked begun wire trace → is_sent_to tx receiver trace ≡ true → are_few tx receiver trace ≡ true
-few_sent faults asked begun wire trace tx receiver reached sent =
+both_true : (a b : Bool) → a ≡ true → b ≡ true → (a && b) ≡ true
+both_true a b h k = ap (λ x. x && b) h ∙ k
+
+-- six for each time that the request was sent to the receiver
+six_by : (tx receiver again : ℕ) (counts : Counts) (steps : List (Act × Counts)) (n : ℕ) → IsRun idle counts steps → times (brings (is_packet_of tx receiver)) idle steps ≤ 6 * (1 + again) → times (begins_to tx receiver) idle steps ≡ n → times (brings (is_packet_of tx receiver)) idle steps ≤ 6 * (n + again)
+six_by tx receiver again counts steps zero run six is = (let none = none_come tx receiver counts steps run is in omega arith)
+six_by tx receiver again counts steps (suc n) run six is = omega arith
+
+pub six_packets : {L : Type 0} (faults asked : L → ℕ → ℕ → ℕ) → SixPacketsEach faults asked
+six_packets faults asked begun wire trace tx receiver reached =
     (let counts = counts_in faults asked reached.first.link in
     let run : IsRun idle counts reached.steps = subst (λ (machine : Machine). IsRun machine counts reached.steps) reached.idles reached.ran.run in
     let packets = packets_so tx receiver trace reached.steps idle reached.in_order in
     let again = agains_so tx trace reached.steps idle reached.in_order in
-    let six = six_of tx receiver (is_packet_of tx receiver) counts reached.steps (λ copy. either_packet (copy.tx.0 == tx) copy.reply (copy.from == receiver) (copy.to == receiver)) run in
+    let most = six_of tx receiver (is_packet_of tx receiver) counts reached.steps (λ copy. either_packet (copy.tx.0 == tx) copy.reply (copy.from == receiver) (copy.to == receiver)) run in
+    let six = six_by tx receiver (times (sends_again tx) idle reached.steps) counts reached.steps (times (begins_to tx receiver) idle reached.steps) run most refl in omega arith)
+
+-- few packets come between a sender and a receiver to which its calls' packets are told
+few_told : {L : Type 0} (faults asked : L → ℕ → ℕ → ℕ) (begun : L) (wire : Wired L) (trace : List Rec) (tx receiver : ℕ) (reached : ReachedSo faults asked begun wire trace) → times (begins_to tx receiver) idle reached.steps ≤ count_by (has_event (is_send_to tx receiver)) trace → are_few tx receiver trace ≡ true
+few_told faults asked begun wire trace tx receiver reached told =
+    (let six = six_packets faults asked begun wire trace tx receiver reached in
     let came : deliveries tx receiver trace ≤ records_so (tells_packet tx receiver) trace = more_counts (λ (r : Rec). is_delivered_at tx receiver r r.event) (λ (r : Rec). tells_packet tx receiver r.kernel r.event) (λ r. same_packet tx receiver r r.event) trace in
     let over : records_so (tells_again tx) trace ≤ count_by (has_event (is_expire tx)) trace = more_counts (λ (r : Rec). tells_again tx r.kernel r.event) (has_event (is_expire tx)) (λ r. again_expires tx r.kernel r.event) trace in
-    let once = some_counts (has_event (is_send_to tx receiver)) trace sent in
     le-leb (deliveries tx receiver trace) (6 * sendings tx receiver trace) (omega arith))
+
+each_told : {L : Type 0} (faults asked : L → ℕ → ℕ → ℕ) (begun : L) (wire : Wired L) (trace : List Rec) (reached : ReachedSo faults asked begun wire trace) → ((tx receiver : ℕ) → times (begins_to tx receiver) idle reached.steps ≤ count_by (has_event (is_send_to tx receiver)) trace) → (kernel : ℕ) (e : Event) → delivers_few e kernel trace ≡ true
+each_told faults asked begun wire trace reached told kernel (events.Deliver tx from reply about) = few_told faults asked begun wire trace tx.0 (cond reply from kernel) reached (told tx.0 (cond reply from kernel))
+each_told faults asked begun wire trace reached told kernel e = refl
+
+all_so : {X : Type 0} (p : X → Bool) → ((x : X) → p x ≡ true) → (xs : List X) → list_all p xs ≡ true
+all_so p each [] = refl
+all_so p each (x ∷ xs) = both_true (p x) (list_all p xs) (each x) (all_so p each xs)
+
+pub few_where_told : {L : Type 0} (faults asked : L → ℕ → ℕ → ℕ) → FewWhereTold faults asked
+few_where_told faults asked begun wire trace reached told = all_so (λ (r : Rec). delivers_few r.event r.kernel trace) (λ r. each_told faults asked begun wire trace reached told r.kernel r.event) trace
+
+-- or of whose calls one is told to have been sent there
+begins_so : (tx receiver : ℕ) (machine : Machine) (act : Act) → once_if (begins_to tx receiver machine act) ≤ once_if (begins tx machine act)
+begins_so tx receiver machine (Begin from port servers owner body tries about before sent) = first_most (machine.begun + 1 == tx) (list_any (λ (packet : ℕ × Fate). packet.0 == receiver) sent)
+begins_so tx receiver machine (Deliver number given) = omega arith
+begins_so tx receiver machine (Answer key body given) = omega arith
+begins_so tx receiver machine (Silence key at) = omega arith
+begins_so tx receiver machine (Expire key sent) = omega arith
+
+begins_once : (tx receiver : ℕ) (steps : List (Act × Counts)) (machine : Machine) → times (begins_to tx receiver) machine steps ≤ times (begins tx) machine steps
+begins_once tx receiver [] machine = omega arith
+begins_once tx receiver (step ∷ steps) machine = (let here = begins_so tx receiver machine step.0 in let rest = begins_once tx receiver steps (after machine step.0) in omega arith)
+
+few_sent : {L : Type 0} (faults asked : L → ℕ → ℕ → ℕ) (begun : L) (wire : Wired L) (trace : List Rec) (tx receiver : ℕ) → ReachedSo faults asked begun wire trace → is_sent_to tx receiver trace ≡ true → are_few tx receiver trace ≡ true
+few_sent faults asked begun wire trace tx receiver reached sent =
+    (let some = some_counts (has_event (is_send_to tx receiver)) trace sent in
+    let least = begins_once tx receiver reached.steps idle in
+    let once = once_begins tx reached.steps idle in
+    few_told faults asked begun wire trace tx receiver reached (omega arith))
 
 each_few : {L : Type 0} (faults asked : L → ℕ → ℕ → ℕ) (begun : L) (wire : Wired L) (trace : List Rec) → ReachedSo faults asked begun wire trace → (kernel : ℕ) (e : Event) → is_of_sending e kernel trace ≡ true → delivers_few e kernel trace ≡ true
 each_few faults asked begun wire trace reached kernel (events.Deliver tx from reply about) is = few_sent faults asked begun wire trace tx.0 (cond reply from kernel) reached is
 each_few faults asked begun wire trace reached kernel e is = refl
-
-both_true : (a b : Bool) → a ≡ true → b ≡ true → (a && b) ≡ true
-both_true a b h k = ap (λ x. x && b) h ∙ k
 
 all_weaken : {X : Type 0} (p q : X → Bool) → ((x : X) → p x ≡ true → q x ≡ true) → (xs : List X) → list_all p xs ≡ true → list_all q xs ≡ true
 all_weaken p q weak [] is = refl

@@ -9,4 +9,5 @@ pub mod SendLaws
 pub mod AskLaws
 pub mod DifferLaws
 pub mod ReplyLaws
+pub mod AwayLaws
 pub mod FewLaws

@@ -19,7 +19,7 @@ use Rattle.cluster_counts.specs.Traces.{SixCopiesEach}
 use Rattle.cluster_counts.proofs.TallyLaws.{agains_so, copies_so}
 
 -- whether the call of that number begins
-abbrev begins : ℕ → Machine → Act → Bool
+abbrev pub begins : ℕ → Machine → Act → Bool
 begins tx machine (Begin from port servers owner body tries about before sent) = machine.begun + 1 == tx
 begins tx machine (Deliver number given) = false
 begins tx machine (Answer key body given) = false
@@ -60,7 +60,7 @@ none_begins tx (step ∷ steps) machine late =
     let grown = begun_grows machine step.0 in
     let rest = none_begins tx steps (after machine step.0) (omega arith) in omega arith)
 
-once_begins : (tx : ℕ) (steps : List (Act × Counts)) (machine : Machine) → times (begins tx) machine steps ≤ 1
+pub once_begins : (tx : ℕ) (steps : List (Act × Counts)) (machine : Machine) → times (begins tx) machine steps ≤ 1
 once_begins tx [] machine = omega arith
 once_begins tx (step ∷ steps) machine = by_first (begins tx machine step.0) refl (once_begins tx steps (after machine step.0))
   where

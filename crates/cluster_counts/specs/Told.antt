@@ -1,5 +1,7 @@
 -- What is told of the packets of one call, and the acts of which it is told.
-use Rattle.std.specs.Prelude.{ℕ, ◌==◌, Bool, false, ◌&&◌, not, if◌then◌else◌}
+use Rattle.std.specs.Prelude.{ℕ, ◌+◌, ◌==◌, Bool, false, ◌&&◌, not, if◌then◌else◌}
+use Rattle.std.specs.List.{list_any}
+use Rattle.link_plan.specs.declared.Fate.{Fate}
 use Rattle.kernel_rpc.specs.declared.PacketCopy.{PacketCopy}
 use Rattle.kernel_rpc.specs.Histories.{sends_by}
 use Rattle.kernel_rpc.specs.Machine.{Machine, call_of}
@@ -48,6 +50,14 @@ is_copy_at tx at copy = (copy.tx.0 == tx) && (copy.to == at)
 -- whether a copy is one of any packet of the call between its sender and that receiver
 abbrev pub is_packet_of : ℕ → ℕ → PacketCopy → Bool
 is_packet_of tx receiver copy = (copy.tx.0 == tx) && (if copy.reply then copy.from == receiver else copy.to == receiver)
+
+-- whether the call begins, with a packet to that receiver
+abbrev pub begins_to : ℕ → ℕ → Machine → Act → Bool
+begins_to tx receiver machine (Begin from port servers owner body tries about before sent) = (machine.begun + 1 == tx) && list_any (λ (packet : ℕ × Fate). packet.0 == receiver) sent
+begins_to tx receiver machine (Deliver number given) = false
+begins_to tx receiver machine (Answer key body given) = false
+begins_to tx receiver machine (Silence key at) = false
+begins_to tx receiver machine (Expire key sent) = false
 
 -- whether the timer of the call fires, and its request is sent again
 abbrev pub sends_again : ℕ → Machine → Act → Bool

@@ -12,11 +12,12 @@ use Rattle.unix_calls.specs.declared.Event.{Event}
 use Rattle.unix_calls.specs.declared.Event.TheVariants as events
 use Rattle.unix_calls.specs.declared.Rec.{Rec}
 use Rattle.call_journal.specs.Formed.{formed}
+use Rattle.call_journal.specs.Matching.{has_event, is_send_to}
 use Rattle.call_journal.specs.WorthPackets.{deliveries_are_few}
 use Rattle.cluster_wire.specs.Ran.{Ran, told_of}
 use Rattle.cluster_counts.specs.Deliveries.{are_of_sendings}
 use Rattle.cluster_counts.specs.Orders.{of_wire, records_by, told_by}
-use Rattle.cluster_counts.specs.Told.{is_reply_at, sends_again, tells_again, tells_copy, tells_last, tells_reply, tells_request}
+use Rattle.cluster_counts.specs.Told.{begins_to, is_reply_at, sends_again, tells_again, tells_copy, tells_last, tells_packet, tells_reply, tells_request}
 use Rattle.cluster_counts.specs.Turns.{RanSo}
 use Rattle.cluster_counts.specs.Asks.{RoseBy, all_sent_between, tells_sending}
 use Rattle.cluster_counts.specs.Replies.{calls_replied}
@@ -91,8 +92,16 @@ SendingsWereAsked {L} faults asked = (begun : L) (wire : Wired L) (trace : List 
 abbrev pub RepliesWereAsked : {L : Type 0} → (L → ℕ → ℕ → ℕ) → (L → ℕ → ℕ → ℕ) → Type 0
 RepliesWereAsked {L} faults asked = (begun : L) (wire : Wired L) (trace : List Rec) (a b : ℕ) → (1 ≤ a) × (a ≤ 16) → (1 ≤ b) × (b ≤ 16) → ReachedSo faults asked begun wire trace → RoseBy (asked begun a b) (records_so (tells_sending a b) trace + calls_replied a b trace) (asked wire.link a b)
 
--- of the packets of a call few come between its sender and a receiver, where of each packet that comes the trace tells that its call was
--- sent to that receiver
+-- of the packets of a call a trace tells at most six between its sender and a receiver for each time that the call began with a packet to
+-- that receiver, which is once at most, and for each record that its request is sent again
+abbrev pub SixPacketsEach : {L : Type 0} → (L → ℕ → ℕ → ℕ) → (L → ℕ → ℕ → ℕ) → Type 0
+SixPacketsEach {L} faults asked = (begun : L) (wire : Wired L) (trace : List Rec) (tx receiver : ℕ) (reached : ReachedSo faults asked begun wire trace) → records_so (tells_packet tx receiver) trace ≤ 6 * (times (begins_to tx receiver) idle reached.steps + records_so (tells_again tx) trace)
+
+-- so of these few come, where the trace tells each packet with which a call begins
+abbrev pub FewWhereTold : {L : Type 0} → (L → ℕ → ℕ → ℕ) → (L → ℕ → ℕ → ℕ) → Type 0
+FewWhereTold {L} faults asked = (begun : L) (wire : Wired L) (trace : List Rec) (reached : ReachedSo faults asked begun wire trace) → ((tx receiver : ℕ) → times (begins_to tx receiver) idle reached.steps ≤ count_by (has_event (is_send_to tx receiver)) trace) → IsTrue (deliveries_are_few trace)
+
+-- or where it tells, of each packet that comes, that its call was sent to that receiver
 abbrev pub FewWhereSent : {L : Type 0} → (L → ℕ → ℕ → ℕ) → (L → ℕ → ℕ → ℕ) → Type 0
 FewWhereSent {L} faults asked = (begun : L) (wire : Wired L) (trace : List Rec) → ReachedSo faults asked begun wire trace → IsTrue (are_of_sendings trace) → IsTrue (deliveries_are_few trace)
 

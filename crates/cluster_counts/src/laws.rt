@@ -1,4 +1,4 @@
-ghost use Rattle.cluster_counts.specs.Traces.{EndingsAreCounted, FewWhereFormed, FewWhereSent, LossBeforeEachExpiry, RepliesAreCounted, RepliesWereAsked, RequestsAreCounted, SendingsAreCounted, SendingsWereAsked, SixCopiesEach, TurnKeepsOrder};
+ghost use Rattle.cluster_counts.specs.Traces.{EndingsAreCounted, FewWhereFormed, FewWhereSent, FewWhereTold, LossBeforeEachExpiry, RepliesAreCounted, RepliesWereAsked, RequestsAreCounted, SendingsAreCounted, SendingsWereAsked, SixCopiesEach, SixPacketsEach, TurnKeepsOrder};
 ghost use Rattle.cluster_counts.specs.Turns.{EndIsTold, HappeningIsTold};
 
 use link_plan::Link;
@@ -51,10 +51,18 @@ pub fn replies_were_asked<L: Link>()
     ensures { RepliesWereAsked L.faults L.asked }
 {}
 
-/// A law: a trace has, of each call and receiver of which it has a record that a packet came between that and the call's sender, at
-/// most six such records for each record that the call was sent to the receiver and each that its timer fired; where it has of
-/// each packet that came a record that its call was sent to that receiver, as a trace that is formed has (Welch 1986).
+/// A law: a trace has, of each call and receiver, at most six records that a packet of the call came between its sender and that
+/// receiver where the call began with a packet to it, at most six more for each record that its request was sent again, and else
+/// none (Welch 1986).
+pub fn six_packets_each<L: Link>()
+    ensures { SixPacketsEach L.faults L.asked }
+{}
+
+/// A law: so few packets come, of each call and receiver, for each record that the call was sent to the receiver and each that its
+/// timer fired: where the trace has such a record of each packet with which a call begins; or where it has, of each packet that
+/// came, a record that its call was sent to that receiver, as a trace that is formed has (Welch 1986).
 pub fn few_packets_come<L: Link>()
+    ensures told { FewWhereTold L.faults L.asked }
     ensures sent { FewWhereSent L.faults L.asked }
     ensures formed { FewWhereFormed L.faults L.asked }
 {}
