@@ -8,3 +8,8 @@ pub mod SixLaws
 pub mod ExpiryLaws
 pub mod SendLaws
 pub mod AskLaws
+pub mod DifferLaws
+pub mod ReplyLaws
+pub mod AwayLaws
+pub mod SendingLaws
+pub mod FewLaws

@@ -1,5 +1,5 @@
 -- The copies of a call's packets that a trace tells of.
-use Rattle.std.proofs.Common.{arith, ◌≡◌, ℕ, ◌+◌, ◌≤◌, ◌==◌, Bool, true, false, ◌&&◌, not, cond, List, [], ◌∷◌, Option, Some, None, refl, ap, subst}
+use Rattle.std.proofs.Common.{arith, ◌≡◌, ℕ, ◌+◌, ◌*◌, ◌≤◌, ◌==◌, Bool, true, false, ◌&&◌, not, cond, List, [], ◌∷◌, Option, Some, None, refl, ap, subst}
 use Rattle.std.proofs.lemmas.Bool.{eqb-true}
 use Rattle.std.proofs.lemmas.Bool.Decides.{nat_tests}
 use Rattle.sprite_ids.specs.declared.TxNo.{TxNo}
@@ -19,7 +19,7 @@ use Rattle.cluster_counts.specs.Traces.{SixCopiesEach}
 use Rattle.cluster_counts.proofs.TallyLaws.{agains_so, copies_so}
 
 -- whether the call of that number begins
-abbrev begins : ℕ → Machine → Act → Bool
+abbrev pub begins : ℕ → Machine → Act → Bool
 begins tx machine (Begin from port servers owner body tries about before sent) = machine.begun + 1 == tx
 begins tx machine (Deliver number given) = false
 begins tx machine (Answer key body given) = false
@@ -60,7 +60,7 @@ none_begins tx (step ∷ steps) machine late =
     let grown = begun_grows machine step.0 in
     let rest = none_begins tx steps (after machine step.0) (omega arith) in omega arith)
 
-once_begins : (tx : ℕ) (steps : List (Act × Counts)) (machine : Machine) → times (begins tx) machine steps ≤ 1
+pub once_begins : (tx : ℕ) (steps : List (Act × Counts)) (machine : Machine) → times (begins tx) machine steps ≤ 1
 once_begins tx [] machine = omega arith
 once_begins tx (step ∷ steps) machine = by_first (begins tx machine step.0) refl (once_begins tx steps (after machine step.0))
   where
@@ -88,30 +88,38 @@ either_copy true false true = omega arith
 either_copy true false false = omega arith
 either_copy false r k = omega arith
 
-copy_either : (tx at : ℕ) (o : Option PacketCopy) → once_if (passes (is_copy_at tx at) o) ≤ once_if (passes (is_request_of tx at) o) + once_if (passes (is_reply_for tx) o)
-copy_either tx at None = omega arith
-copy_either tx at (Some copy) = either_copy (copy.tx.0 == tx) copy.reply (copy.to == at)
+-- where a copy that passes a test is one of the two
+abbrev pub IsEither : ℕ → ℕ → (PacketCopy → Bool) → Type 0
+IsEither tx at p = (copy : PacketCopy) → once_if (p copy) ≤ once_if (is_request_of tx at copy) + once_if (is_reply_for tx copy)
 
-act_brings : (tx at : ℕ) (machine : Machine) (act : Act) → once_if (brings (is_copy_at tx at) machine act) ≤ once_if (brings (is_request_of tx at) machine act) + once_if (brings (is_reply_for tx) machine act)
-act_brings tx at machine (Begin from port servers owner body tries about before sent) = omega arith
-act_brings tx at machine (Deliver number given) = copy_either tx at (copy_of machine number)
-act_brings tx at machine (Answer key body given) = omega arith
-act_brings tx at machine (Silence key kernel) = omega arith
-act_brings tx at machine (Expire key sent) = omega arith
+copy_either : (tx at : ℕ) (p : PacketCopy → Bool) (o : Option PacketCopy) → IsEither tx at p → once_if (passes p o) ≤ once_if (passes (is_request_of tx at) o) + once_if (passes (is_reply_for tx) o)
+copy_either tx at p None either = omega arith
+copy_either tx at p (Some copy) either = either copy
 
-run_brings : (tx at : ℕ) (steps : List (Act × Counts)) (machine : Machine) → times (brings (is_copy_at tx at)) machine steps ≤ times (brings (is_request_of tx at)) machine steps + times (brings (is_reply_for tx)) machine steps
-run_brings tx at [] machine = omega arith
-run_brings tx at (step ∷ steps) machine = (let here = act_brings tx at machine step.0 in let rest = run_brings tx at steps (after machine step.0) in omega arith)
+act_brings : (tx at : ℕ) (p : PacketCopy → Bool) (machine : Machine) (act : Act) → IsEither tx at p → once_if (brings p machine act) ≤ once_if (brings (is_request_of tx at) machine act) + once_if (brings (is_reply_for tx) machine act)
+act_brings tx at p machine (Begin from port servers owner body tries about before sent) either = omega arith
+act_brings tx at p machine (Deliver number given) either = copy_either tx at p (copy_of machine number) either
+act_brings tx at p machine (Answer key body given) either = omega arith
+act_brings tx at p machine (Silence key kernel) either = omega arith
+act_brings tx at p machine (Expire key sent) either = omega arith
+
+run_brings : (tx at : ℕ) (p : PacketCopy → Bool) (steps : List (Act × Counts)) (machine : Machine) → IsEither tx at p → times (brings p) machine steps ≤ times (brings (is_request_of tx at)) machine steps + times (brings (is_reply_for tx)) machine steps
+run_brings tx at p [] machine either = omega arith
+run_brings tx at p (step ∷ steps) machine either = (let here = act_brings tx at p machine step.0 either in let rest = run_brings tx at p steps (after machine step.0) either in omega arith)
 
 -- six for each time that the request was sent
+pub six_of : (tx at : ℕ) (p : PacketCopy → Bool) (counts : Counts) (steps : List (Act × Counts)) → IsEither tx at p → IsRun idle counts steps → times (brings p) idle steps ≤ 6 * (1 + times (sends_again tx) idle steps)
+six_of tx at p counts steps either run =
+    (let requests = two_requests_each counts steps tx at run in
+    let replies = four_replies_each counts steps tx run in
+    let both = run_brings tx at p steps idle either in
+    let sent = run_sends tx steps idle in
+    let once = once_begins tx steps idle in omega arith)
+
 pub six_copies : {L : Type 0} (faults asked : L → ℕ → ℕ → ℕ) → SixCopiesEach faults asked
 six_copies faults asked begun wire trace tx at reached =
     (let counts = counts_in faults asked reached.first.link in
     let run : IsRun idle counts reached.steps = subst (λ (machine : Machine). IsRun machine counts reached.steps) reached.idles reached.ran.run in
     let copies = copies_so tx at trace reached.steps idle reached.in_order in
     let again = agains_so tx trace reached.steps idle reached.in_order in
-    let requests = two_requests_each counts reached.steps tx at run in
-    let replies = four_replies_each counts reached.steps tx run in
-    let either = run_brings tx at reached.steps idle in
-    let sent = run_sends tx reached.steps idle in
-    let once = once_begins tx reached.steps idle in omega arith)
+    let six = six_of tx at (is_copy_at tx at) counts reached.steps (λ copy. either_copy (copy.tx.0 == tx) copy.reply (copy.to == at)) run in omega arith)

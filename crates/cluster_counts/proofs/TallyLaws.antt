@@ -1,5 +1,5 @@
 -- Records of a trace are counted by the acts of which they tell.
-use Rattle.std.proofs.Common.{arith, ◌≡◌, ℕ, ◌+◌, Bool, true, false, cond, List, [], ◌∷◌, Option, Some, None, refl, ap, ◌∙◌}
+use Rattle.std.proofs.Common.{arith, ◌≡◌, ℕ, ◌+◌, Bool, true, false, cond, List, [], ◌∷◌, Option, Some, None, refl, ap, ◌∙◌, count_by}
 use Rattle.std.proofs.lemmas.List.Sums.{sum_by-append, sum_by-cons}
 use Rattle.sprite_ids.specs.declared.TxNo.{TxNo}
 use Rattle.kernel_rpc.specs.declared.Call.{Call}
@@ -13,16 +13,19 @@ use Rattle.unix_calls.specs.declared.Rec.{Rec}
 use Rattle.cluster_wire.specs.Ran.{told_of}
 use Rattle.cluster_packets.specs.Acts.{delivery}
 use Rattle.cluster_counts.specs.Orders.{copy_told, firing_told, is_of_wire, of_wire, told_by}
-use Rattle.cluster_counts.specs.Told.{is_copy_at, is_reply_at, sends_again, tells_again, tells_copy, tells_last, tells_reply, tells_request}
+use Rattle.cluster_counts.specs.Told.{is_copy_at, is_packet_of, is_reply_at, sends_again, tells_again, tells_copy, tells_last, tells_packet, tells_reply, tells_request}
 use Rattle.cluster_counts.specs.Traces.{records_so}
 
--- one record more in front
-first_so : (told : ℕ → Event → Bool) (r : Rec) (trace : List Rec) → records_so told (r ∷ trace) ≡ once_if (told r.kernel r.event) + records_so told trace
-first_so told r trace = (let more = sum_by-cons (λ (r : Rec). cond {A = ℕ} (told r.kernel r.event) 1 0) r trace in let one = by_test (told r.kernel r.event) in omega arith)
+-- one item more in front
+pub first_of : {X : Type 0} (p : X → Bool) (x : X) (xs : List X) → count_by p (x ∷ xs) ≡ once_if (p x) + count_by p xs
+first_of p x xs = (let more = sum_by-cons (λ x. cond {A = ℕ} (p x) 1 0) x xs in let one = by_test (p x) in omega arith)
   where
     by_test : (b : Bool) → cond {A = ℕ} b 1 0 ≡ once_if b
     by_test true = refl
     by_test false = refl
+
+first_so : (told : ℕ → Event → Bool) (r : Rec) (trace : List Rec) → records_so told (r ∷ trace) ≡ once_if (told r.kernel r.event) + records_so told trace
+first_so told r trace = first_of (λ (r : Rec). told r.kernel r.event) r trace
 
 -- where nothing else is counted, those that tell of copies and timers are all
 wire_counts : (told : ℕ → Event → Bool) → ((kernel : ℕ) (e : Event) → is_of_wire e ≡ false → told kernel e ≡ false) → (trace : List Rec) → records_so told trace ≡ records_so told (of_wire trace)
@@ -104,6 +107,10 @@ no_copy : (tx at kernel : ℕ) (e : Event) → is_of_wire e ≡ false → tells_
 no_copy tx at kernel (events.Deliver key from reply about) is = absurd (cc)
 no_copy tx at kernel e is = refl
 
+no_packet : (tx receiver kernel : ℕ) (e : Event) → is_of_wire e ≡ false → tells_packet tx receiver kernel e ≡ false
+no_packet tx receiver kernel (events.Deliver key from reply about) is = absurd (cc)
+no_packet tx receiver kernel e is = refl
+
 no_again : (tx kernel : ℕ) (e : Event) → is_of_wire e ≡ false → tells_again tx kernel e ≡ false
 no_again tx kernel (events.Expire key last) is = absurd (cc)
 no_again tx kernel e is = refl
@@ -121,6 +128,9 @@ replies_so tx at = counted_so (tells_reply tx at) (brings (is_reply_at tx at)) (
 
 pub copies_so : (tx at : ℕ) (trace : List Rec) (steps : List (Act × Counts)) (machine : Machine) → of_wire trace ≡ told_of told_by machine steps → records_so (tells_copy tx at) trace ≡ times (brings (is_copy_at tx at)) machine steps
 copies_so tx at = counted_so (tells_copy tx at) (brings (is_copy_at tx at)) (no_copy tx at) (copies_count (tells_copy tx at) (is_copy_at tx at) (λ copy. refl) (λ kernel key last. refl))
+
+pub packets_so : (tx receiver : ℕ) (trace : List Rec) (steps : List (Act × Counts)) (machine : Machine) → of_wire trace ≡ told_of told_by machine steps → records_so (tells_packet tx receiver) trace ≡ times (brings (is_packet_of tx receiver)) machine steps
+packets_so tx receiver = counted_so (tells_packet tx receiver) (brings (is_packet_of tx receiver)) (no_packet tx receiver) (copies_count (tells_packet tx receiver) (is_packet_of tx receiver) (λ copy. refl) (λ kernel key last. refl))
 
 pub agains_so : (tx : ℕ) (trace : List Rec) (steps : List (Act × Counts)) (machine : Machine) → of_wire trace ≡ told_of told_by machine steps → records_so (tells_again tx) trace ≡ times (sends_again tx) machine steps
 agains_so tx = counted_so (tells_again tx) (sends_again tx) (no_again tx) (agains_count tx)

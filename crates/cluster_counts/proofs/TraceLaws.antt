@@ -1,22 +1,25 @@
 -- A turn keeps that a trace tells the run's acts.
-use Rattle.std.proofs.Common.{arith, ◌≡◌, ℕ, Bool, cond, List, [], ◌∷◌, ◌++◌, refl, sym, ap, ap₂, ◌∙◌, count_by}
-use Rattle.kernel_rpc.specs.Histories.{reached}
+use Rattle.std.proofs.Common.{arith, ◌≡◌, ℕ, Bool, true, false, cond, List, [], ◌∷◌, ◌++◌, refl, sym, ap, ap₂, ◌∙◌, count_by}
+use Rattle.kernel_rpc.specs.Histories.{reached, times}
 use Rattle.kernel_rpc.specs.Machine.{Machine, idle}
 use Rattle.unix_calls.specs.declared.Rec.{Rec}
 use Rattle.cluster_wire.specs.Ran.{told_of}
 use Rattle.cluster_wire.proofs.RanLaws.{ran_join}
 use Rattle.cluster_counts.specs.Links.{all_told_by, of_link}
-use Rattle.cluster_counts.specs.Orders.{of_wire, records_by, told_by}
-use Rattle.cluster_counts.specs.Traces.{EndingsAreCounted, RepliesAreCounted, RequestsAreCounted, SendingsAreCounted, SendingsWereAsked, TurnKeepsOrder, records_so}
+use Rattle.cluster_counts.specs.Orders.{is_of_wire, of_wire, records_by, told_by}
+use Rattle.cluster_counts.specs.Replies.{calls_replied, how_many_differ, replies_told, reply_told}
+use Rattle.cluster_counts.specs.Traces.{EndingsAreCounted, RepliesAreCounted, RequestsAreCounted, RepliesWereAsked, SendingsAreCounted, SendingsWereAsked, TurnKeepsOrder, records_so}
 use Rattle.cluster_counts.proofs.LinkLaws.{all_join, link_on}
 use Rattle.cluster_counts.proofs.OrderLaws.{told_join, wire_on}
 use Rattle.cluster_counts.proofs.TallyLaws.{agains_so, lasts_so, replies_so, requests_so}
 use Rattle.std.proofs.lemmas.List.Sums.{sum_by-append}
 use Rattle.unix_calls.specs.declared.Event.{Event}
+use Rattle.unix_calls.specs.declared.Event.TheVariants as events
 use Rattle.kernel_rpc.specs.Runs.{Counts}
 use Rattle.kernel_rpc.specs.Steps.{counts_in}
-use Rattle.cluster_counts.specs.Asks.{tells_sending}
+use Rattle.cluster_counts.specs.Asks.{answers_between, tells_sending}
 use Rattle.cluster_counts.proofs.AskLaws.{asked_for_each}
+use Rattle.cluster_counts.proofs.ReplyLaws.{replied_were_answered}
 use Rattle.cluster_counts.proofs.SendLaws.{all_sent_join}
 
 -- the records of a turn are what its kernel told
@@ -62,10 +65,29 @@ sendings_are faults asked begun wire trace tx run = agains_so tx trace run.steps
 pub endings_are : {L : Type 0} (faults asked : L → ℕ → ℕ → ℕ) → EndingsAreCounted faults asked
 endings_are faults asked begun wire trace tx run = lasts_so tx trace run.steps idle run.in_order
 
-pub sendings_asked : {L : Type 0} (faults asked : L → ℕ → ℕ → ℕ) → SendingsWereAsked faults asked
-sendings_asked faults asked begun wire trace a b one other run =
+-- of the wire or not, no other record tells of a reply
+no_reply : (a b kernel : ℕ) (e : Event) → is_of_wire e ≡ false → reply_told a b kernel e ≡ []
+no_reply a b kernel (events.Deliver tx from reply about) is = absurd (cc)
+no_reply a b kernel e is = refl
+
+wire_replies : (a b : ℕ) (trace : List Rec) → replies_told a b trace ≡ replies_told a b (of_wire trace)
+wire_replies a b [] = refl
+wire_replies a b (r ∷ trace) = by_first (is_of_wire r.event) refl (wire_replies a b trace)
+  where
+    by_first : (of : Bool) → is_of_wire r.event ≡ of → replies_told a b trace ≡ replies_told a b (of_wire trace) → replies_told a b (r ∷ trace) ≡ replies_told a b (cond {A = List Rec} of (r ∷ of_wire trace) (of_wire trace))
+    by_first true is rest = ap (λ (ns : List ℕ). reply_told a b r.kernel r.event ++ ns) rest
+    by_first false is rest = ap₂ (λ (ms ns : List ℕ). ms ++ ns) (no_reply a b r.kernel r.event is) rest
+
+pub replies_asked : {L : Type 0} (faults asked : L → ℕ → ℕ → ℕ) → RepliesWereAsked faults asked
+replies_asked faults asked begun wire trace a b one other run =
     (let counts = counts_in faults asked run.first.link in
     let rose = asked_for_each run.first.machine counts run.steps a b one other run.ran.run in
+    let start = ap (λ (machine : Machine). times (answers_between a b) machine run.steps) run.idles in
     let end = ap (λ (counts : Counts). counts.asked a b) run.ran.counts in
-    let start = run.counts.asked_stay a b in
-    let told = run.sends a b in omega arith)
+    let begins = run.counts.asked_stay a b in
+    let told = run.sends a b in
+    let replied : calls_replied a b trace ≡ calls_replied a b (told_of told_by idle run.steps) = ap how_many_differ (wire_replies a b trace ∙ ap (replies_told a b) run.in_order) in
+    let answered = replied_were_answered a b run.steps in omega arith)
+
+pub sendings_asked : {L : Type 0} (faults asked : L → ℕ → ℕ → ℕ) → SendingsWereAsked faults asked
+sendings_asked faults asked begun wire trace a b one other run = (let more = replies_asked faults asked begun wire trace a b one other run in omega arith)

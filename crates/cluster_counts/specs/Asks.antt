@@ -1,8 +1,10 @@
 -- How often the link is asked in a run, and how many of its packets the trace tells.
-use Rattle.std.specs.Prelude.{ℕ, ◌+◌, ◌-◌, ◌^◌, ◌≤◌, Bool, false, List, [], ◌∷◌, min}
+use Rattle.std.specs.Prelude.{ℕ, ◌+◌, ◌-◌, ◌^◌, ◌≤◌, Bool, false, List, [], ◌∷◌, min, Option, Some, None}
 use Rattle.link_plan.specs.Counts.{same_pair}
 use Rattle.link_plan.specs.declared.Fate.{Fate}
-use Rattle.kernel_rpc.specs.Machine.{Machine}
+use Rattle.kernel_rpc.specs.declared.Call.{Call}
+use Rattle.kernel_rpc.specs.Histories.{times}
+use Rattle.kernel_rpc.specs.Machine.{Machine, call_of}
 use Rattle.kernel_rpc.specs.Runs.{Act, Begin, Deliver, Answer, Silence, Expire, Counts, IsRun, once_if}
 use Rattle.unix_calls.specs.declared.Event.{Event}
 use Rattle.unix_calls.specs.declared.Event.TheVariants as events
@@ -35,6 +37,20 @@ tells_sending a b kernel event = false
 abbrev pub RoseBy : ℕ → ℕ → ℕ → Type 0
 RoseBy old more new = min (old + more) (2 ^ 64 - 1) ≤ new
 
--- in each run, between any two of the kernels that there may be, the link is asked at least once for each packet that is sent as its call begins
-abbrev pub AskedForEachSending : Type 0
-AskedForEachSending = (machine : Machine) (counts : Counts) (steps : List (Act × Counts)) (a b : ℕ) → (1 ≤ a) × (a ≤ 16) → (1 ≤ b) × (b ≤ 16) → IsRun machine counts steps → RoseBy (counts.asked a b) (all_sent_between a b steps) ((last_counts counts steps).asked a b)
+-- whether a looked-up call is one between the two
+abbrev pub is_between : ℕ → ℕ → Option Call → Bool
+is_between a b None = false
+is_between a b (Some call) = same_pair a b call.owner call.from
+
+-- whether a call between the two is answered
+abbrev pub answers_between : ℕ → ℕ → Machine → Act → Bool
+answers_between a b machine (Begin from port servers owner body tries about before sent) = false
+answers_between a b machine (Deliver number given) = false
+answers_between a b machine (Answer tx body given) = is_between a b (call_of machine tx)
+answers_between a b machine (Silence tx at) = false
+answers_between a b machine (Expire tx sent) = false
+
+-- in each run, between any two of the kernels that there may be, the link is asked at least once for each packet that is sent as its call
+-- begins, and once for each call that is answered
+abbrev pub AskedForEachPacket : Type 0
+AskedForEachPacket = (machine : Machine) (counts : Counts) (steps : List (Act × Counts)) (a b : ℕ) → (1 ≤ a) × (a ≤ 16) → (1 ≤ b) × (b ≤ 16) → IsRun machine counts steps → RoseBy (counts.asked a b) (all_sent_between a b steps + times (answers_between a b) machine steps) ((last_counts counts steps).asked a b)

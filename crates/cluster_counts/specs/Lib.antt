@@ -4,3 +4,4 @@ pub mod Links
 pub mod Turns
 pub mod Traces
 pub mod Asks
+pub mod Replies

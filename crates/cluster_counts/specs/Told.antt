@@ -1,5 +1,7 @@
 -- What is told of the packets of one call, and the acts of which it is told.
-use Rattle.std.specs.Prelude.{ℕ, ◌==◌, Bool, false, ◌&&◌, not}
+use Rattle.std.specs.Prelude.{ℕ, ◌+◌, ◌==◌, Bool, false, ◌&&◌, not, if◌then◌else◌}
+use Rattle.std.specs.List.{list_any}
+use Rattle.link_plan.specs.declared.Fate.{Fate}
 use Rattle.kernel_rpc.specs.declared.PacketCopy.{PacketCopy}
 use Rattle.kernel_rpc.specs.Histories.{sends_by}
 use Rattle.kernel_rpc.specs.Machine.{Machine, call_of}
@@ -22,6 +24,11 @@ abbrev pub tells_copy : ℕ → ℕ → ℕ → Event → Bool
 tells_copy tx at kernel (events.Deliver key from reply about) = (key.0 == tx) && (kernel == at)
 tells_copy tx at kernel event = false
 
+-- and of any packet of the call between its sender and a receiver of it
+abbrev pub tells_packet : ℕ → ℕ → ℕ → Event → Bool
+tells_packet tx receiver kernel (events.Deliver key from reply about) = (key.0 == tx) && (if reply then from == receiver else kernel == receiver)
+tells_packet tx receiver kernel event = false
+
 -- whether the call's timer fired, and its request was sent again
 abbrev pub tells_again : ℕ → ℕ → Event → Bool
 tells_again tx kernel (events.Expire key last) = (key.0 == tx) && not last
@@ -39,6 +46,18 @@ is_reply_at tx at copy = (copy.tx.0 == tx) && (copy.reply && (copy.to == at))
 -- whether a copy is one of any packet of the call to that kernel
 abbrev pub is_copy_at : ℕ → ℕ → PacketCopy → Bool
 is_copy_at tx at copy = (copy.tx.0 == tx) && (copy.to == at)
+
+-- whether a copy is one of any packet of the call between its sender and that receiver
+abbrev pub is_packet_of : ℕ → ℕ → PacketCopy → Bool
+is_packet_of tx receiver copy = (copy.tx.0 == tx) && (if copy.reply then copy.from == receiver else copy.to == receiver)
+
+-- whether the call begins, with a packet to that receiver
+abbrev pub begins_to : ℕ → ℕ → Machine → Act → Bool
+begins_to tx receiver machine (Begin from port servers owner body tries about before sent) = (machine.begun + 1 == tx) && list_any (λ (packet : ℕ × Fate). packet.0 == receiver) sent
+begins_to tx receiver machine (Deliver number given) = false
+begins_to tx receiver machine (Answer key body given) = false
+begins_to tx receiver machine (Silence key at) = false
+begins_to tx receiver machine (Expire key sent) = false
 
 -- whether the timer of the call fires, and its request is sent again
 abbrev pub sends_again : ℕ → Machine → Act → Bool

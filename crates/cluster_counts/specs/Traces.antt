@@ -1,5 +1,5 @@
 -- What a run's trace says of its wire.
-use Rattle.std.specs.Prelude.{◌≡◌, ℕ, ◌+◌, ◌*◌, ◌≤◌, Bool, true, false, List, [], ◌∷◌, ◌++◌, count_by}
+use Rattle.std.specs.Prelude.{◌≡◌, ℕ, ◌+◌, ◌*◌, ◌≤◌, Bool, true, false, List, [], ◌∷◌, ◌++◌, count_by, IsTrue}
 use Rattle.sprite_ids.specs.declared.TxNo.{TxNo}
 use Rattle.link_plan.specs.Counts.{Stay}
 use Rattle.link_plan.specs.declared.Fate.{Fate}
@@ -10,12 +10,14 @@ use Rattle.kernel_rpc.specs.Sound.{Wired}
 use Rattle.unix_calls.specs.declared.Event.{Event}
 use Rattle.unix_calls.specs.declared.Event.TheVariants as events
 use Rattle.unix_calls.specs.declared.Rec.{Rec}
+use Rattle.call_journal.specs.WorthPackets.{deliveries_are_few}
 use Rattle.cluster_wire.specs.Ran.{Ran, told_of}
 use Rattle.cluster_counts.specs.Links.{all_told_by, of_link}
 use Rattle.cluster_counts.specs.Orders.{of_wire, records_by, told_by}
-use Rattle.cluster_counts.specs.Told.{is_reply_at, sends_again, tells_again, tells_copy, tells_last, tells_reply, tells_request}
+use Rattle.cluster_counts.specs.Told.{begins_to, is_reply_at, sends_again, tells_again, tells_copy, tells_last, tells_packet, tells_reply, tells_request}
 use Rattle.cluster_counts.specs.Turns.{RanSo}
 use Rattle.cluster_counts.specs.Asks.{RoseBy, all_sent_between, tells_sending}
+use Rattle.cluster_counts.specs.Replies.{calls_replied}
 
 -- how many records of a trace are so, each told by its kernel
 abbrev pub records_so : (ℕ → Event → Bool) → List Rec → ℕ
@@ -83,3 +85,16 @@ LossBeforeEachExpiry {L} faults asked = (begun : L) (wire : Wired L) (trace befo
 -- between the two
 abbrev pub SendingsWereAsked : {L : Type 0} → (L → ℕ → ℕ → ℕ) → (L → ℕ → ℕ → ℕ) → Type 0
 SendingsWereAsked {L} faults asked = (begun : L) (wire : Wired L) (trace : List Rec) (a b : ℕ) → (1 ≤ a) × (a ≤ 16) → (1 ≤ b) × (b ≤ 16) → ReachedSo faults asked begun wire trace → RoseBy (asked begun a b) (records_so (tells_sending a b) trace) (asked wire.link a b)
+
+-- the same with once more for each call of which it tells that a reply came between the two
+abbrev pub RepliesWereAsked : {L : Type 0} → (L → ℕ → ℕ → ℕ) → (L → ℕ → ℕ → ℕ) → Type 0
+RepliesWereAsked {L} faults asked = (begun : L) (wire : Wired L) (trace : List Rec) (a b : ℕ) → (1 ≤ a) × (a ≤ 16) → (1 ≤ b) × (b ≤ 16) → ReachedSo faults asked begun wire trace → RoseBy (asked begun a b) (records_so (tells_sending a b) trace + calls_replied a b trace) (asked wire.link a b)
+
+-- of the packets of a call a trace tells at most six between its sender and a receiver for each time that the call began with a packet to
+-- that receiver, which is once at most, and for each record that its request is sent again
+abbrev pub SixPacketsEach : {L : Type 0} → (L → ℕ → ℕ → ℕ) → (L → ℕ → ℕ → ℕ) → Type 0
+SixPacketsEach {L} faults asked = (begun : L) (wire : Wired L) (trace : List Rec) (tx receiver : ℕ) (reached : ReachedSo faults asked begun wire trace) → records_so (tells_packet tx receiver) trace ≤ 6 * (times (begins_to tx receiver) idle reached.steps + records_so (tells_again tx) trace)
+
+-- so few packets come for each that is sent: the trace tells each packet with which a call begins
+abbrev pub FewPacketsCome : {L : Type 0} → (L → ℕ → ℕ → ℕ) → (L → ℕ → ℕ → ℕ) → Type 0
+FewPacketsCome {L} faults asked = (begun : L) (wire : Wired L) (trace : List Rec) → ReachedSo faults asked begun wire trace → IsTrue (deliveries_are_few trace)

@@ -1,4 +1,4 @@
-ghost use Rattle.cluster_counts.specs.Traces.{EndingsAreCounted, LossBeforeEachExpiry, RepliesAreCounted, RequestsAreCounted, SendingsAreCounted, SendingsWereAsked, SixCopiesEach, TurnKeepsOrder};
+ghost use Rattle.cluster_counts.specs.Traces.{EndingsAreCounted, FewPacketsCome, LossBeforeEachExpiry, RepliesAreCounted, RepliesWereAsked, RequestsAreCounted, SendingsAreCounted, SendingsWereAsked, SixCopiesEach, SixPacketsEach, TurnKeepsOrder};
 ghost use Rattle.cluster_counts.specs.Turns.{EndIsTold, HappeningIsTold};
 
 use link_plan::Link;
@@ -42,4 +42,24 @@ pub fn expiries_follow_losses<L: Link>()
 /// (this project).
 pub fn sendings_were_asked<L: Link>()
     ensures { SendingsWereAsked L.faults L.asked }
+{}
+
+/// A law: between any two of the sixteen kernels that there may be, the link was asked since the boot at least as often as the
+/// trace has records that a packet of a new call was sent between the two, and once more for each call of which the trace has a
+/// record that its reply came between the two; its count stays at `u64::MAX` where it would pass that (this project).
+pub fn replies_were_asked<L: Link>()
+    ensures { RepliesWereAsked L.faults L.asked }
+{}
+
+/// A law: a trace has, of each call and receiver, at most six records that a packet of the call came between its sender and that
+/// receiver where the call began with a packet to it, at most six more for each record that its request was sent again, and else
+/// none (Welch 1986).
+pub fn six_packets_each<L: Link>()
+    ensures { SixPacketsEach L.faults L.asked }
+{}
+
+/// A law: so few packets come, of each call and receiver, for each record that the call was sent to the receiver and each that its
+/// timer fired (Welch 1986).
+pub fn few_packets_come<L: Link>()
+    ensures { FewPacketsCome L.faults L.asked }
 {}

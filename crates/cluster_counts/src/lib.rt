@@ -4,6 +4,6 @@
 mod laws;
 
 pub use laws::{
-    ends_are_told, expiries_follow_losses, happenings_are_told, records_are_acts,
-    sendings_were_asked, six_copies_each,
+    ends_are_told, expiries_follow_losses, few_packets_come, happenings_are_told, records_are_acts,
+    replies_were_asked, sendings_were_asked, six_copies_each, six_packets_each,
 };

@@ -7,25 +7,32 @@ use Rattle.unix_calls.specs.declared.Rec.{Rec}
 use Rattle.unix_calls.specs.Lawful.{Lawful}
 use Rattle.cluster_counts.specs.Traces.{ReachedSo}
 use Rattle.cluster_counts.proofs.ExpiryLaws.{loss_before}
-use Rattle.cluster_counts.proofs.SixLaws.{six_copies}
-use Rattle.cluster_counts.proofs.TraceLaws.{sendings_asked}
+use Rattle.cluster_counts.proofs.FewLaws.{few_packets}
+use Rattle.cluster_counts.proofs.TraceLaws.{replies_asked}
+use Rattle.kernel_rpc.specs.Machine.{Machine}
+use Rattle.kernel_rpc.specs.Runs.{IsRun}
+use Rattle.kernel_rpc.specs.Steps.{counts_in}
 use Rattle.sprite_cluster.specs.Logs.{Holds, TellsFaults}
 use Rattle.sprite_cluster.specs.Wires.{TellsWire}
 use Rattle.sprite_cluster.specs.declared.cluster.Cluster.{Cluster}
 
 -- of a run that reaches the wire
-reached_tells : {L : Type 0} (faults asked : L → ℕ → ℕ → ℕ) (begun : L) (wire : Wired L) (trace : List Rec) → ReachedSo faults asked begun wire trace → TellsWire asked begun wire.link trace
+reached_tells : {L : Type 0} (faults asked : L → ℕ → ℕ → ℕ) (begun : L) (wire : Wired L) (trace : List Rec) → ReachedSo faults asked begun wire trace → TellsWire faults asked begun wire.link trace
 reached_tells faults asked begun wire trace reached = record {
+  first = counts_in faults asked reached.first.link;
+  begins = reached.counts;
   steps = reached.steps;
+  run = subst (λ (machine : Machine). IsRun machine (counts_in faults asked reached.first.link) reached.steps) reached.idles reached.ran.run;
+  ends = reached.ran.counts;
   in_order = reached.linked;
-  few = λ tx at. six_copies faults asked begun wire trace tx at reached;
+  few = few_packets faults asked begun wire trace reached;
   lost = λ before rest kernel tx last is. loss_before faults asked begun wire trace before rest kernel tx last reached is;
-  were_asked = λ a b one other. sendings_asked faults asked begun wire trace a b one other reached;
+  were_asked = λ a b one other. replies_asked faults asked begun wire trace a b one other reached;
 }
 
 -- of a cluster that is closed while its memory isn't wanting
-pub closed_tells : {L : Type 0} (faults asked : L → ℕ → ℕ → ℕ) (c : Description) (closed : Bool) (begun after : L) (wire : Wired L) (trace : List Rec) → Holds faults asked c closed begun wire trace → after ≡ wire.link → closed ≡ false → TellsWire asked begun after trace
-closed_tells {L} faults asked c closed begun after wire trace held link unclosed = subst (λ (l : L). TellsWire asked begun l trace) (sym link) (reached_tells faults asked begun wire trace (held.reached unclosed))
+pub closed_tells : {L : Type 0} (faults asked : L → ℕ → ℕ → ℕ) (c : Description) (closed : Bool) (begun after : L) (wire : Wired L) (trace : List Rec) → Holds faults asked c closed begun wire trace → after ≡ wire.link → closed ≡ false → TellsWire faults asked begun after trace
+closed_tells {L} faults asked c closed begun after wire trace held link unclosed = subst (λ (l : L). TellsWire faults asked begun l trace) (sym link) (reached_tells faults asked begun wire trace (held.reached unclosed))
 
 pub closed_faults : {L : Type 0} (faults asked : L → ℕ → ℕ → ℕ) (c : Description) (closed : Bool) (begun after : L) (wire : Wired L) (trace : List Rec) → Holds faults asked c closed begun wire trace → after ≡ wire.link → closed ≡ false → TellsFaults faults begun after trace
 closed_faults {L} faults asked c closed begun after wire trace held link unclosed = subst (λ (l : L). TellsFaults faults begun l trace) (sym link) (held.tells unclosed)

@@ -261,7 +261,7 @@ impl<L: Link> Cluster<L> {
         ensures closed { result.0 ≡ record { description = self.description; trace = self.trace; finish = finish } }
         ensures link { result.1 ≡ self.wire.link }
         ensures faults { self.closed ≡ false → TellsFaults L.faults self.begun.value result.1 result.0.trace }
-        ensures wire { self.closed ≡ false → TellsWire L.asked self.begun.value result.1 result.0.trace }
+        ensures wire { self.closed ≡ false → TellsWire L.faults L.asked self.begun.value result.1 result.0.trace }
     {
         let Cluster {
             description,

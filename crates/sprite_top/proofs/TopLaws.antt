@@ -179,6 +179,6 @@ pub none_tells : {L : Type 0} (faults : L → ℕ → ℕ → ℕ) (before after
 none_tells faults before after (Ok a) none = subst (TellsFaults faults before after) (sym none) tt
 none_tells faults before after (Err e) none = none
 
-pub none_of_wire : {L : Type 0} (asked : L → ℕ → ℕ → ℕ) (before after : L) (r : Result Answer NoMemory) → IfOk r (λ a. a.closed ≡ None) → IfOk r (λ a. TellsWireOf asked before after a.closed)
-none_of_wire asked before after (Ok a) none = subst (TellsWireOf asked before after) (sym none) tt
-none_of_wire asked before after (Err e) none = none
+pub none_of_wire : {L : Type 0} (faults asked : L → ℕ → ℕ → ℕ) (before after : L) (r : Result Answer NoMemory) → IfOk r (λ a. a.closed ≡ None) → IfOk r (λ a. TellsWireOf faults asked before after a.closed)
+none_of_wire faults asked before after (Ok a) none = subst (TellsWireOf faults asked before after) (sym none) tt
+none_of_wire faults asked before after (Err e) none = none

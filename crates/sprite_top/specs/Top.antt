@@ -124,9 +124,9 @@ TellsFaults faults before after None = Unit {0}
 TellsFaults faults before after (Some run) = (a b : ℕ) → faults before a b + faults_between a b run.trace ≤ faults after a b
 
 -- of a run that was made: what its trace tells of the packets that went over the link
-abbrev pub TellsWireOf : {L : Type 0} → (L → ℕ → ℕ → ℕ) → L → L → Option Closed → Type 0
-TellsWireOf asked before after None = Unit {0}
-TellsWireOf asked before after (Some run) = TellsWire asked before after run.trace
+abbrev pub TellsWireOf : {L : Type 0} → (L → ℕ → ℕ → ℕ) → (L → ℕ → ℕ → ℕ) → L → L → Option Closed → Type 0
+TellsWireOf faults asked before after None = Unit {0}
+TellsWireOf faults asked before after (Some run) = TellsWire faults asked before after run.trace
 
 -- what the run of a cluster comes to is the cluster's, and its budget is spent where it says so
 pub record IsRun (c : Description) (run : Closed) : Type 0 where

@@ -39,7 +39,7 @@ pub(crate) fn answer_cluster<R: Threads + Wait + Sync, L: Link + Send, W: Watch 
     requires { Lawful description }
     ensures causes { IfOk result.0 (λ a. ClusterCauses print a.status description a.closed a.due) }
     ensures faults { IfOk result.0 (λ a. TellsFaults L.faults link result.1 a.closed) }
-    ensures wire { IfOk result.0 (λ a. TellsWireOf L.asked link result.1 a.closed) }
+    ensures wire { IfOk result.0 (λ a. TellsWireOf L.faults L.asked link result.1 a.closed) }
 {
     let (closed, link) = run_cluster(rt, alloc, description, turns, link, watch);
     let answer = match closed {
@@ -61,7 +61,7 @@ fn run_cluster<R: Threads + Wait + Sync, L: Link + Send, W: Watch + Sync>(
     requires { Lawful description }
     ensures run { IfOk result.0 (IsRun description) }
     ensures faults { IfOk result.0 (λ run. TellsFaults L.faults link result.1 (Some run)) }
-    ensures wire { IfOk result.0 (λ run. TellsWireOf L.asked link result.1 (Some run)) }
+    ensures wire { IfOk result.0 (λ run. TellsWireOf L.faults L.asked link result.1 (Some run)) }
 {
     match Cluster::boot(alloc, description, link) {
         Ok(cluster) => run_booted(rt, alloc, cluster, turns, watch),
@@ -81,7 +81,7 @@ fn run_booted<R: Threads + Wait + Sync, L: Link + Send, W: Watch + Sync>(
     requires none_out { cluster.state.out ≡ [] }
     ensures run { IfOk result.0 (IsRun cluster.description) }
     ensures faults { IfOk result.0 (λ run. TellsFaults L.faults cluster.begun.value result.1 (Some run)) }
-    ensures wire { IfOk result.0 (λ run. TellsWireOf L.asked cluster.begun.value result.1 (Some run)) }
+    ensures wire { IfOk result.0 (λ run. TellsWireOf L.faults L.asked cluster.begun.value result.1 (Some run)) }
 {
     match run_by(rt, alloc, cluster, turns, watch) {
         Ok(cluster) => close(alloc, cluster),
@@ -119,7 +119,7 @@ fn close<L: Link>(alloc: Global, cluster: Cluster<L>) -> (Result<Closed, NoMemor
     requires holds { Holds L.faults L.asked cluster.description cluster.closed cluster.begun.value cluster.wire cluster.trace }
     ensures run { IfOk result.0 (IsRun cluster.description) }
     ensures faults { IfOk result.0 (λ run. TellsFaults L.faults cluster.begun.value result.1 (Some run)) }
-    ensures wire { IfOk result.0 (λ run. TellsWireOf L.asked cluster.begun.value result.1 (Some run)) }
+    ensures wire { IfOk result.0 (λ run. TellsWireOf L.faults L.asked cluster.begun.value result.1 (Some run)) }
 {
     let mut cluster = cluster;
     let finish = cluster.finish(alloc);

@@ -136,7 +136,7 @@ pub fn sprite<R: Threads + Wait + Sync, S: Source, K: Sink, L: Link + Send, W: W
     ensures no_memory { result.status ≡ Status.NoMemory → (K.held sink.new ≡ K.held sink.old) × (result.closed ≡ None) }
     ensures write_fault { result.status ≡ Status.WriteFault → Broke (K.held sink.old) (K.held sink.new) (K.faults sink.old) (K.faults sink.new) (λ status. Causes status (spelled words.now) (S.left source.old) (S.left source.new) (S.faults source.old) (S.faults source.new) result.closed) }
     ensures faults { TellsFaults L.faults link result.link result.closed }
-    ensures wire { TellsWireOf L.asked link result.link result.closed }
+    ensures wire { TellsWireOf L.faults L.asked link result.link result.closed }
 {
     let (answer, link) = answer_to(rt, alloc, words, source, link, watch);
     let Ok(answer) = answer else {
@@ -172,7 +172,7 @@ fn answer_to<R: Threads + Wait + Sync, S: Source, L: Link + Send, W: Watch + Syn
 ) -> (Result<Answer, NoMemory>, L)
     ensures causes { IfOk result.0 (λ a. Causes a.status (spelled words.now) (S.left source.old) (S.left source.new) (S.faults source.old) (S.faults source.new) a.closed a.due) }
     ensures faults { IfOk result.0 (λ a. TellsFaults L.faults link result.1 a.closed) }
-    ensures wire { IfOk result.0 (λ a. TellsWireOf L.asked link result.1 a.closed) }
+    ensures wire { IfOk result.0 (λ a. TellsWireOf L.faults L.asked link result.1 a.closed) }
 {
     match command_of(words) {
         Some(Command::Run) => {
@@ -236,7 +236,7 @@ fn answer_run<R: Threads + Wait + Sync, S: Source, L: Link + Send, W: Watch + Sy
 ) -> (Result<Answer, NoMemory>, L)
     ensures causes { (words : List (List ℕ)) → AsksFor print words → IfOk result.0 (λ a. Causes a.status words (S.left source.old) (S.left source.new) (S.faults source.old) (S.faults source.new) a.closed a.due) }
     ensures faults { IfOk result.0 (λ a. TellsFaults L.faults link result.1 a.closed) }
-    ensures wire { IfOk result.0 (λ a. TellsWireOf L.asked link result.1 a.closed) }
+    ensures wire { IfOk result.0 (λ a. TellsWireOf L.faults L.asked link result.1 a.closed) }
 {
     match read_all(alloc, source, FILE_BYTES) {
         Ok(bytes) => answer_file(rt, alloc, bytes.as_slice(), print, turns, link, watch),
@@ -314,7 +314,7 @@ fn answer_file<R: Threads + Wait + Sync, L: Link + Send, W: Watch + Sync>(
 ) -> (Result<Answer, NoMemory>, L)
     ensures causes { IfOk result.0 (λ a. FileCauses print a.status bytes.now a.closed a.due) }
     ensures faults { IfOk result.0 (λ a. TellsFaults L.faults link result.1 a.closed) }
-    ensures wire { IfOk result.0 (λ a. TellsWireOf L.asked link result.1 a.closed) }
+    ensures wire { IfOk result.0 (λ a. TellsWireOf L.faults L.asked link result.1 a.closed) }
 {
     match read_description(alloc, bytes) {
         Ok(description) => { answer_cluster(rt, alloc, description, print, turns, link, watch) }
