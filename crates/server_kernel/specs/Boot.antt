@@ -181,6 +181,10 @@ abbrev pub fills : List FileLine → Server → Option Server
 fills [] s = Some s
 fills (line ∷ lines) s = and_then (fills_line line s) (λ next. fills lines (counts_file next))
 
+-- the domains that the server serves, and then the files in them
+abbrev pub set_up : Description → Server → Option Server
+set_up c s = and_then (all_hung (serves_of c.kernels s.kernel) 17 s) (λ next. fills c.files next)
+
 -- the server of that number when the cluster begins
 abbrev pub boots : Description → ℕ → Option Server
-boots c kernel = and_then (all_hung (serves_of c.kernels kernel) 17 (bare c kernel)) (λ next. fills c.files next)
+boots c kernel = set_up c (bare c kernel)

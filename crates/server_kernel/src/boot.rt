@@ -1,7 +1,7 @@
 ghost use Rattle.std.specs.Prelude.{◌≡◌, ◌++◌, IfOk, OnOk, slice_get};
 ghost use Rattle.unix_calls.specs.Boot.{limit_of};
 ghost use Rattle.unix_calls.specs.Domains.{roots_of};
-ghost use Rattle.server_kernel.specs.Boot.{Fits, bare, serves_of, is_below, is_longest, are_above, hangs_in, links_of, rooted, bare_names, names_of, hangs_one, hangs_all, all_hung, lies_here, booted_domain, boot_by, boots_name, appends_file, appends_line, makes_line, fills_line, fills, boots};
+ghost use Rattle.server_kernel.specs.Boot.{Fits, bare, serves_of, is_below, is_longest, are_above, hangs_in, links_of, rooted, bare_names, names_of, hangs_one, hangs_all, all_hung, lies_here, booted_domain, boot_by, boots_name, appends_file, appends_line, makes_line, fills_line, fills, set_up, boots};
 
 use crate::server::{Domain, Server};
 use file_store::Store;
@@ -30,14 +30,22 @@ impl Server {
         ensures { IfOk result (λ server. server ≡ boots description.now kernel) }
     {
         let mut server = bare(alloc, description, kernel)?;
-        let serves = serves_of(description.kernels.as_slice(), kernel);
-        if !server.hang_domains(alloc, serves)? {
-            return Ok(None);
+        if server.set_up(alloc, description)? {
+            Ok(Some(server))
+        } else {
+            Ok(None)
         }
-        if !server.fill(alloc, description.files.as_slice())? {
-            return Ok(None);
+    }
+
+    // Makes the server's domains and the files in them. False where the paths don't fit together.
+    fn set_up(&mut self, alloc: Global, description: &Description) -> Result<bool, NoMemory>
+        ensures { IfOk result (λ fits. Fits fits (set_up description.now self.old) self.new) }
+    {
+        let serves = serves_of(description.kernels.as_slice(), self.kernel);
+        if !self.hang_domains(alloc, serves)? {
+            return Ok(false);
         }
-        Ok(Some(server))
+        self.fill(alloc, description.files.as_slice())
     }
 
     // Makes the domains, of which those with longer roots come first. False where the paths don't fit together.
