@@ -1,4 +1,4 @@
-use Rattle.std.proofs.Common.{◌≡◌, ◌×◌, length}
+use Rattle.std.proofs.Common.{◌≡◌, length}
 use Rattle.cluster_wire.specs.Noted.{noted_all, untold}
 use Rattle.cluster_wire.proofs.noting.note_all.Given as goal
 
