@@ -92,19 +92,19 @@ sent_linked kernel (events.Send tx to about kind) packet told is =
 sent_linked kernel e packet told is = absurd (cc)
 
 -- all that a kernel did, where each packet that went out is told
-pub noted_linked : (kernel : ℕ) (events : List Event) (sent : List Sent) (told : List Event) → untold events sent ≡ [] → link_told kernel (noted_all kernel events sent told) ≡ link_told kernel told ++ packets_told kernel sent
+pub noted_linked : (kernel : ℕ) (happened : List Event) (sent : List Sent) (told : List Event) → untold happened sent ≡ [] → link_told kernel (noted_all kernel happened sent told) ≡ link_told kernel told ++ packets_told kernel sent
 noted_linked kernel [] sent told whole = sym (append-nil (link_told kernel told)) ∙ ap (λ (xs : List Sent). link_told kernel told ++ packets_told kernel xs) (sym whole)
-noted_linked kernel (e ∷ events) [] told whole =
-    noted_linked kernel events [] (noted_one kernel e None told) whole
+noted_linked kernel (e ∷ happened) [] told whole =
+    noted_linked kernel happened [] (noted_one kernel e None told) whole
     ∙ ap (λ (xs : List Rec). xs ++ []) (own_none kernel e (is_own e) refl told)
-noted_linked kernel (e ∷ events) (packet ∷ sent) told whole = by_first (is_of e packet) refl (λ told whole. noted_linked kernel events sent told whole) (λ told whole. noted_linked kernel events (packet ∷ sent) told whole) whole
+noted_linked kernel (e ∷ happened) (packet ∷ sent) told whole = by_first (is_of e packet) refl (λ told whole. noted_linked kernel happened sent told whole) (λ told whole. noted_linked kernel happened (packet ∷ sent) told whole) whole
   where
-    by_first : (of : Bool) → is_of e packet ≡ of → ((told : List Event) → untold events sent ≡ [] → link_told kernel (noted_all kernel events sent told) ≡ link_told kernel told ++ packets_told kernel sent) → ((told : List Event) → untold events (packet ∷ sent) ≡ [] → link_told kernel (noted_all kernel events (packet ∷ sent) told) ≡ link_told kernel told ++ packets_told kernel (packet ∷ sent)) → untold events (cond of sent (packet ∷ sent)) ≡ [] → link_told kernel (noted_all kernel events (cond of sent (packet ∷ sent)) (noted_one kernel e (cond of (Some packet) None) told)) ≡ link_told kernel told ++ packets_told kernel (packet ∷ sent)
+    by_first : (of : Bool) → is_of e packet ≡ of → ((told : List Event) → untold happened sent ≡ [] → link_told kernel (noted_all kernel happened sent told) ≡ link_told kernel told ++ packets_told kernel sent) → ((told : List Event) → untold happened (packet ∷ sent) ≡ [] → link_told kernel (noted_all kernel happened (packet ∷ sent) told) ≡ link_told kernel told ++ packets_told kernel (packet ∷ sent)) → untold happened (cond of sent (packet ∷ sent)) ≡ [] → link_told kernel (noted_all kernel happened (cond of sent (packet ∷ sent)) (noted_one kernel e (cond of (Some packet) None) told)) ≡ link_told kernel told ++ packets_told kernel (packet ∷ sent)
     by_first true is taken left whole =
         taken (faulted kernel packet.to packet.fate (told ++ e ∷ [])) whole
         ∙ ap (λ (xs : List Rec). xs ++ packets_told kernel sent) (fault_linked kernel kernel packet.to packet.fate (told ++ e ∷ []))
         ∙ append_assoc (link_told kernel (told ++ e ∷ [])) (fault_told kernel kernel packet.to packet.fate) (packets_told kernel sent)
-        ∙ ap (λ (xs : List Rec). xs ++ fault_told kernel kernel packet.to packet.fate ++ packets_told kernel sent) (sent_linked kernel e packet told is)
+        ∙ ap (λ (xs : List Rec). xs ++ (fault_told kernel kernel packet.to packet.fate ++ packets_told kernel sent)) (sent_linked kernel e packet told is)
         ∙ append_assoc (link_told kernel told) (record { kernel = kernel; event = events.Send packet.tx packet.to None Other } ∷ []) (fault_told kernel kernel packet.to packet.fate ++ packets_told kernel sent)
     by_first false is taken left whole = left (noted_one kernel e None told) whole ∙ ap (λ (xs : List Rec). xs ++ packets_told kernel (packet ∷ sent)) (own_none kernel e (is_own e) refl told)
 
