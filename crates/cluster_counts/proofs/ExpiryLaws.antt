@@ -1,11 +1,11 @@
 -- Each record that a timer fired stands behind a loss.
-use Rattle.std.proofs.Common.{◌≡◌, ℕ, Bool, true, false, List, [], ◌∷◌, ◌++◌, Option, Some, None, refl, sym, ap, ap₂, subst, ◌∙◌}
+use Rattle.std.proofs.Common.{◌≡◌, ℕ, Bool, true, false, cond, List, [], ◌∷◌, ◌++◌, Option, Some, None, refl, sym, ap, ap₂, subst, ◌∙◌}
 use Rattle.sprite_ids.specs.declared.TxNo.{TxNo}
 use Rattle.link_plan.specs.declared.Fate.{Fate}
 use Rattle.kernel_rpc.specs.declared.Call.{Call}
 use Rattle.kernel_rpc.specs.declared.PacketCopy.{PacketCopy}
 use Rattle.kernel_rpc.specs.Histories.{EachLost, IsLostWhereDue, lost_since, reached}
-use Rattle.kernel_rpc.specs.Machine.{Machine, call_of, copy_of, idle, may_expire}
+use Rattle.kernel_rpc.specs.Machine.{Machine, call_of, copy_of, idle, is_last, may_expire}
 use Rattle.kernel_rpc.specs.Runs.{Act, Begin, Deliver, Answer, Silence, Expire, Counts, IsRun, MayAct, after}
 use Rattle.kernel_rpc.specs.Steps.{counts_in}
 use Rattle.kernel_rpc.proofs.LossLaws.{lost_before_expiry}
@@ -13,9 +13,12 @@ use Rattle.unix_calls.specs.declared.Event.{Event}
 use Rattle.unix_calls.specs.declared.Event.TheVariants as events
 use Rattle.unix_calls.specs.declared.Rec.{Rec}
 use Rattle.cluster_wire.specs.Ran.{last_counts, told_of}
-use Rattle.cluster_counts.specs.Orders.{copy_told, firing_told, of_wire, told_by}
+use Rattle.cluster_counts.specs.Links.{all_told_by, faults_told, fired_told, of_link}
+use Rattle.cluster_counts.specs.Orders.{copy_told, firing_told, is_of_wire, of_wire, told_by}
 use Rattle.cluster_counts.specs.Traces.{LossBeforeEachExpiry, lost_after}
+use Rattle.cluster_counts.proofs.LinkLaws.{all_join, link_on}
 use Rattle.cluster_counts.proofs.OrderLaws.{wire_on}
+use Rattle.cluster_counts.proofs.PlaceLaws.{run_wire, same_front, wire_in_link}
 
 -- where a run tells of that record, behind those
 record ToldAt (machine : Machine) (steps : List (Act × Counts)) (before : List Rec) (r : Rec) : Type 0 where
@@ -132,6 +135,32 @@ acts_there (first ∷ done) step rest machine counts run = acts_there done step 
 may_there : (machine : Machine) (old new : Counts) (act : Act) (tx : TxNo) (sent : List (ℕ × Fate)) → act ≡ Expire tx sent → MayAct machine old act new → may_expire machine tx ≡ true
 may_there machine old new act tx sent is may = (subst (λ (act : Act). MayAct machine old act new) is may).0
 
+-- the records before one tell all of the acts before its own
+record Fronted (tx : TxNo) (sent : List (ℕ × Fate)) (o : Option Call) : Type 0 where
+  first : Rec
+  more : List Rec
+  is : fired_told tx sent o ≡ first ∷ more
+  wire : is_of_wire first.event ≡ true
+
+fronted : (tx : TxNo) (sent : List (ℕ × Fate)) (o : Option Call) (r : Rec) → firing_told tx o ≡ r ∷ [] → Fronted tx sent o
+fronted tx sent None r is = absurd (cc)
+fronted tx sent (Some call) r is = record { first = record { kernel = call.from; event = events.Expire tx (is_last call) }; more = cond {A = List Rec} (is_last call) [] (faults_told call.from sent); is = refl; wire = refl }
+
+all_before : (trace before rest : List Rec) (r : Rec) (steps done later : List (Act × Counts)) (tx : TxNo) (sent : List (ℕ × Fate)) (counts : Counts) → is_of_wire r.event ≡ true → of_link (r ∷ rest) ≡ r ∷ of_link rest → of_link trace ≡ told_of all_told_by idle steps → trace ≡ before ++ r ∷ rest → steps ≡ done ++ (Expire tx sent, counts) ∷ later → told_by (reached idle done) (Expire tx sent) ≡ r ∷ [] → of_wire before ≡ told_of told_by idle done → of_link before ≡ told_of all_told_by idle done
+all_before trace before rest r steps done later tx sent counts wire linked all written split tells told =
+    (let machine = reached idle done in
+    let front = fronted tx sent (call_of machine tx) r tells in
+    let behind = told_of all_told_by (after machine (Expire tx sent)) later in
+    same_front (λ (r : Rec). is_of_wire r.event) (of_link before) (told_of all_told_by idle done) r front.first (of_link rest) (front.more ++ behind) wire front.wire
+    (ap (λ (xs : List Rec). of_link before ++ xs) (sym linked)
+    ∙ sym (link_on before (r ∷ rest))
+    ∙ ap of_link (sym written)
+    ∙ all
+    ∙ ap (told_of all_told_by idle) split
+    ∙ all_join done ((Expire tx sent, counts) ∷ later) idle
+    ∙ ap (λ (xs : List Rec). told_of all_told_by idle done ++ (xs ++ behind)) front.is)
+    (wire_in_link before ∙ told ∙ sym (run_wire done idle)))
+
 pub loss_before : {L : Type 0} (faults asked : L → ℕ → ℕ → ℕ) → LossBeforeEachExpiry faults asked
 loss_before faults asked begun wire trace before rest kernel tx last run written =
     let r : Rec = record { kernel = kernel; event = events.Expire tx last } in
@@ -147,6 +176,6 @@ loss_before faults asked begun wire trace before rest kernel tx last run written
       counts = at.counts;
       rest = at.rest;
       split = at.split ∙ ap (λ (act : Act). at.done ++ (act, at.counts) ∷ at.rest) fired.is;
-      told = sym at.told;
+      told = all_before trace before rest r run.steps at.done at.rest tx fired.sent at.counts refl refl run.linked written (at.split ∙ ap (λ (act : Act). at.done ++ (act, at.counts) ∷ at.rest) fired.is) (subst (λ (act : Act). told_by (reached idle at.done) act ≡ r ∷ []) fired.is at.tells) (sym at.told);
       lost = lost_there (λ tx. false) at.done ((at.act, at.counts) ∷ at.rest) idle (lost_before_expiry counts (at.done ++ (at.act, at.counts) ∷ at.rest) split_run) tx may;
     }

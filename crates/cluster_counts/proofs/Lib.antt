@@ -5,6 +5,7 @@ pub mod EndingLaws
 pub mod TallyLaws
 pub mod TraceLaws
 pub mod SixLaws
+pub mod PlaceLaws
 pub mod ExpiryLaws
 pub mod SendLaws
 pub mod AskLaws

@@ -66,15 +66,15 @@ abbrev pub lost_after : (ℕ → Bool) → Machine → List (Act × Counts) → 
 lost_after lost machine [] = lost
 lost_after lost machine (step ∷ steps) = lost_after (λ tx. lost_since tx machine step.0 (lost tx)) (after machine step.0) steps
 
--- a record behind those is of the timer of that call, which fires in the run: behind exactly the acts that the records before it tell,
--- and with a packet between the call's caller and its owner lost since its request was sent last
+-- a record behind those is of the timer of that call, which fires in the run: behind exactly the acts of which the records before it tell,
+-- all their sendings, faults, copies and timers, and with a packet between the call's caller and its owner lost since its request was sent last
 pub record FiresAfterLoss (steps : List (Act × Counts)) (before : List Rec) (tx : TxNo) : Type 0 where
   pub done : List (Act × Counts)
   pub sent : List (ℕ × Fate)
   pub counts : Counts
   pub rest : List (Act × Counts)
   pub split : steps ≡ done ++ (Expire tx sent, counts) ∷ rest
-  pub told : of_wire before ≡ told_of told_by idle done
+  pub told : of_link before ≡ told_of all_told_by idle done
   pub lost : lost_after (λ tx. false) idle done tx.0 ≡ true
 
 -- that of each record that a timer fired
