@@ -4,7 +4,7 @@ use Rattle.std.specs.List.{list_all}
 use Rattle.std.proofs.lemmas.Bool.{le-leb}
 use Rattle.kernel_rpc.specs.Machine.{Machine, idle}
 use Rattle.kernel_rpc.specs.Histories.{brings, times}
-use Rattle.kernel_rpc.specs.Runs.{Counts, IsRun, once_if}
+use Rattle.kernel_rpc.specs.Runs.{Act, Counts, IsRun, once_if}
 use Rattle.kernel_rpc.specs.Steps.{counts_in}
 use Rattle.kernel_rpc.specs.Sound.{Wired}
 use Rattle.unix_calls.specs.declared.Event.{Event}
