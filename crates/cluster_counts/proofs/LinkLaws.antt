@@ -66,7 +66,7 @@ faults_linked kernel (packet ∷ sent) told =
 -- what a kernel alone tells is none of it
 own_unlinked : (e : Event) → is_own e ≡ true → is_of_link e ≡ false
 own_unlinked (events.Send tx to about kind) own = absurd (cc)
-own_unlinked (events.Fault from to fate) own = absurd (cc)
+own_unlinked (events.Fault from to what) own = absurd (cc)
 own_unlinked (events.Deliver tx from reply about) own = absurd (cc)
 own_unlinked (events.Expire tx last) own = absurd (cc)
 own_unlinked e own = refl

@@ -21,7 +21,7 @@ use Rattle.cluster_packets.specs.Acts.{delivery}
 -- whether an event tells of a packet or of a timer
 abbrev pub is_of_link : Event → Bool
 is_of_link (events.Send tx to about kind) = true
-is_of_link (events.Fault from to fate) = true
+is_of_link (events.Fault from to what) = true
 is_of_link (events.Deliver tx from reply about) = true
 is_of_link (events.Expire tx last) = true
 is_of_link event = false
