@@ -1,11 +1,10 @@
 -- The calls of a cluster as steps of a value that kernels take in turns.
-use Rattle.std.proofs.Common.{arith, ◌≡◌, ◌≢◌, ℕ, zero, suc, ◌+◌, ◌<◌, ◌≤◌, ◌==◌, ◌⊎◌, Bool, true, false, ◌||◌, not, cond, List, [], ◌∷◌, ◌++◌, append-nil, refl, sym, ap, ap₂, subst, Option, Some, None, Result, Ok, Err, IfOk, IfSome, OnOk, ◌∙◌, length, map, nat_le, inl, inr, if◌then◌else◌, IsTrue}
+use Rattle.std.proofs.Common.{arith, ◌≡◌, ◌≢◌, ℕ, zero, suc, ◌+◌, ◌<◌, ◌≤◌, ◌==◌, ◌⊎◌, Bool, true, false, ◌||◌, not, cond, List, [], ◌∷◌, ◌++◌, append-nil, refl, sym, ap, ap₂, subst, Option, Some, None, Result, Ok, Err, IfOk, IfSome, OnOk, ◌∙◌, length, nat_le, inl, inr, if◌then◌else◌}
 use Rattle.std.proofs.lemmas.Bool.{and_parts, leb-false, leb-true}
 use Rattle.std.proofs.lemmas.List.{length-append, map-append}
 use Rattle.std.proofs.lemmas.List.Sums.{sum_by-append}
 use Rattle.std.specs.List.{list_all}
 use Rattle.kernel_rpc.specs.Machine.{Machine}
-use Rattle.sprite_ids.specs.declared.Finish.{Finish}
 use Rattle.sprite_ids.specs.declared.Finish.TheVariants as finish
 use Rattle.unix_calls.specs.declared.Description.{Description}
 use Rattle.unix_calls.specs.declared.Event.{Event}

@@ -1,6 +1,5 @@
 -- What is always true of a cluster says what its trace tells of the wire.
 use Rattle.std.proofs.Common.{◌≡◌, ℕ, Bool, false, List, sym, ap, subst, ◌∙◌}
-use Rattle.std.specs.declared.snapshot.Snapshot.{Snapshot}
 use Rattle.kernel_rpc.specs.Sound.{Wired}
 use Rattle.unix_calls.specs.declared.Description.{Description}
 use Rattle.unix_calls.specs.declared.Rec.{Rec}

@@ -1,5 +1,5 @@
 -- The calls of a cluster.
-use Rattle.std.specs.Prelude.{◌≡◌, ℕ, ◌++◌, ◌<◌, Bool, true, false, List, [], length}
+use Rattle.std.specs.Prelude.{◌≡◌, ℕ, ◌++◌, ◌<◌, true, false, List, [], length}
 use Rattle.kernel_threads.specs.declared.EndBurst.{EndBurst}
 use Rattle.kernel_threads.specs.declared.EndBurst.TheVariants.{Taken, Stale}
 use Rattle.kernel_rpc.specs.Sound.{Wired}
