@@ -19,7 +19,9 @@ use Rattle.unix_calls.specs.Lawful.{Lawful, is_within}
 use Rattle.cluster_kernels.specs.declared.State.{State}
 use Rattle.cluster_kernels.specs.Kernels.{has_ended}
 use Rattle.sprite_cluster.specs.Finishing.{IsSpent, finish_of, may_go_on, stands_so}
-use Rattle.sprite_cluster.specs.Logs.{Holds, faults_between, log_of}
+use Rattle.std.specs.declared.snapshot.Snapshot.{Snapshot}
+use Rattle.sprite_cluster.specs.Logs.{Holds, TellsFaults, faults_between, log_of}
+use Rattle.sprite_cluster.specs.Wires.{TellsWire}
 use Rattle.sprite_cluster.specs.declared.Cluster.{Cluster}
 use Rattle.sprite_cluster.specs.declared.Origin.{Origin}
 use Rattle.kernel_threads.specs.Steps.{Ran}
@@ -73,6 +75,13 @@ close_run c closed after trace machine s end run stands enough same is = record 
   same = ap (λ (r : Closed). r.description) is ∙ same;
   spent = subst (λ (r : Closed). IsSpent c r.trace r.finish) (sym is) (subst (λ (d : Description). IsSpent d trace end) same (spent_of closed after trace machine s end stands enough));
 }
+
+-- and its trace tells of no more faults than the link counted since before the boot, and what the wire did
+pub close_faults : {L : Type 0} (faults : L → ℕ → ℕ → ℕ) (old now : Cluster L) (after : L) (trace : List Rec) → now.begun ≡ old.begun → now.closed ≡ false → (now.closed ≡ false → TellsFaults faults now.begun.value after trace) → TellsFaults faults old.begun.value after trace
+close_faults {L} faults old now after trace same unclosed tells = subst (λ (l : Snapshot L). TellsFaults faults l.value after trace) same (tells unclosed)
+
+pub close_wire : {L : Type 0} (faults asked : L → ℕ → ℕ → ℕ) (old now : Cluster L) (after : L) (trace : List Rec) → now.begun ≡ old.begun → now.closed ≡ false → (now.closed ≡ false → TellsWire faults asked now.begun.value after trace) → TellsWire faults asked old.begun.value after trace
+close_wire {L} faults asked old now after trace same unclosed tells = subst (λ (l : Snapshot L). TellsWire faults asked l.value after trace) same (tells unclosed)
 
 -- what is always true of a cluster is true as it is booted
 pub boot_holds : {L : Type 0} (faults asked : L → ℕ → ℕ → ℕ) (link : L) (c : Description) (cluster : Cluster L) → Lawful c → cluster.description ≡ c → cluster.trace ≡ [] → cluster.begun.value ≡ link → cluster.wire.machine ≡ idle → Stay (faults link) (asked link) (faults cluster.wire.link) (asked cluster.wire.link) → Holds faults asked cluster.description cluster.closed cluster.begun.value cluster.wire cluster.trace
