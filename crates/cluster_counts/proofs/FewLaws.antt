@@ -63,7 +63,7 @@ six_packets faults asked begun wire trace tx receiver reached =
     let most = six_of tx receiver (is_packet_of tx receiver) counts reached.steps (λ copy. either_packet (copy.tx.0 == tx) copy.reply (copy.from == receiver) (copy.to == receiver)) run in
     let six = six_by tx receiver (times (sends_again tx) idle reached.steps) counts reached.steps (times (begins_to tx receiver) idle reached.steps) run most refl in omega arith)
 
--- few packets come between a sender and a receiver to which its calls' packets are told
+-- few packets of a call come where the trace tells the packet to the receiver with which it begins
 few_told : {L : Type 0} (faults asked : L → ℕ → ℕ → ℕ) (begun : L) (wire : Wired L) (trace : List Rec) (tx receiver : ℕ) (reached : ReachedSo faults asked begun wire trace) → times (begins_to tx receiver) idle reached.steps ≤ count_by (has_event (is_send_to tx receiver)) trace → are_few tx receiver trace ≡ true
 few_told faults asked begun wire trace tx receiver reached told =
     (let six = six_packets faults asked begun wire trace tx receiver reached in

@@ -52,8 +52,8 @@ pub fn replies_were_asked<L: Link>()
 {}
 
 /// A law: a trace has, of each call and receiver, at most six records that a packet of the call came between its sender and that
-/// receiver where the call began with a packet to it, at most six more for each record that its request was sent again, and else
-/// none (Welch 1986).
+/// receiver for the packet to it with which the call began, if there was one, and for each record that its request was sent again
+/// (Welch 1986).
 pub fn six_packets_each<L: Link>()
     ensures { SixPacketsEach L.faults L.asked }
 {}
