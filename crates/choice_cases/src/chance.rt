@@ -1,6 +1,7 @@
 #![tactic(auto)]
 
-ghost use Rattle.std.specs.Prelude.{◌≡◌, ◌≤◌};
+ghost use Rattle.std.specs.Prelude.{◌≡◌, ◌≤◌, IfOk, IfSome, OnErr, OnOk};
+ghost use Rattle.kernel_threads.specs.Steps.{IsAmong};
 ghost use Rattle.sprite_cluster.specs.Finishing.{stands_so};
 ghost use Rattle.sprite_cluster.specs.Logs.{Holds};
 
@@ -112,19 +113,36 @@ impl Chance {
 }
 
 // The kernel's choice at the word's place, modulo their number, happens. False where memory is wanting.
-fn step<L: Link>(alloc: Global, cluster: &mut Cluster<L>, kernel: Kernel, word: u32) -> bool
-    requires holds { Holds L.faults L.asked cluster.old.description cluster.old.closed cluster.old.begun.value cluster.old.wire cluster.old.trace }
-    requires running { stands_so cluster.old.closed cluster.old.description cluster.old.trace cluster.old.wire.machine cluster.old.state ≡ Finish.Running }
-    ensures { Holds L.faults L.asked cluster.new.description cluster.new.closed cluster.new.begun.value cluster.new.wire cluster.new.trace }
+fn step<V: Stepped>(alloc: Global, value: &mut V, kernel: Kernel, word: u32) -> bool
+    requires holds { V.holds value.old }
+    requires running { V.finish_of value.old ≡ Finish.Running }
+    ensures { V.holds value.new }
 {
-    let Ok(choices) = Stepped::choices(cluster, alloc, kernel) else {
-        return false;
-    };
-    if choices.is_empty() {
-        return true;
+    match drawn_choice(alloc, value, kernel, word) {
+        Ok(Some(choice)) => value.step(alloc, kernel, choice).is_ok(),
+        Ok(None) => true,
+        Err(NoMemory) => false,
     }
-    let choice = *choices.at(word as usize % choices.len());
-    Stepped::step(cluster, alloc, kernel, choice).is_ok()
+}
+
+// The kernel's choice at the word's place, modulo their number, where it has one. The one error is want of memory.
+fn drawn_choice<V: Stepped>(
+    alloc: Global,
+    value: &mut V,
+    kernel: Kernel,
+    word: u32,
+) -> Result<Option<V::Choice>, NoMemory>
+    requires holds { V.holds value.old }
+    requires running { V.finish_of value.old ≡ Finish.Running }
+    ensures among { IfOk result (λ choice. IfSome choice (λ c. IsAmong c (V.choices_at value.old kernel))) }
+    ensures ok { OnOk result (value.new ≡ value.old) }
+    ensures err { OnErr result (V.holds value.new) }
+{
+    let choices = value.choices(alloc, kernel)?;
+    if choices.is_empty() {
+        return Ok(None);
+    }
+    Ok(Some(*choices.at(word as usize % choices.len())))
 }
 
 // A burst of the kernel begins, where a process of it can run, and is held. False where memory is wanting.

@@ -11,7 +11,8 @@ mod chance;
 
 use crate::chance::run_by_chance;
 use cluster_file::read_description;
-use link_plan::PlanLink;
+use kernel_threads::Stepped;
+use link_plan::{Link, PlanLink};
 use run_judge::{JudgedRun, judge_run};
 use sprite_cluster::Cluster;
 use sprite_ids::{Finish, NoMemory};
@@ -127,7 +128,7 @@ fn said(way: &Result<Way, NoMemory>) -> &'static str {
 fn run(alloc: Global, file: &[u8], cache: u8, faults: &str, seed: u64) -> Result<Way, NoMemory> {
     let text = changed(alloc, file, cache, faults)?;
     match read_description(alloc, text.as_slice()) {
-        Ok(description) => run_described(alloc, description, seed),
+        Ok(description) => run_described(alloc, description, seed, PlanLink::new(alloc)),
         Err(_) => Ok(Way::Refused),
     }
 }
@@ -146,25 +147,31 @@ fn changed(alloc: Global, file: &[u8], cache: u8, faults: &str) -> Result<Vec<u8
     Ok(text)
 }
 
-/// Runs a described cluster by chance, and judges its run. The one error is want of memory.
-fn run_described(alloc: Global, description: Description, seed: u64) -> Result<Way, NoMemory>
+/// Runs a described cluster by chance, over that link, and judges its run. The one error is want of memory.
+#[tactic(auto, using(crate::proofs::ChoiceLaws::few_so))]
+fn run_described<L: Link + Drop>(
+    alloc: Global,
+    description: Description,
+    seed: u64,
+    link: L,
+) -> Result<Way, NoMemory>
     requires { Lawful description }
 {
     let Ok(kernels) = u8::try_from(description.kernels.len()) else {
         return Ok(Way::Refused);
     };
-    match Cluster::boot(alloc, description, PlanLink::new(alloc)) {
+    match Cluster::boot(alloc, description, link) {
         Ok(cluster) => judged(alloc, run_by_chance(alloc, cluster, kernels, seed)),
         Err(_link) => Err(NoMemory),
     }
 }
 
 /// How the run of a cluster ended. The one error is want of memory.
-fn judged(alloc: Global, cluster: Cluster<PlanLink>) -> Result<Way, NoMemory>
-    requires { Holds PlanLink.faults PlanLink.asked cluster.description cluster.closed cluster.begun.value cluster.wire cluster.trace }
+fn judged<L: Link + Drop>(alloc: Global, cluster: Cluster<L>) -> Result<Way, NoMemory>
+    requires { Holds L.faults L.asked cluster.description cluster.closed cluster.begun.value cluster.wire cluster.trace }
 {
     let mut cluster = cluster;
-    let finish = cluster.finish(alloc);
+    let finish = Stepped::finish(&mut cluster, alloc);
     let (closed, _link) = cluster.close(finish);
     match judge_run(alloc, &closed.description, &closed.trace, finish, MOST)? {
         JudgedRun::Judged { .. } => Ok(Way::Judged(finish)),
