@@ -18,7 +18,8 @@ use Rattle.client_tables.specs.declared.pending.Pending.TheVariants as operation
 use Rattle.client_tables.specs.Rows.{is_pid, same_pid, same_stream, first_of, less_of}
 use Rattle.client_tables.specs.Fillers.{is_first}
 use Rattle.client_tables.specs.Steps.{keeps, wakes}
-use Rattle.client_facts.specs.FileFacts.{OneOperationEach, QueuesAreOnce, same_process, same_wait}
+use Rattle.client_facts.specs.FileFacts.{OneOperationEach, QueuesAreOnce, TurnsAreOnce, same_process, same_wait}
+use Rattle.client_facts.specs.GoingOn.{few_fds}
 use Rattle.client_facts.proofs.CalmLaws.{Calm, asks_at, asks_by}
 
 -- Processes
@@ -32,6 +33,9 @@ processes_same {V} = record {
   joined = λ x y e z. ap (λ (pid : ℕ). z.0 == pid) (sym (eqb-true y.0 x.0 e));
   turned = λ x y. eq_turned y.0 x.0;
 }
+
+pub pids_same : IsSameness is_pid
+pids_same = record { joined = λ x y e z. ap (λ (pid : ℕ). z == pid) (sym (eqb-true y x e)); turned = λ x y. eq_turned y x }
 
 pub waits_same : IsSameness same_wait
 waits_same = record {
@@ -155,6 +159,7 @@ pub record Ends (pid many : ℕ) (s t : ClientFiles) : Type 0 where
   pub pending : t.pending ≡ s.pending
   pub fewer : (other : ℕ) → (other == pid) ≡ false → times other t.fillers ≤ times other s.fillers
   pub queues : QueuesAreOnce s → QueuesAreOnce t
+  pub turns : TurnsAreOnce s → TurnsAreOnce t
   pub asks : (stream : StreamNo) (file : FileId) → asks_at stream file t ≡ true → asks_at stream file s ≡ true
 
 pub ends_calm : (pid : ℕ) (s t : ClientFiles) → Calm s t → Ends pid 0 s t
@@ -163,6 +168,7 @@ ends_calm pid s t h = record {
   pending = h.pending;
   fewer = λ other apart. (let same = ap (times other) h.fillers in omega arith);
   queues = h.queues;
+  turns = λ q. subst (EachOnce is_pid) (sym h.fillers) q;
   asks = h.asks;
 }
 
@@ -172,6 +178,7 @@ ends_join pid m n s t u h k = record {
   pending = k.pending ∙ h.pending;
   fewer = λ other apart. (let first = h.fewer other apart in let second = k.fewer other apart in omega arith);
   queues = λ q. k.queues (h.queues q);
+  turns = λ q. k.turns (h.turns q);
   asks = λ stream file e. h.asks stream file (k.asks stream file e);
 }
 
@@ -181,6 +188,7 @@ ends_more pid m n s t less h = record {
   pending = h.pending;
   fewer = h.fewer;
   queues = h.queues;
+  turns = h.turns;
   asks = h.asks;
 }
 
@@ -190,6 +198,7 @@ ends_wakes pid woken s = record {
   pending = refl;
   fewer = λ other apart. omega arith;
   queues = λ q. q;
+  turns = λ q. q;
   asks = λ stream file e. e;
 }
 
@@ -217,6 +226,10 @@ abbrev pub row_of : ℕ → Option Pending → List (ℕ × Pending)
 row_of pid (Some operation) = (pid, operation) ∷ []
 row_of pid None = []
 
+abbrev pub few_of : Option Pending → Bool
+few_of (Some operation) = few_fds operation
+few_of None = true
+
 abbrev pub worth_of : ℕ → Option Pending → ClientFiles → ℕ
 worth_of pid (Some operation) s = worth pid operation s
 worth_of pid None s = 0
@@ -227,6 +240,8 @@ pub record Ran (pid : ℕ) (operation : Pending) (s t : ClientFiles) : Type 0 wh
   pub others : (other : ℕ) (op : Pending) → (other == pid) ≡ false → worth other op t ≤ worth other op s
   pub spent : length t.ready + worth_of pid kept t ≤ length s.ready + worth pid operation s
   pub queues : QueuesAreOnce s → QueuesAreOnce t
+  pub turns : TurnsAreOnce s → TurnsAreOnce t
+  pub few : few_fds operation ≡ true → few_of kept ≡ true
 
 pub ran_ended : (pid many : ℕ) (operation : Pending) (s t : ClientFiles) → Ends pid many s t → many ≤ worth pid operation s → Ran pid operation s t
 ran_ended pid many operation s t h enough = record {
@@ -235,15 +250,19 @@ ran_ended pid many operation s t h enough = record {
   others = worth_ends pid many s t h;
   spent = (let few = h.few in omega arith);
   queues = h.queues;
+  turns = h.turns;
+  few = λ _. refl;
 }
 
-pub ran_kept : (pid many : ℕ) (operation new : Pending) (s u : ClientFiles) → Ends pid many s u → many + worth pid new u ≤ worth pid operation s → Ran pid operation s (keeps pid new u)
-ran_kept pid many operation new s u h enough = record {
+pub ran_kept : (pid many : ℕ) (operation new : Pending) (s u : ClientFiles) → Ends pid many s u → many + worth pid new u ≤ worth pid operation s → (few_fds operation ≡ true → few_fds new ≡ true) → Ran pid operation s (keeps pid new u)
+ran_kept pid many operation new s u h enough few = record {
   kept = Some new;
   pending = ap (λ (rows : List (ℕ × Pending)). rows ++ (pid, new) ∷ []) h.pending;
   others = worth_ends pid many s u h;
-  spent = (let few = h.few in omega arith);
+  spent = (let most = h.few in omega arith);
   queues = h.queues;
+  turns = h.turns;
+  few = few;
 }
 
 pub ran_after : (pid : ℕ) (operation : Pending) (s t u : ClientFiles) → Calm s t → Ran pid operation t u → Ran pid operation s u
@@ -253,6 +272,8 @@ ran_after pid operation s t u h r = record {
   others = λ other op apart. (let first = worth_calm other op s t h in let second = r.others other op apart in omega arith);
   spent = (let same = ap (λ (xs : List ℕ). length xs) h.ready in let first = worth_calm pid operation s t h in let second = r.spent in omega arith);
   queues = λ q. r.queues (h.queues q);
+  turns = λ q. r.turns (subst (EachOnce is_pid) (sym h.fillers) q);
+  few = r.few;
 }
 
 pub ran_if : (b : Bool) (pid : ℕ) (operation : Pending) (s t u : ClientFiles) → Ran pid operation s t → Ran pid operation s u → Ran pid operation s (cond b t u)
@@ -288,7 +309,7 @@ cost_ran pid operation s t r none =
 
 -- and a process has at most one operation still
 
-once_kept : (pid : ℕ) (o : Option Pending) (rows : List (ℕ × Pending)) → list_any (is_under same_pid pid) rows ≡ false → EachOnce same_process rows → EachOnce same_process (rows ++ row_of pid o)
+pub once_kept : (pid : ℕ) (o : Option Pending) (rows : List (ℕ × Pending)) → list_any (is_under same_pid pid) rows ≡ false → EachOnce same_process rows → EachOnce same_process (rows ++ row_of pid o)
 once_kept pid None rows none once = subst (EachOnce same_process) (sym (append-nil rows)) once
 once_kept pid (Some operation) rows none once = pushed_once same_process processes_same (pid, operation) rows none once
 

@@ -42,7 +42,7 @@ use Rattle.client_data.specs.Looks.{does, looks, looks_by, looks_locked, seeks_h
 use Rattle.client_data.specs.ServerOps.{asks_server, sends_op, waits_there}
 use Rattle.client_facts.specs.FileFacts.{QueuesAreOnce, same_wait}
 use Rattle.client_facts.proofs.CalmLaws.{Calm, asks_at, asks_by, is_shared, calm_dirties_all, calm_fills_zeros, calm_if, calm_join, calm_makes_room, calm_moves_offset, calm_reads, calm_same, calm_self, calm_sends_back, calm_streams, calm_takes_lock, calm_writes_by, below_unlocked}
-use Rattle.client_facts.proofs.CostLaws.{Ends, Ran, any_less, asked, ends_calm, ends_join, ends_more, ends_wakes, length_pushed, less_once, ran_after, ran_ended, ran_if, ran_kept, times, times_first, times_less, times_pushed, waits_same, weight, worth, worth_calm}
+use Rattle.client_facts.proofs.CostLaws.{Ends, Ran, any_less, asked, ends_calm, ends_join, ends_more, ends_wakes, length_pushed, less_once, pids_same, ran_after, ran_ended, ran_if, ran_kept, times, times_first, times_less, times_pushed, waits_same, weight, worth, worth_calm}
 
 -- Locks
 
@@ -70,6 +70,7 @@ ends_freed pid stream s = record {
   pending = refl;
   fewer = λ other apart. omega arith;
   queues = λ q. less_once same_wait (is_under same_stream stream) s.lock_waits q;
+  turns = λ q. q;
   asks = (calm_streams s (record s.streams { entries = unlocked s.streams.entries stream }) (below_unlocked s.streams.entries stream)).asks;
 }
 
@@ -92,6 +93,7 @@ ends_drops_filler pid s = record {
   pending = refl;
   fewer = λ other apart. times_less other pid s.fillers;
   queues = λ q. q;
+  turns = λ q. less_once is_pid (is_pid pid) s.fillers q;
   asks = λ stream file h. h;
 }
 
@@ -132,22 +134,23 @@ left_filling pid s = left_by (is_filling pid s) pid s refl
 ends_leaves_filling : (pid : ℕ) (s : ClientFiles) → Ends pid 1 s (leaves_filling pid s)
 ends_leaves_filling pid s = let l = left_filling pid s in ends_more pid l.many 1 s (leaves_filling pid s) l.most l.ends
 
-begun_by : (b : Bool) (pid : ℕ) (s : ClientFiles) → Ends pid 0 s (cond b s (record s { fillers = s.fillers ++ pid ∷ [] }))
-begun_by true pid s = ends_calm pid s s (calm_self s)
-begun_by false pid s = record {
+begun_by : (b : Bool) (pid : ℕ) (s : ClientFiles) → list_any (is_pid pid) s.fillers ≡ b → Ends pid 0 s (cond b s (record s { fillers = s.fillers ++ pid ∷ [] }))
+begun_by true pid s e = ends_calm pid s s (calm_self s)
+begun_by false pid s e = record {
   few = omega arith;
   pending = refl;
   fewer = λ other apart. (let same = times_pushed other pid s.fillers apart in omega arith);
   queues = λ q. q;
+  turns = λ q. pushed_once is_pid pids_same pid s.fillers e q;
   asks = λ stream file h. h;
 }
 
 ends_begins_filling : (pid : ℕ) (s : ClientFiles) → Ends pid 0 s (begins_filling pid s)
-ends_begins_filling pid s = begun_by (list_any (is_pid pid) s.fillers) pid s
+ends_begins_filling pid s = begun_by (list_any (is_pid pid) s.fillers) pid s refl
 
 -- Ends
 
-ends_finishes : (pid : ℕ) (stream : StreamNo) (s : ClientFiles) → Ends pid 2 s (finishes pid stream s)
+pub ends_finishes : (pid : ℕ) (stream : StreamNo) (s : ClientFiles) → Ends pid 2 s (finishes pid stream s)
 ends_finishes pid stream s = ends_join pid 1 1 s (leaves_filling pid s) _ (ends_leaves_filling pid s) (ends_unlocks pid stream (leaves_filling pid s))
 
 -- behind what is calm, the call ends here
@@ -176,7 +179,7 @@ ran_two pid call s t h = ran_ended pid 2 (operations.Data call) s t h (omega ari
 -- behind what is calm, it waits
 ran_waits : (pid : ℕ) (call : DataCall) (state : DataState) (s u : ClientFiles) → Calm s u → Ran pid (operations.Data call) s (keeps_data pid call state u)
 ran_waits pid call state s u h =
-    ran_kept pid 0 (operations.Data call) (operations.Data (record call { state = state })) s u (ends_calm pid s u h) (let less = worth_calm pid (operations.Data call) s u h in omega arith)
+    ran_kept pid 0 (operations.Data call) (operations.Data (record call { state = state })) s u (ends_calm pid s u h) (let less = worth_calm pid (operations.Data call) s u h in omega arith) (λ h. h)
 
 none_asked : (b : Bool) (many : ℕ) → (b ≡ true → ⊥) → cond {A = ℕ} b many 0 ≡ 0
 none_asked true many h = absurd (h refl)
@@ -186,7 +189,7 @@ none_asked false many h = refl
 ran_fills : (pid : ℕ) (call : DataCall) (state : DataState) (s u : ClientFiles) → asks_at call.stream call.file s ≡ false → Ends pid 0 s u → Ran pid (operations.Data call) s (keeps_data pid call state u)
 ran_fills pid call state s u e h =
     let quiet = none_asked (asks_at call.stream call.file u) (times pid u.fillers) (λ k. absurd (let old = h.asks call.stream call.file k in cc)) in
-    ran_kept pid 0 (operations.Data call) (operations.Data (record call { state = state })) s u h (omega arith)
+    ran_kept pid 0 (operations.Data call) (operations.Data (record call { state = state })) s u h (omega arith) (λ h. h)
 
 -- Plans
 
@@ -239,7 +242,7 @@ ran_asks_by pid call offset append s t e l =
     let left = l.left in
     ran_kept pid l.many (operations.Data call) (operations.Data (record call { state = states.AtServer t.out.next })) s sent
     (ends_join0 pid l.many s t sent l.ends (calm_same t sent refl refl refl refl refl refl))
-    (omega arith)
+    (omega arith) (λ h. h)
   where
     some_asked : (b : Bool) (many : ℕ) → cond {A = ℕ} b many 0 ≤ many
     some_asked true many = omega arith

@@ -2,4 +2,10 @@ pub mod CalmLaws
 pub mod CostLaws
 pub mod DataLaws
 pub mod StreamLaws
+pub mod RowLaws
 pub mod TurnLaws
+pub mod SteadyLaws
+pub mod AnswerLaws
+pub mod IssueLaws
+pub mod StepLaws
+pub mod BootLaws

@@ -1,5 +1,6 @@
 -- Syncs, closes and moves, when they run.
-use Rattle.std.proofs.Common.{arith, ◌≡◌, ℕ, zero, suc, ◌+◌, ◌*◌, ◌≤◌, Bool, true, false, cond, List, [], ◌∷◌, ◌++◌, length, Option, Some, None, is_some, refl, sym, ap, ◌∙◌, slice_get}
+use Rattle.std.proofs.Common.{arith, ◌≡◌, ℕ, zero, suc, ◌+◌, ◌*◌, ◌≤◌, nat_le, Bool, true, false, cond, List, [], ◌∷◌, ◌++◌, length, Option, Some, None, is_some, refl, sym, ap, ◌∙◌, slice_get}
+use Rattle.std.proofs.lemmas.Bool.{le-leb, leb-true}
 use Rattle.std.specs.List.{remove}
 use Rattle.sprite_ids.specs.declared.FileId.{FileId}
 use Rattle.sprite_ids.specs.declared.BlockNo.{BlockNo}
@@ -44,7 +45,7 @@ use Rattle.client_facts.proofs.DataLaws.{calm_locks, ends_unlocks}
 -- Syncs
 
 ran_synced : (pid : ℕ) (call new : SyncCall) (s u : ClientFiles) → Calm s u → Ran pid (operations.Sync call) s (keeps pid (operations.Sync new) u)
-ran_synced pid call new s u h = ran_kept pid 0 (operations.Sync call) (operations.Sync new) s u (ends_calm pid s u h) (omega arith)
+ran_synced pid call new s u h = ran_kept pid 0 (operations.Sync call) (operations.Sync new) s u (ends_calm pid s u h) (omega arith) (λ h. h)
 
 ran_syncs_dirty : (o : Option ℕ) (pid : ℕ) (old call : SyncCall) (block : BlockNo) (s : ClientFiles) → Ran pid (operations.Sync old) s (syncs.syncs_dirty pid call block o s)
 ran_syncs_dirty (Some number) pid old call block s =
@@ -74,13 +75,16 @@ calm_enters_closed : (cause : ClosingOf) (pid : ℕ) (s : ClientFiles) → Calm 
 calm_enters_closed (closings.Call number fd) pid s = calm_same s _ refl refl refl refl refl refl
 calm_enters_closed (closings.End about) pid s = calm_self s
 
-calm_ends_closing : (cause : ClosingOf) (pid : ℕ) (s : ClientFiles) → Calm s (closing.ends_closing pid cause s)
+pub calm_ends_closing : (cause : ClosingOf) (pid : ℕ) (s : ClientFiles) → Calm s (closing.ends_closing pid cause s)
 calm_ends_closing (closings.Call number fd) pid s = calm_same s _ refl refl refl refl refl refl
 calm_ends_closing (closings.End about) pid s = calm_same s _ refl refl refl refl refl refl
 
 calm_reports_last : (b : Bool) (device : DeviceId) (s : ClientFiles) → Calm s (closing.reports_last b device s)
 calm_reports_last true device s = calm_same s _ refl refl refl refl refl refl
 calm_reports_last false device s = calm_self s
+
+fewer_fds : (left fds : List ℕ) → suc (length left) ≡ length fds → nat_le (length fds) 16 ≡ true → nat_le (length left) 16 ≡ true
+fewer_fds left fds one few = (let most = leb-true (length fds) 16 few in le-leb (length left) 16 (omega arith))
 
 -- the close of one descriptor is done: it wakes itself for the next one, or has ended
 ran_closes_rest : (fds : List ℕ) (pid many : ℕ) (work : CloseWork) (cause : ClosingOf) (s u : ClientFiles) → suc (length fds) ≡ length work.fds → many ≤ 1 → Ends pid many s u → Ran pid (operations.Close work) s (closing.closes_rest fds pid cause u)
@@ -93,6 +97,8 @@ ran_closes_rest (fd ∷ fds) pid many work cause s u e few h = record {
   others = worth_ends pid many s u h;
   spent = (let one = length_pushed u.ready pid in let first = h.few in omega arith);
   queues = h.queues;
+  turns = h.turns;
+  few = fewer_fds (fd ∷ fds) work.fds e;
 }
 
 module _ (pid : ℕ) (work : CloseWork) (fd : ℕ) (one : suc (length (closing.without_first work).fds) ≡ length work.fds) where
@@ -109,7 +115,7 @@ module _ (pid : ℕ) (work : CloseWork) (fd : ℕ) (one : suc (length (closing.w
   ran_closes_last : (o : Option (StreamNo × Stream)) (number : StreamNo) (file : FileId) (s u : ClientFiles) → Calm s u → Ran pid (operations.Close work) s (closing.closes_last pid (closing.without_first work) number file o u)
   ran_closes_last (Some last) number file s u h =
       let sent : ClientFiles = sends_for pid (closing.close_to pid work.of number file last.1.grants) Other u in
-      ran_kept pid 0 (operations.Close work) _ s sent (ends_calm pid s sent (calm_join s u sent h (calm_same u sent refl refl refl refl refl refl))) (omega arith)
+      ran_kept pid 0 (operations.Close work) _ s sent (ends_calm pid s sent (calm_join s u sent h (calm_same u sent refl refl refl refl refl refl))) (omega arith) (fewer_fds (closing.without_first work).fds work.fds one)
   ran_closes_last None number file s u h =
       ran_closes_on 1 s (unlocks number u) (omega arith) (ends_join pid 0 1 s u _ (ends_calm pid s u h) (ends_unlocks pid number u))
 
@@ -122,7 +128,7 @@ module _ (pid : ℕ) (work : CloseWork) (fd : ℕ) (one : suc (length (closing.w
       let so = calm_locks pid number s in
       ran_if (gets_lock pid number s) pid (operations.Close work) s _ _
       (ran_after pid (operations.Close work) s locked _ so (ran_closes_locked number file locked))
-      (ran_kept pid 0 (operations.Close work) (operations.Close work) s locked (ends_calm pid s locked so) (let less = worth_calm pid (operations.Close work) s locked so in omega arith))
+      (ran_kept pid 0 (operations.Close work) (operations.Close work) s locked (ends_calm pid s locked so) (let less = worth_calm pid (operations.Close work) s locked so in omega arith) (λ h. h))
 
   ran_closes_object : (object : Object) (number : StreamNo) (s : ClientFiles) → Ran pid (operations.Close work) s (closing.closes_object pid work fd number object s)
   ran_closes_object (objects.File file) number s = ran_closes_file number file s
@@ -151,7 +157,7 @@ ran_closes_next None pid work s e =
 
 ran_close_by : (state : CloseState) (pid : ℕ) (work : CloseWork) (s : ClientFiles) → Ran pid (operations.Close work) s (closing.runs_close_by state pid work s)
 ran_close_by closes.WaitLock pid work s = ran_closes_next (slice_get work.fds 0) pid work s refl
-ran_close_by (closes.Closing tx stream) pid work s = ran_kept pid 0 (operations.Close work) (operations.Close work) s s (ends_calm pid s s (calm_self s)) (omega arith)
+ran_close_by (closes.Closing tx stream) pid work s = ran_kept pid 0 (operations.Close work) (operations.Close work) s s (ends_calm pid s s (calm_self s)) (omega arith) (λ h. h)
 
 pub ran_close : (pid : ℕ) (work : CloseWork) (s : ClientFiles) → Ran pid (operations.Close work) s (closing.runs_close pid work s)
 ran_close pid work s = ran_close_by work.state pid work s
@@ -172,7 +178,7 @@ calm_drops_each : (pid : ℕ) (stream : StreamNo) (s : ClientFiles) → Calm s (
 calm_drops_each pid stream s = calm_drops_under descriptor_count pid stream s
 
 ran_moved : (pid : ℕ) (work new : MoveWork) (s u : ClientFiles) → Calm s u → Ran pid (operations.Move work) s (keeps pid (operations.Move new) u)
-ran_moved pid work new s u h = ran_kept pid 0 (operations.Move work) (operations.Move new) s u (ends_calm pid s u h) (omega arith)
+ran_moved pid work new s u h = ran_kept pid 0 (operations.Move work) (operations.Move new) s u (ends_calm pid s u h) (omega arith) (λ h. h)
 
 ran_gone : (pid : ℕ) (work : MoveWork) (s u : ClientFiles) → Calm s u → Ran pid (operations.Move work) s u
 ran_gone pid work s u h = ran_ended pid 0 (operations.Move work) s u (ends_calm pid s u h) (omega arith)
