@@ -9,3 +9,4 @@ pub mod AnswerLaws
 pub mod IssueLaws
 pub mod StepLaws
 pub mod BootLaws
+pub mod PlaceLaws

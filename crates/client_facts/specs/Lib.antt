@@ -6,3 +6,4 @@ pub mod HomeFacts
 pub mod ProcExamples
 pub mod Begins
 pub mod GoingOn
+pub mod Places
