@@ -92,7 +92,7 @@ none_by key k v e es more Less apart h rest = ap (λ b. b || list_any (λ (row :
 none_by key k v e es more Equal apart h rest = h
 none_by key k v e es more Greater apart h rest = ap (λ b. b || list_any (λ (row : ℕ × Proc). row.0 == key) more) (or_false (e.0 == key) (list_any (λ (row : ℕ × Proc). row.0 == key) es) h).0 ∙ rest
 
-put_none : (key k : ℕ) (v : Proc) (rows : List (ℕ × Proc)) → (k == key) ≡ false → list_any (λ (row : ℕ × Proc). row.0 == key) rows ≡ false → list_any (λ (row : ℕ × Proc). row.0 == key) (insert_entry nat_cmp rows k v) ≡ false
+pub put_none : (key k : ℕ) (v : Proc) (rows : List (ℕ × Proc)) → (k == key) ≡ false → list_any (λ (row : ℕ × Proc). row.0 == key) rows ≡ false → list_any (λ (row : ℕ × Proc). row.0 == key) (insert_entry nat_cmp rows k v) ≡ false
 put_none key k v [] apart h = ap (λ b. b || false) apart
 put_none key k v (e ∷ es) apart h =
     none_by key k v e es (insert_entry nat_cmp es k v) (nat_cmp k e.0) apart h (put_none key k v es apart (or_false (e.0 == key) (list_any (λ (row : ℕ × Proc). row.0 == key) es) h).1)
@@ -102,7 +102,7 @@ once_by k v e es more Less none h apart rest = (none, h)
 once_by k v e es more Equal none h apart rest = h
 once_by k v e es more Greater none h apart rest = (apart, rest)
 
-put_once : (k : ℕ) (v : Proc) (rows : List (ℕ × Proc)) → list_any (λ (row : ℕ × Proc). row.0 == k) rows ≡ false → EachOnce same_process rows → EachOnce same_process (insert_entry nat_cmp rows k v)
+pub put_once : (k : ℕ) (v : Proc) (rows : List (ℕ × Proc)) → list_any (λ (row : ℕ × Proc). row.0 == k) rows ≡ false → EachOnce same_process rows → EachOnce same_process (insert_entry nat_cmp rows k v)
 put_once k v [] none h = (refl, tt)
 put_once k v (e ∷ es) none h =
     let parts = or_false (e.0 == k) (list_any (λ (row : ℕ × Proc). row.0 == k) es) none in

@@ -10,3 +10,4 @@ pub mod IssueLaws
 pub mod StepLaws
 pub mod BootLaws
 pub mod PlaceLaws
+pub mod ComingLaws

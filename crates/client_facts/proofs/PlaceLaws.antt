@@ -62,10 +62,10 @@ use Rattle.client_facts.proofs.RowLaws.{all_less}
 
 -- Rows of processes
 
-and_true : (a b : Bool) → a ≡ true → b ≡ true → (a && b) ≡ true
+pub and_true : (a b : Bool) → a ≡ true → b ≡ true → (a && b) ≡ true
 and_true a b h k = ap (λ c. c && b) h ∙ k
 
-or_true : (a : Bool) → (a || true) ≡ true
+pub or_true : (a : Bool) → (a || true) ≡ true
 or_true true = refl
 or_true false = refl
 
@@ -76,7 +76,7 @@ at_by a b true false e f g = sym f
 at_by a b false true e f g = ap (λ c. is_eq (cond c Equal Greater)) g ∙ sym f
 at_by a b false false e f g = ap (λ c. is_eq (cond c Equal Greater)) g ∙ sym f
 
-at_is : (pid key : ℕ) → is_at (nat_cmp pid) key ≡ (key == pid)
+pub at_is : (pid key : ℕ) → is_at (nat_cmp pid) key ≡ (key == pid)
 at_is pid key = at_by pid key (nat_lt pid key) (key == pid) refl refl (eq_turned pid key)
 
 -- a test of keys alone
@@ -110,31 +110,31 @@ found_by : (e : ℕ × Proc) (w v : Proc) (p : ℕ → Bool) (es more : List (�
 found_by e w v p es more true k later h = ap (λ c. cond c (Some w) (lookup p es)) k
 found_by e w v p es more false k later h = ap (λ c. cond c (Some e.1) (lookup p more)) k ∙ later h
 
-found_set : (p : ℕ → Bool) (rows : List (ℕ × Proc)) (v w : Proc) → lookup p rows ≡ Some v → lookup p (set_value p rows w) ≡ Some w
+pub found_set : (p : ℕ → Bool) (rows : List (ℕ × Proc)) (v w : Proc) → lookup p rows ≡ Some v → lookup p (set_value p rows w) ≡ Some w
 found_set p [] v w h = absurd (cc)
 found_set p (e ∷ es) v w h = found_by e w v p es (set_value p es w) (p e.0) refl (found_set p es v w) h
 
 -- What is kept, but for processes that a test skips
 
-abbrev excused : (ℕ → Bool) → ℕ × Proc → Bool
+abbrev pub excused : (ℕ → Bool) → ℕ × Proc → Bool
 excused skip row = skip row.0 || is_free_if_ready row
 
-record Kept (skip : ℕ → Bool) (s : ClientProcs) : Type 0 where
-  once : EachOnce same_process s.procs
-  leaving_once : EachOnce same_process s.leaving
-  apart : list_all (is_gone s) s.leaving ≡ true
-  free : list_all (excused skip) s.procs ≡ true
+pub record Kept (skip : ℕ → Bool) (s : ClientProcs) : Type 0 where
+  pub once : EachOnce same_process s.procs
+  pub leaving_once : EachOnce same_process s.leaving
+  pub apart : list_all (is_gone s) s.leaving ≡ true
+  pub free : list_all (excused skip) s.procs ≡ true
 
-abbrev never : ℕ → Bool
+abbrev pub never : ℕ → Bool
 never pid = false
 
-abbrev that : ℕ → ℕ → Bool
+abbrev pub that : ℕ → ℕ → Bool
 that pid key = key == pid
 
-kept_places : (s : ClientProcs) → KeepsPlaces s → Kept never s
+pub kept_places : (s : ClientProcs) → KeepsPlaces s → Kept never s
 kept_places s h = record { once = h.once; leaving_once = h.leaving_once; apart = h.apart; free = h.free }
 
-places_kept : (s : ClientProcs) → Kept never s → KeepsPlaces s
+pub places_kept : (s : ClientProcs) → Kept never s → KeepsPlaces s
 places_kept s h = record { once = h.once; leaving_once = h.leaving_once; apart = h.apart; free = h.free }
 
 gone_same : (s t : ClientProcs) (rows : List (ℕ × Leaving)) → ((pid : ℕ) → is_here pid t ≡ is_here pid s) → list_all (is_gone s) rows ≡ true → list_all (is_gone t) rows ≡ true
@@ -143,7 +143,7 @@ gone_same s t (row ∷ rows) here h =
     let parts = and_parts (is_gone s row) (list_all (is_gone s) rows) h in
     and_true (is_gone t row) (list_all (is_gone t) rows) (ap not (here row.0) ∙ parts.0) (gone_same s t rows here parts.1)
 
-kept_same : (skip : ℕ → Bool) (s t : ClientProcs) → t.procs ≡ s.procs → t.leaving ≡ s.leaving → Kept skip s → Kept skip t
+pub kept_same : (skip : ℕ → Bool) (s t : ClientProcs) → t.procs ≡ s.procs → t.leaving ≡ s.leaving → Kept skip s → Kept skip t
 kept_same skip s t procs leaving h = record {
   once = subst (EachOnce same_process) (sym procs) h.once;
   leaving_once = subst (EachOnce same_process) (sym leaving) h.leaving_once;
@@ -151,7 +151,7 @@ kept_same skip s t procs leaving h = record {
   free = subst (λ (rows : List (ℕ × Proc)). list_all (excused skip) rows ≡ true) (sym procs) h.free;
 }
 
-kept_if : (skip : ℕ → Bool) (b : Bool) (s t : ClientProcs) → Kept skip s → Kept skip t → Kept skip (cond b s t)
+pub kept_if : (skip : ℕ → Bool) (b : Bool) (s t : ClientProcs) → Kept skip s → Kept skip t → Kept skip (cond b s t)
 kept_if skip true s t h k = h
 kept_if skip false s t h k = k
 
@@ -165,7 +165,7 @@ free_set : (skip p : ℕ → Bool) (rows : List (ℕ × Proc)) (w : Proc) → ((
 free_set skip p [] w new h = refl
 free_set skip p (e ∷ es) w new h = free_by skip e w es (set_value p es w) (p e.0) (new e.0) h (free_set skip p es w new (and_parts (excused skip e) (list_all (excused skip) es) h).1)
 
-kept_set : (skip : ℕ → Bool) (pid : ℕ) (w : Proc) (s : ClientProcs) → ((key : ℕ) → is_at (nat_cmp pid) key ≡ true → excused skip (key, w) ≡ true) → Kept skip s → Kept skip (record s { procs = set_value (is_at (nat_cmp pid)) s.procs w })
+pub kept_set : (skip : ℕ → Bool) (pid : ℕ) (w : Proc) (s : ClientProcs) → ((key : ℕ) → is_at (nat_cmp pid) key ≡ true → excused skip (key, w) ≡ true) → Kept skip s → Kept skip (record s { procs = set_value (is_at (nat_cmp pid)) s.procs w })
 kept_set skip pid w s new h = record {
   once = set_once (is_at (nat_cmp pid)) s.procs w h.once;
   leaving_once = h.leaving_once;
@@ -174,21 +174,21 @@ kept_set skip pid w s new h = record {
 }
 
 -- in a state other than ready it is free
-kept_with : (skip : ℕ → Bool) (pid : ℕ) (o : Option Proc) (f : Proc → Proc) (s : ClientProcs) → ((proc : Proc) → is_free_in (f proc).state (f proc) ≡ true) → Kept skip s → Kept skip (procs.with_proc pid (option_map f o) s)
+pub kept_with : (skip : ℕ → Bool) (pid : ℕ) (o : Option Proc) (f : Proc → Proc) (s : ClientProcs) → ((proc : Proc) → is_free_in (f proc).state (f proc) ≡ true) → Kept skip s → Kept skip (procs.with_proc pid (option_map f o) s)
 kept_with skip pid None f s free h = h
 kept_with skip pid (Some proc) f s free h = kept_set skip pid (f proc) s (λ key at. ap (λ b. skip key || b) (free proc) ∙ or_true (skip key)) h
 
 kept_state : (skip : ℕ → Bool) (pid : ℕ) (state : ProcState) (s : ClientProcs) → ((proc : Proc) → is_free_in state proc ≡ true) → Kept skip s → Kept skip (procs.in_state pid state s)
 kept_state skip pid state s free h = kept_with skip pid (proc_at pid s) (λ proc. record proc { state = state }) s (λ proc. free (record proc { state = state })) h
 
-kept_replies : (skip : ℕ → Bool) (pid : ℕ) (reply : Reply) (s : ClientProcs) → Kept skip s → Kept skip (procs.replies pid reply s)
+pub kept_replies : (skip : ℕ → Bool) (pid : ℕ) (reply : Reply) (s : ClientProcs) → Kept skip s → Kept skip (procs.replies pid reply s)
 kept_replies skip pid reply s h =
     let returning : ClientProcs = procs.in_state pid states.Returning s in
     kept_same skip returning (gives pid reply returning) refl refl (kept_state skip pid states.Returning s (λ proc. refl) h)
 
 -- The skipped process settles
 
-abbrev free_of : Option Proc → Bool
+abbrev pub free_of : Option Proc → Bool
 free_of (Some proc) = is_free_in proc.state proc
 free_of None = true
 
@@ -212,7 +212,7 @@ settle_rows pid [] once h free = refl
 settle_rows pid (e ∷ es) once h free =
     settle_by pid e es (lookup (is_at (nat_cmp pid)) es) (e.0 == pid) refl once h (sym (ap (λ b. free_of (cond b (Some e.1) (lookup (is_at (nat_cmp pid)) es))) (at_is pid e.0)) ∙ free) (settle_rows pid es once.1 (and_parts (excused (that pid) e) (list_all (excused (that pid)) es) h).1)
 
-settled : (pid : ℕ) (s : ClientProcs) → Kept (that pid) s → free_of (proc_at pid s) ≡ true → Kept never s
+pub settled : (pid : ℕ) (s : ClientProcs) → Kept (that pid) s → free_of (proc_at pid s) ≡ true → Kept never s
 settled pid s h free = record { once = h.once; leaving_once = h.leaving_once; apart = h.apart; free = settle_rows pid s.procs h.once h.free free }
 
 settled_with : (pid : ℕ) (o : Option Proc) (f : Proc → Proc) (s : ClientProcs) → proc_at pid s ≡ o → ((proc : Proc) → proc_at pid s ≡ Some proc → is_free_in (f proc).state (f proc) ≡ true) → Kept (that pid) s → Kept never (procs.with_proc pid (option_map f o) s)
@@ -289,7 +289,7 @@ kept_dies_as about s h =
         let dying : ClientProcs = procs.in_state about.pid (states.Dying (next_tx s)) asked in
         kept_same never dying _ refl refl (settled_state about.pid (states.Dying (next_tx s)) asked (λ proc. refl) (kept_same (that about.pid) s asked refl refl h))
 
-kept_dies : (pid : ℕ) (proc : Proc) (s : ClientProcs) → proc_at pid s ≡ Some proc → Kept (that pid) s → Kept never (ends.dies pid s)
+pub kept_dies : (pid : ℕ) (proc : Proc) (s : ClientProcs) → proc_at pid s ≡ Some proc → Kept (that pid) s → Kept never (ends.dies pid s)
 kept_dies pid proc s e h =
     subst (λ (o : Option Proc). Kept never (ends.dies_by pid (option_map {T = Proc} (λ proc. proc.number + 1) o) s)) (sym e) (kept_dies_as (record { pid = pid; number = proc.number + 1 }) s h)
 
@@ -392,7 +392,7 @@ remove_free p [] h = refl
 remove_free p (e ∷ es) h = remove_free_by e es (remove_entry p es) (p e.0) h (remove_free p es (and_parts (is_free_if_ready e) (list_all is_free_if_ready es) h).1)
 
 -- whom a look-up finds stands there
-listed_here : (pid : ℕ) (rows : List (ℕ × Proc)) → is_some (lookup (is_at (nat_cmp pid)) rows) ≡ list_any (λ (row : ℕ × Proc). row.0 == pid) rows
+pub listed_here : (pid : ℕ) (rows : List (ℕ × Proc)) → is_some (lookup (is_at (nat_cmp pid)) rows) ≡ list_any (λ (row : ℕ × Proc). row.0 == pid) rows
 listed_here pid [] = refl
 listed_here pid (e ∷ es) = by_test (is_at (nat_cmp pid) e.0) (e.0 == pid) (at_is pid e.0) (listed_here pid es)
   where
@@ -480,7 +480,7 @@ kept_freezes pid route s h =
 -- Calls that return
 
 -- a process that has returned has neither a call nor a fresh image
-abbrev Clean : Option Proc → Type 0
+abbrev pub Clean : Option Proc → Type 0
 Clean None = Unit {0}
 Clean (Some proc) = (is_some proc.call ≡ false) × (proc.fresh ≡ false)
 
@@ -499,9 +499,9 @@ kept_evicted : (pid : ℕ) (proc : Proc) (s : ClientProcs) → proc_at pid s ≡
 kept_evicted pid proc s e alive clean h =
     let stays : ClientProcs = returning.with_evict false pid s in
     let so : Kept never stays = settled_with pid (proc_at pid s) (λ other. record other { evict = false }) s refl (λ other f. let same = some_is proc other (sym e ∙ f) in subst (λ (p : Proc). is_free_in p.state (record p { evict = false }) ≡ true) same (free_clean proc.state (record proc { evict = false }) alive refl clean)) h in
-    kept_if never (holds_master pid stays) _ _ so (kept_freezes pid _ stays so)
+    kept_if never (holds_master pid stays) _ _ so (kept_freezes pid (record { to = home_of pid; about = None; program = None }) stays so)
 
-kept_between : (o : Option Proc) (pid : ℕ) (s : ClientProcs) → proc_at pid s ≡ o → Clean o → Kept (that pid) s → Kept never (returning.goes_between_as pid (returning.standing_if o) s)
+pub kept_between : (o : Option Proc) (pid : ℕ) (s : ClientProcs) → proc_at pid s ≡ o → Clean o → Kept (that pid) s → Kept never (returning.goes_between_as pid (returning.standing_if o) s)
 kept_between None pid s e clean h = settled pid s h (ap free_of e)
 kept_between (Some proc) pid s e clean h =
     by_bool (λ standing. returning.goes_between_as pid standing s) (Kept never) proc.killed _ _
@@ -510,11 +510,11 @@ kept_between (Some proc) pid s e clean h =
     (λ _. kept_evicted pid proc s e alive clean h)
     (λ stays. settled pid s h (ap free_of e ∙ free_clean proc.state proc alive stays clean)))
 
-record Returned (pid : ℕ) (s : ClientProcs) : Type 0 where
-  kept : Kept (that pid) s
-  clean : Clean (proc_at pid s)
+pub record Returned (pid : ℕ) (s : ClientProcs) : Type 0 where
+  pub kept : Kept (that pid) s
+  pub clean : Clean (proc_at pid s)
 
-kept_more : (pid : ℕ) (s : ClientProcs) → Kept never s → Kept (that pid) s
+pub kept_more : (pid : ℕ) (s : ClientProcs) → Kept never s → Kept (that pid) s
 kept_more pid s h = record { once = h.once; leaving_once = h.leaving_once; apart = h.apart; free = more s.procs h.free }
   where
     more : (rows : List (ℕ × Proc)) → list_all is_free_if_ready rows ≡ true → list_all (excused (that pid)) rows ≡ true
@@ -532,7 +532,7 @@ returned_by (Some proc) pid reply s e h =
       clean = subst Clean (sym (found_set (is_at (nat_cmp pid)) s.procs proc new e)) (refl, refl);
     }
 
-returned_more : (pid : ℕ) (s t : ClientProcs) → t.procs ≡ s.procs → t.leaving ≡ s.leaving → Returned pid s → Returned pid t
+pub returned_more : (pid : ℕ) (s t : ClientProcs) → t.procs ≡ s.procs → t.leaving ≡ s.leaving → Returned pid s → Returned pid t
 returned_more pid s t procs leaving r = record {
   kept = kept_same (that pid) s t procs leaving r.kept;
   clean = subst (λ (rows : List (ℕ × Proc)). Clean (lookup (is_at (nat_cmp pid)) rows)) (sym procs) r.clean;
