@@ -1,4 +1,4 @@
--- Kills, evictions, births and arrivals keep where processes are, and leave who is ready without a call or a flag.
+-- Kills, evictions and births keep where processes are, and leave who is ready without a call or a flag.
 use Rattle.std.proofs.Common.{arith, ◌≡◌, ℕ, zero, suc, ◌+◌, ◌==◌, nat_lt, Bool, true, false, ◌&&◌, ◌||◌, not, cond, List, [], ◌∷◌, ◌++◌, Option, Some, None, option_map, is_some, refl, sym, ap, ◌∙◌, subst}
 use Rattle.std.proofs.lemmas.Bool.{and_parts, eq-eqb}
 use Rattle.std.specs.List.{list_all, list_any}
@@ -44,14 +44,17 @@ use Rattle.client_facts.proofs.PlaceLaws.{Clean, Kept, Returned, and_true, at_is
 
 -- A process that is flagged or changed, whose call and fresh image stay
 
-returned_with : (pid : ℕ) (o : Option Proc) (f : Proc → Proc) (s : ClientProcs) → proc_at pid s ≡ o → ((proc : Proc) → Clean (Some proc) → Clean (Some (f proc))) → Returned pid s → Returned pid (procs.with_proc pid (option_map f o) s)
+pub changed_kept : (pid : ℕ) (proc : Proc) (f : Proc → Proc) (s : ClientProcs) → Kept (that pid) s → Kept (that pid) (record s { procs = set_value (is_at (nat_cmp pid)) s.procs (f proc) })
+changed_kept pid proc f s h = kept_set (that pid) pid (f proc) s (λ key at. ap (λ b. b || is_free_if_ready (key, f proc)) (sym (at_is pid key) ∙ at)) h
+
+pub returned_with : (pid : ℕ) (o : Option Proc) (f : Proc → Proc) (s : ClientProcs) → proc_at pid s ≡ o → ((proc : Proc) → Clean (Some proc) → Clean (Some (f proc))) → Returned pid s → Returned pid (procs.with_proc pid (option_map f o) s)
 returned_with pid None f s e clean r = r
 returned_with pid (Some proc) f s e clean r = record {
   kept = kept_set (that pid) pid (f proc) s (λ key at. ap (λ b. b || is_free_if_ready (key, f proc)) (sym (at_is pid key) ∙ at)) r.kept;
   clean = subst Clean (sym (found_set (is_at (nat_cmp pid)) s.procs proc (f proc) e)) (clean proc (subst Clean e r.clean));
 }
 
-goes_between : (pid : ℕ) (s : ClientProcs) → Returned pid s → Kept never (returning.goes_between pid s)
+pub goes_between : (pid : ℕ) (s : ClientProcs) → Returned pid s → Kept never (returning.goes_between pid s)
 goes_between pid s r = kept_between (proc_at pid s) pid s refl r.clean r.kept
 
 -- who is found is free
@@ -75,6 +78,19 @@ clean_free proc h =
     let fresh = and_parts (not proc.killed && not proc.evict) (not proc.fresh) call.0 in
     (not_false (is_some proc.call) call.1, not_false proc.fresh fresh.1)
 
+-- a flag more changes nothing of who isn't ready
+evict_free : (state : ProcState) (proc : Proc) → evicting.is_ready_in state ≡ false → is_free_in state proc ≡ true → is_free_in state (record proc { evict = true }) ≡ true
+evict_free states.Ready proc other h = absurd (cc)
+evict_free (states.PageWait tx page) proc other h = h
+evict_free (states.Arriving tx moving) proc other h = h
+evict_free state proc other h = refl
+
+kill_free : (state : ProcState) (proc : Proc) → evicting.is_ready_in state ≡ false → is_free_in state proc ≡ true → is_free_in state (record proc { killed = true }) ≡ true
+kill_free states.Ready proc other h = absurd (cc)
+kill_free (states.PageWait tx page) proc other h = h
+kill_free (states.Arriving tx moving) proc other h = h
+kill_free state proc other h = refl
+
 -- Evictions
 
 -- the state decides whether it leaves
@@ -91,7 +107,7 @@ evicted_by state pid proc s at e free h =
     let t : ClientProcs = record s { procs = set_value (is_at (nat_cmp pid)) s.procs new } in
     let found : proc_at pid t ≡ Some new = found_set (is_at (nat_cmp pid)) s.procs proc new e in
     let ready : evicting.is_ready pid t ≡ false = ap evicting.is_ready_if found ∙ ap evicting.is_ready_in at in
-    let so : is_free_in new.state new ≡ true = ap (λ (st : ProcState). is_free_in st new) at in
+    let so : is_free_in new.state new ≡ true = ap (λ (st : ProcState). is_free_in st new) at ∙ evict_free state proc refl free in
     subst (λ (b : Bool). Kept never (cond (not b) t (returning.goes_between pid t))) (sym ready) (kept_set never pid new s (λ key k. so) h)
 
 evicted_at : (o : Option Proc) (pid : ℕ) (s : ClientProcs) → proc_at pid s ≡ o → Kept never s → Kept never (evicting.leaves_if_ready pid (procs.with_proc pid (option_map {T = Proc} (λ proc. record proc { evict = true }) o) s))
@@ -118,24 +134,24 @@ kept_answers_by (Some entry) pid reply s h =
     let noted : ClientProcs = notes (Enter entry) s in
     kept_replies never pid reply noted (kept_same never s noted refl refl h)
 
-killed_by : (state : ProcState) (pid : ℕ) (proc : Proc) (s : ClientProcs) → proc.state ≡ state → proc_at pid s ≡ Some proc → Kept never s → Kept never (kills.meets_as pid (kills.meeting_in state) (record s { procs = set_value (is_at (nat_cmp pid)) s.procs (record proc { killed = true }) }))
-killed_by states.Ready pid proc s at e h =
+killed_by : (state : ProcState) (pid : ℕ) (proc : Proc) (s : ClientProcs) → proc.state ≡ state → proc_at pid s ≡ Some proc → is_free_in state proc ≡ true → Kept never s → Kept never (kills.meets_as pid (kills.meeting_in state) (record s { procs = set_value (is_at (nat_cmp pid)) s.procs (record proc { killed = true }) }))
+killed_by states.Ready pid proc s at e free h =
     let new : Proc = record proc { killed = true } in
     let t : ClientProcs = record s { procs = set_value (is_at (nat_cmp pid)) s.procs new } in
     kept_dies pid new t (found_set (is_at (nat_cmp pid)) s.procs proc new e) (kept_set (that pid) pid new s (λ key at. ap (λ b. b || is_free_if_ready (key, new)) (sym (at_is pid key) ∙ at)) (kept_more pid s h))
-killed_by (states.PageWait tx page) pid proc s at e h =
+killed_by (states.PageWait tx page) pid proc s at e free h =
     let new : Proc = record proc { killed = true } in
     let t : ClientProcs = record s { procs = set_value (is_at (nat_cmp pid)) s.procs new } in
     kept_dies pid new t (found_set (is_at (nat_cmp pid)) s.procs proc new e) (kept_set (that pid) pid new s (λ key at. ap (λ b. b || is_free_if_ready (key, new)) (sym (at_is pid key) ∙ at)) (kept_more pid s h))
-killed_by (states.Getting device max) pid proc s at e h =
+killed_by (states.Getting device max) pid proc s at e free h =
     let new : Proc = record proc { killed = true } in
     let so : is_free_in new.state new ≡ true = ap (λ (st : ProcState). is_free_in st new) at in
     let t : ClientProcs = record s { procs = set_value (is_at (nat_cmp pid)) s.procs new } in
     let left : ClientProcs = record t { getters = less (is_row is_pid is_pid device pid) t.getters } in
     kept_answers_by (procs.entry_at pid (Error Interrupted) left) pid (Error Interrupted) left (kept_same never t left refl refl (kept_set never pid new s (λ key k. so) h))
-killed_by state pid proc s at e h =
+killed_by state pid proc s at e free h =
     let new : Proc = record proc { killed = true } in
-    let so : is_free_in new.state new ≡ true = ap (λ (st : ProcState). is_free_in st new) at in
+    let so : is_free_in new.state new ≡ true = ap (λ (st : ProcState). is_free_in st new) at ∙ kill_free state proc refl free in
     kept_set never pid new s (λ key k. so) h
 
 killed_at : (o : Option Proc) (pid : ℕ) (s : ClientProcs) → proc_at pid s ≡ o → Kept never s → Kept never (kills.meets_kill pid (procs.with_proc pid (option_map {T = Proc} (λ proc. record proc { killed = true }) o) s))
@@ -143,7 +159,7 @@ killed_at None pid s e h = subst (λ (o : Option Proc). Kept never (kills.meets_
 killed_at (Some proc) pid s e h =
     let new : Proc = record proc { killed = true } in
     let t : ClientProcs = record s { procs = set_value (is_at (nat_cmp pid)) s.procs new } in
-    subst (λ (o : Option Proc). Kept never (kills.meets_as pid (kills.meeting_of o) t)) (sym (found_set (is_at (nat_cmp pid)) s.procs proc new e)) (killed_by proc.state pid proc s refl e h)
+    subst (λ (o : Option Proc). Kept never (kills.meets_as pid (kills.meeting_of o) t)) (sym (found_set (is_at (nat_cmp pid)) s.procs proc new e)) (killed_by proc.state pid proc s refl e (free_found (is_at (nat_cmp pid)) s.procs proc h.free e) h)
 
 pub kills_keep_places : (pid : ℕ) (s : ClientProcs) → KeepsPlaces s → KeepsPlaces (kills.meets_kill pid (procs.killed_at pid s))
 kills_keep_places pid s h = places_kept (kills.meets_kill pid (procs.killed_at pid s)) (killed_at (proc_at pid s) pid s refl (kept_places s h))
@@ -177,20 +193,23 @@ gone_put k v s (row ∷ rows) none h =
     let away : is_here row.0 (births.puts_proc k v s) ≡ false = listed_here row.0 (insert_entry nat_cmp s.procs k v) ∙ put_none row.0 k v s.procs (eq_turned k row.0 ∙ apart.0) before in
     and_true (is_gone (births.puts_proc k v s) row) (list_all (is_gone (births.puts_proc k v s)) rows) (ap not away) (gone_put k v s rows apart.1 parts.1)
 
-came : (pid : ℕ) (proc : Proc) (s : ClientProcs) → IsNew pid s → Clean (Some proc) → Kept never s → Returned pid (births.puts_proc pid proc s)
-came pid proc s new clean h =
-    let more = kept_more pid s h in
-    record {
-      kept = record {
+-- it is here then, and all others are as before
+pub came_in : (pid : ℕ) (proc : Proc) (s : ClientProcs) → IsNew pid s → Kept never s → Kept (that pid) (births.puts_proc pid proc s) × (proc_at pid (births.puts_proc pid proc s) ≡ Some proc)
+came_in pid proc s new h =
+    let more = kept_more pid s h in (
+      record {
         once = put_once pid proc s.procs (sym (listed_here pid s.procs) ∙ new.gone) h.once;
         leaving_once = h.leaving_once;
         apart = gone_put pid proc s s.leaving new.stays h.apart;
         free = free_put pid proc s.procs more.free;
-      };
-      clean = subst Clean (sym (found_put pid proc s.procs)) clean;
-    }
+      },
+      found_put pid proc s.procs,
+    )
 
-new_same : (pid : ℕ) (s t : ClientProcs) → t.procs ≡ s.procs → t.leaving ≡ s.leaving → IsNew pid s → IsNew pid t
+came : (pid : ℕ) (proc : Proc) (s : ClientProcs) → IsNew pid s → Clean (Some proc) → Kept never s → Returned pid (births.puts_proc pid proc s)
+came pid proc s new clean h = let so = came_in pid proc s new h in record { kept = so.0; clean = subst Clean (sym so.1) clean }
+
+pub new_same : (pid : ℕ) (s t : ClientProcs) → t.procs ≡ s.procs → t.leaving ≡ s.leaving → IsNew pid s → IsNew pid t
 new_same pid s t procs leaving n = record {
   gone = ap (λ (rows : List (ℕ × Proc)). is_some (lookup (is_at (nat_cmp pid)) rows)) procs ∙ n.gone;
   stays = ap (λ (rows : List (ℕ × Leaving)). list_any (is_under is_pid pid) rows) leaving ∙ n.stays;

@@ -11,3 +11,5 @@ pub mod StepLaws
 pub mod BootLaws
 pub mod PlaceLaws
 pub mod ComingLaws
+pub mod ArrivalLaws
+pub mod QuietLaws

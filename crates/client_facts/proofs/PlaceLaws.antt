@@ -215,14 +215,14 @@ settle_rows pid (e ∷ es) once h free =
 pub settled : (pid : ℕ) (s : ClientProcs) → Kept (that pid) s → free_of (proc_at pid s) ≡ true → Kept never s
 settled pid s h free = record { once = h.once; leaving_once = h.leaving_once; apart = h.apart; free = settle_rows pid s.procs h.once h.free free }
 
-settled_with : (pid : ℕ) (o : Option Proc) (f : Proc → Proc) (s : ClientProcs) → proc_at pid s ≡ o → ((proc : Proc) → proc_at pid s ≡ Some proc → is_free_in (f proc).state (f proc) ≡ true) → Kept (that pid) s → Kept never (procs.with_proc pid (option_map f o) s)
+pub settled_with : (pid : ℕ) (o : Option Proc) (f : Proc → Proc) (s : ClientProcs) → proc_at pid s ≡ o → ((proc : Proc) → proc_at pid s ≡ Some proc → is_free_in (f proc).state (f proc) ≡ true) → Kept (that pid) s → Kept never (procs.with_proc pid (option_map f o) s)
 settled_with pid None f s e free h = settled pid s h (ap free_of e)
 settled_with pid (Some proc) f s e free h =
     let t : ClientProcs = record s { procs = set_value (is_at (nat_cmp pid)) s.procs (f proc) } in
     let new = free proc e in
     settled pid t (kept_set (that pid) pid (f proc) s (λ key at. ap (λ b. that pid key || b) new ∙ or_true (that pid key)) h) (ap free_of (found_set (is_at (nat_cmp pid)) s.procs proc (f proc) e) ∙ new)
 
-settled_state : (pid : ℕ) (state : ProcState) (s : ClientProcs) → ((proc : Proc) → is_free_in state proc ≡ true) → Kept (that pid) s → Kept never (procs.in_state pid state s)
+pub settled_state : (pid : ℕ) (state : ProcState) (s : ClientProcs) → ((proc : Proc) → is_free_in state proc ≡ true) → Kept (that pid) s → Kept never (procs.in_state pid state s)
 settled_state pid state s free h = settled_with pid (proc_at pid s) (λ proc. record proc { state = state }) s refl (λ proc e. free (record proc { state = state })) h
 
 -- Ends of processes at their home
@@ -489,9 +489,11 @@ free_clean states.Ready proc killed evict clean =
     let call = ap not clean.0 in
     let fresh = ap not clean.1 in
     and_true (not proc.killed && not proc.evict && not proc.fresh) (not (is_some proc.call)) (and_true (not proc.killed && not proc.evict) (not proc.fresh) (and_true (not proc.killed) (not proc.evict) (ap not killed) (ap not evict)) fresh) call
+free_clean (states.PageWait tx page) proc killed evict clean = and_true (not proc.fresh) (not (is_some proc.call)) (ap not clean.1) (ap not clean.0)
+free_clean (states.Arriving tx moving) proc killed evict clean = ap (λ b. moving || b) (and_true (not proc.fresh) (not (is_some proc.call)) (ap not clean.1) (ap not clean.0)) ∙ or_true moving
 free_clean state proc killed evict clean = refl
 
-by_bool : {B C : Type 0} (f : B → C) (P : C → Type 0) (t : Bool) (x y : B) → (t ≡ true → P (f x)) → (t ≡ false → P (f y)) → P (f (cond t x y))
+pub by_bool : {B C : Type 0} (f : B → C) (P : C → Type 0) (t : Bool) (x y : B) → (t ≡ true → P (f x)) → (t ≡ false → P (f y)) → P (f (cond t x y))
 by_bool f P true x y h k = h refl
 by_bool f P false x y h k = k refl
 

@@ -7,3 +7,4 @@ pub mod ProcExamples
 pub mod Begins
 pub mod GoingOn
 pub mod Places
+pub mod Rounds

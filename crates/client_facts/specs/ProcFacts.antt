@@ -164,14 +164,21 @@ UnmovedAreHeld s = list_all (keeps_its_descriptors s) s.leaving ≡ true
 abbrev pub is_free_proc : Proc → Bool
 is_free_proc proc = not proc.killed && not proc.evict && not proc.fresh && not (is_some proc.call)
 
+-- whether it has no call, and an image that no call made anew
+abbrev pub is_clean_proc : Proc → Bool
+is_clean_proc proc = not proc.fresh && not (is_some proc.call)
+
 abbrev pub is_free_in : ProcState → Proc → Bool
 is_free_in states.Ready proc = is_free_proc proc
+is_free_in (states.PageWait tx page) proc = is_clean_proc proc
+is_free_in (states.Arriving tx moving) proc = moving || is_clean_proc proc
 is_free_in _ proc = true
 
 abbrev pub is_free_if_ready : ℕ × Proc → Bool
 is_free_if_ready row = is_free_in row.1.state row.1
 
--- a process that is ready has no flag, neither of a kill nor of an eviction, and no call
+-- a process that is ready has no flag, neither of a kill nor of an eviction, and no call; nor has one a call that waits for a page
+-- between two calls, or has come outside of its own `migrate`
 abbrev pub ReadyAreFree : ClientProcs → Type 0
 ReadyAreFree s = list_all is_free_if_ready s.procs ≡ true
 

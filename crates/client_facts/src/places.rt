@@ -1,4 +1,4 @@
-ghost use Rattle.client_facts.specs.Places.{BirthsKeepPlaces, EvictionsKeepPlaces, KillsKeepPlaces, RoundKeepsPlaces, RoundsKeepPlaces};
+ghost use Rattle.client_facts.specs.Places.{ArrivalsKeepPlaces, BirthsKeepPlaces, EvictionsKeepPlaces, KillsKeepPlaces, RoundKeepsPlaces, RoundsKeepPlaces};
 
 /// A law: a round of a step, in which replies are given and reports taken, keeps each process here once or leaving once, and not
 /// both, and who is ready without a call or a flag.
@@ -24,4 +24,9 @@ pub fn kills_keep_places()
 /// A law: the birth of a process that is neither here nor leaves keeps it, also where a kill came before it.
 pub fn births_keep_places()
     ensures { BirthsKeepPlaces }
+{}
+
+/// A law: the arrival of such a process keeps it, at its home or elsewhere, in its own `migrate` or not.
+pub fn arrivals_keep_places()
+    ensures { ArrivalsKeepPlaces }
 {}
