@@ -13,3 +13,4 @@ pub mod PlaceLaws
 pub mod ComingLaws
 pub mod ArrivalLaws
 pub mod QuietLaws
+pub mod CacheLaws

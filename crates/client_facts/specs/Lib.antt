@@ -8,3 +8,4 @@ pub mod Begins
 pub mod GoingOn
 pub mod Places
 pub mod Rounds
+pub mod Cached

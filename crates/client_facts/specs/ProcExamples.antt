@@ -166,6 +166,8 @@ pub record ProcFactsCanFail (image : Machine) : Type 0 where
   pub killed : facts.ReadyAreFree (beside (record (between image) { killed = true }) image) → ⊥
   pub evicted : facts.ReadyAreFree (beside (record (between image) { evict = true }) image) → ⊥
   pub in_call : facts.ReadyAreFree (beside (inside states.Ready image) image) → ⊥
+  pub paging : facts.ReadyAreFree (beside (inside (states.PageWait (call 30) 0) image) image) → ⊥
+  pub coming : facts.ReadyAreFree (beside (inside (states.Arriving (call 30) false) image) image) → ⊥
   pub settled : facts.NoneReturns (beside (inside states.Returning image) image) → ⊥
   pub calls : facts.WaitedCallsAreUnfinished (beside (inside (states.AtHome (call 30)) image) image) → ⊥
   pub wanted : facts.UnfinishedAreWaitedFor (record (busy_client image) { unfinished = (call 30, unfinished.Home 2005) ∷ [] }) → ⊥

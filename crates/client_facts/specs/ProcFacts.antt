@@ -160,7 +160,7 @@ UnmovedAreHeld s = list_all (keeps_its_descriptors s) s.leaving ≡ true
 
 -- Between two calls
 
--- whether the process is between two calls and has neither a call nor a flag
+-- whether the process has neither a call nor a flag
 abbrev pub is_free_proc : Proc → Bool
 is_free_proc proc = not proc.killed && not proc.evict && not proc.fresh && not (is_some proc.call)
 
@@ -177,8 +177,8 @@ is_free_in _ proc = true
 abbrev pub is_free_if_ready : ℕ × Proc → Bool
 is_free_if_ready row = is_free_in row.1.state row.1
 
--- a process that is ready has no flag, neither of a kill nor of an eviction, and no call; nor has one a call that waits for a page
--- between two calls, or has come outside of its own `migrate`
+-- a process that is ready has neither a call nor a flag, of a kill or of an eviction; one that waits for a page between two calls,
+-- or has come outside of its own `migrate`, has no call
 abbrev pub ReadyAreFree : ClientProcs → Type 0
 ReadyAreFree s = list_all is_free_if_ready s.procs ≡ true
 

@@ -3,6 +3,7 @@
 #![tactic(auto)]
 
 mod begins;
+mod cached;
 mod file_examples;
 mod going_on;
 mod places;
@@ -10,6 +11,7 @@ mod proc_examples;
 mod rounds;
 
 pub use begins::{files_begin_with_facts, homes_begin_with_facts, procs_begin_with_facts};
+pub use cached::sound_holds_cached;
 pub use file_examples::{busy_has_file_facts, file_facts_can_fail};
 pub use going_on::{going_on_keeps, step_keeps_rest, turns_are_enough};
 pub use places::{
