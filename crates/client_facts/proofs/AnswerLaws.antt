@@ -1,5 +1,5 @@
 -- Answers to remote calls of the files' side keep what the turns need.
-use Rattle.std.proofs.Common.{◌≡◌, ℕ, ◌+◌, Bool, true, false, cond, List, [], ◌∷◌, length, Option, Some, None, refl, sym, ap, ◌∙◌}
+use Rattle.std.proofs.Common.{◌≡◌, ℕ, ◌+◌, Bool, true, false, cond, [], Option, Some, None, refl}
 use Rattle.std.specs.List.{list_any}
 use Rattle.sprite_ids.specs.declared.BlockNo.{BlockNo}
 use Rattle.sprite_ids.specs.declared.FileId.{FileId}
@@ -25,7 +25,6 @@ use Rattle.kernel_steps.specs.Rows.{is_under}
 use Rattle.client_tables.specs.declared.client_files.ClientFiles.{ClientFiles}
 use Rattle.client_tables.specs.declared.moves.CloseWork.{CloseWork}
 use Rattle.client_tables.specs.declared.moves.MoveWork.{MoveWork}
-use Rattle.client_tables.specs.declared.names.NameCall.{NameCall}
 use Rattle.client_tables.specs.declared.names.NameKind.{NameKind}
 use Rattle.client_tables.specs.declared.names.NameKind.TheVariants as kinds
 use Rattle.client_tables.specs.declared.names.NameWork.{NameWork}
@@ -42,7 +41,7 @@ use Rattle.client_tables.specs.declared.works.WriteBackOut.{WriteBackOut}
 use Rattle.client_tables.specs.Locks.{unlocks}
 use Rattle.client_tables.specs.Rows.{first_call, first_of, less_call, less_of, same_call, same_pid}
 use Rattle.client_tables.specs.Says.{replies}
-use Rattle.client_tables.specs.Steps.{keeps, wakes_all}
+use Rattle.client_tables.specs.Steps.{wakes_all}
 use Rattle.client_tables.specs.Streams.{added_fd, adds_stream, moves_offset, sets_cwd, stream_at}
 use Rattle.client_data.specs.Finishes.{ends_there}
 use Rattle.client_data.specs.Grants.{takes_grant}
@@ -57,7 +56,7 @@ use Rattle.client_streams.specs.Closing as closing
 use Rattle.client_streams.specs.Moving as moving
 use Rattle.client_files.specs.Answered as answered
 use Rattle.client_files.specs.Asked as asked
-use Rattle.client_facts.specs.GoingOn.{GoesOn, few_fds, has_few_fds}
+use Rattle.client_facts.specs.GoingOn.{GoesOn, few_fds}
 use Rattle.client_facts.proofs.CalmLaws.{calm_fills, calm_lists_free, calm_moves_offset, calm_sends_back}
 use Rattle.client_facts.proofs.DataLaws.{ends_finishes, ends_unlocks, ran_looks}
 use Rattle.client_facts.proofs.RowLaws.{found_few}

@@ -1,5 +1,5 @@
 -- A process that arrives: where processes are is kept, and who is ready has neither a call nor a flag.
-use Rattle.std.proofs.Common.{◌≡◌, ℕ, ◌==◌, Bool, true, false, ◌&&◌, ◌||◌, not, is_some, cond, List, [], ◌∷◌, Option, Some, None, option_map, refl, sym, ap, ◌∙◌, subst}
+use Rattle.std.proofs.Common.{◌≡◌, ℕ, ◌==◌, Bool, true, false, not, is_some, cond, List, Option, Some, None, option_map, refl, sym, ap, ◌∙◌, subst}
 use Rattle.std.specs.BTreeMap.{is_at}
 use Rattle.std.specs.Map.{lookup}
 use Rattle.std.specs.Ordering.{nat_cmp}
@@ -8,19 +8,16 @@ use Rattle.sprite_ids.specs.Pid.{home_of}
 use Rattle.process_machine.specs.declared.Reply.{Reply}
 use Rattle.process_machine.specs.Machine.{Machine}
 use Rattle.packet_bodies.specs.declared.CarriedStream.{CarriedStream}
-use Rattle.packet_bodies.specs.declared.LaunchRequest.{LaunchRequest}
 use Rattle.packet_bodies.specs.declared.ReplyBody.TheVariants.{Done}
 use Rattle.packet_bodies.specs.declared.Request.{Request}
 use Rattle.packet_bodies.specs.declared.Request.TheVariants as requests
-use Rattle.packet_bodies.specs.declared.TransferRequest.{TransferRequest}
 use Rattle.migrate_freeze.specs.declared.arrival.Arrival.{Arrival}
 use Rattle.migrate_freeze.specs.declared.process.Process.{Process}
-use Rattle.migrate_freeze.specs.Arriving.{arrived_of, launch_arrival, process_with, transfer_arrival}
+use Rattle.migrate_freeze.specs.Arriving.{launch_arrival, process_with, transfer_arrival}
 use Rattle.unix_calls.specs.declared.Event.TheVariants.{Thaw}
 use Rattle.client_homes.specs.declared.client.ClientProcs.{ClientProcs}
 use Rattle.client_homes.specs.declared.client.Unfinished.TheVariants as unfinished
 use Rattle.client_homes.specs.declared.process.Proc.{Proc}
-use Rattle.client_homes.specs.declared.process.ProcState.{ProcState}
 use Rattle.client_homes.specs.declared.process.ProcState.TheVariants as states
 use Rattle.client_homes.specs.Births.{puts_proc}
 use Rattle.client_homes.specs.Ends.{keeps_tx}
@@ -36,7 +33,7 @@ use Rattle.client_procs.specs.Launching.{fresh_image}
 use Rattle.client_facts.specs.ProcFacts.{is_free_in}
 use Rattle.client_facts.specs.Places.{ComesNew, IsNew, KeepsPlaces}
 use Rattle.client_facts.proofs.ComingLaws.{came_in, changed_kept, goes_between, new_same, returned_with}
-use Rattle.client_facts.proofs.PlaceLaws.{Clean, Kept, Returned, and_true, by_bool, kept_if, kept_places, kept_same, kept_set, never, places_kept, settled_state, settled_with, that}
+use Rattle.client_facts.proofs.PlaceLaws.{Clean, Kept, and_true, by_bool, kept_if, kept_places, kept_same, never, places_kept, settled_state, settled_with, that}
 
 -- a process that comes: outside of its own `migrate` it has neither a call nor a fresh image
 record Comes (pid : ℕ) (moving : Bool) (s : ClientProcs) : Type 0 where

@@ -1,29 +1,26 @@
 -- The processes with which a client's kernel begins.
-use Rattle.std.proofs.Common.{arith, ◌≡◌, ℕ, zero, suc, ◌+◌, ◌-◌, ◌*◌, ◌<◌, ◌≤◌, ◌==◌, ◌/◌, ◌%◌, nat_lt, Bool, true, false, ◌&&◌, ◌||◌, not, cond, List, [], ◌∷◌, ◌++◌, length, Option, Some, None, option_map, slice_get, refl, sym, ap, ◌∙◌, subst}
-use Rattle.std.proofs.lemmas.Bool.{eqb-true, eq-eqb, ltb-true}
+use Rattle.std.proofs.Common.{arith, ◌≡◌, ℕ, zero, suc, ◌+◌, ◌-◌, ◌*◌, ◌<◌, ◌≤◌, ◌==◌, nat_lt, Bool, true, false, ◌&&◌, ◌||◌, not, cond, List, [], ◌∷◌, ◌++◌, length, Option, Some, None, option_map, slice_get, refl, sym, ap, ◌∙◌, subst}
+use Rattle.std.proofs.lemmas.Bool.{eqb-true, ltb-true}
 use Rattle.std.specs.List.{AllByRecursion, list_all, list_any}
 use Rattle.std.specs.BTreeMap.{insert_entry}
 use Rattle.std.specs.Ordering.{match_ordering, nat_cmp}
 use Rattle.std.specs.declared.cmp.Ordering.{Ordering}
 use Rattle.std.specs.declared.cmp.Ordering.TheVariants.{Less, Equal, Greater}
 use Rattle.sprite_ids.specs.Lists.{EachOnce}
-use Rattle.sprite_ids.specs.Pid.{birth_of, home_of}
-use Rattle.sprite_ids.proofs.ListLaws.{each_push, each_weaken, get_found, some_is}
+use Rattle.sprite_ids.specs.Pid.{birth_of}
+use Rattle.sprite_ids.proofs.ListLaws.{each_push, each_weaken}
 use Rattle.sprite_ids.proofs.OnceLaws.{or_false}
 use Rattle.process_machine.specs.Machine.{Machine}
 use Rattle.home_table.specs.declared.birth.Birth.{Birth}
 use Rattle.home_table.specs.declared.birth.Life.{Life}
 use Rattle.home_table.specs.declared.birth.Life.TheVariants.{Living}
-use Rattle.home_table.specs.Home.{Table, birth_at, born, is_living, is_living_at, is_pending, is_pending_at, is_so, pid_at}
+use Rattle.home_table.specs.Home.{Table, born, is_living, is_living_at, is_pending, is_pending_at, is_so, pid_at}
 use Rattle.unix_calls.specs.declared.Description.{Description}
-use Rattle.unix_calls.specs.declared.StartLine.{StartLine}
 use Rattle.client_homes.specs.declared.client.ClientProcs.{ClientProcs}
 use Rattle.client_homes.specs.declared.process.Proc.{Proc}
 use Rattle.client_homes.specs.Births.{child_of}
-use Rattle.client_homes.specs.Homes.{is_killed, is_native, lives_at}
-use Rattle.client_homes.specs.Procs.{is_pid}
-use Rattle.kernel_steps.specs.Rows.{is_under}
-use Rattle.client_procs.specs.Boot.{bears_first, bears_if, begins_with, begun_at, boots, nothing_begun, puts_first, starts_all, starts_line}
+use Rattle.client_homes.specs.Homes.{is_native}
+use Rattle.client_procs.specs.Boot.{bears_if, begins_with, boots, nothing_begun, puts_first, starts_all, starts_line}
 use Rattle.client_procs.specs.Launching.{fresh_image}
 use Rattle.client_facts.specs.FileFacts.{same_process}
 use Rattle.client_facts.specs.ProcFacts as facts

@@ -1,5 +1,5 @@
 -- What a cache's own invariant gives.
-use Rattle.std.proofs.Common.{◌≡◌, ℕ, Bool, true, ◌&&◌, List, [], ◌∷◌, refl}
+use Rattle.std.proofs.Common.{◌≡◌, true, List, [], ◌∷◌, refl}
 use Rattle.std.specs.List.{AllByRecursion, list_all}
 use Rattle.block_cache.specs.declared.BlockKey.{BlockKey}
 use Rattle.block_cache.specs.declared.Block.{Block}

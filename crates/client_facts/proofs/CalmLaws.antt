@@ -10,19 +10,18 @@ use Rattle.block_cache.specs.declared.BlockKey.{BlockKey}
 use Rattle.block_cache.specs.declared.Block.{Block}
 use Rattle.block_cache.specs.declared.Filled.{Filled}
 use Rattle.block_cache.specs.declared.Filled.TheVariants as fillings
-use Rattle.block_cache.specs.Files.{Files, grown, known}
+use Rattle.block_cache.specs.Files.{Files, known}
 use Rattle.block_cache.specs.Ranges.{block_count, first_block}
 use Rattle.block_cache.specs.Held.{Held, after_write, is_full, missing}
 use Rattle.block_cache.proofs.StateLaws.{stays_on}
 use Rattle.stream_table.specs.declared.Place.{Place}
 use Rattle.stream_table.specs.declared.Place.TheVariants.{Local, Shared}
 use Rattle.stream_table.specs.declared.Stream.{Stream}
-use Rattle.stream_table.specs.Entries.{Entry, has_lock, holder_of, is_of, leaving, left, locked, locking, may_be_at, placed, placing, stream_in, stream_of, unlocked, unlocking}
+use Rattle.stream_table.specs.Entries.{Entry, holder_of, is_of, leaving, left, locked, locking, may_be_at, placed, placing, stream_in, stream_of, unlocked, unlocking}
 use Rattle.stream_table.specs.Owners.{is_number, is_referred}
-use Rattle.stream_table.specs.Streams.{Table, closed, closing, freed, settled}
+use Rattle.stream_table.specs.Streams.{Table, closed, closing, freed}
 use Rattle.stream_table.proofs.EntryLaws.{one_number}
 use Rattle.stream_table.proofs.FoundLaws.{entry, find_put, find_without}
-use Rattle.kernel_steps.specs.declared.Out.{Out}
 use Rattle.unix_calls.specs.declared.About.{About}
 use Rattle.unix_calls.specs.declared.Event.TheVariants as events
 use Rattle.client_tables.specs.declared.client_files.ClientFiles.{ClientFiles}
@@ -34,7 +33,7 @@ use Rattle.client_tables.specs.Blocks.{is_cached, with_cache}
 use Rattle.client_tables.specs.Extents.{is_within}
 use Rattle.client_tables.specs.Locks.{takes_lock}
 use Rattle.client_tables.specs.Says.{notes}
-use Rattle.client_tables.specs.Streams.{moves_offset, moves_place, stream_at}
+use Rattle.client_tables.specs.Streams.{moves_offset, stream_at}
 use Rattle.client_tables.specs.WriteBacks as backs
 use Rattle.client_data.specs.Cached.{writes_by}
 use Rattle.client_data.specs.Filling as filling

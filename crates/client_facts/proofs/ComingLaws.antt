@@ -1,5 +1,5 @@
 -- Kills, evictions and births keep where processes are, and leave who is ready without a call or a flag.
-use Rattle.std.proofs.Common.{arith, ◌≡◌, ℕ, zero, suc, ◌+◌, ◌==◌, nat_lt, Bool, true, false, ◌&&◌, ◌||◌, not, cond, List, [], ◌∷◌, ◌++◌, Option, Some, None, option_map, is_some, refl, sym, ap, ◌∙◌, subst}
+use Rattle.std.proofs.Common.{◌≡◌, ℕ, ◌==◌, Bool, true, false, ◌&&◌, ◌||◌, not, cond, List, [], ◌∷◌, Option, Some, None, option_map, is_some, refl, sym, ap, ◌∙◌, subst}
 use Rattle.std.proofs.lemmas.Bool.{and_parts, eq-eqb}
 use Rattle.std.specs.List.{list_all, list_any}
 use Rattle.std.specs.BTreeMap.{insert_entry, is_at}
@@ -7,8 +7,6 @@ use Rattle.std.specs.Map.{lookup, set_value}
 use Rattle.std.specs.Ordering.{is_eq, match_ordering, nat_cmp}
 use Rattle.std.specs.declared.cmp.Ordering.{Ordering}
 use Rattle.std.specs.declared.cmp.Ordering.TheVariants.{Less, Equal, Greater}
-use Rattle.sprite_ids.specs.declared.TxNo.{TxNo}
-use Rattle.sprite_ids.specs.Lists.{EachOnce}
 use Rattle.sprite_ids.specs.Lists.{less, without}
 use Rattle.sprite_ids.proofs.ListLaws.{some_is}
 use Rattle.sprite_ids.proofs.OnceLaws.{or_false}
@@ -35,12 +33,11 @@ use Rattle.client_homes.specs.Procs.{is_pid, proc_at}
 use Rattle.client_homes.specs.Says.{notes}
 use Rattle.client_moves.specs.Evicting as evicting
 use Rattle.client_moves.specs.Returning as returning
-use Rattle.client_facts.specs.FileFacts.{same_process}
 use Rattle.client_facts.specs.ProcFacts.{is_free_if_ready, is_free_in, is_free_proc, is_gone}
 use Rattle.client_facts.specs.Places.{IsNew, KeepsPlaces}
 use Rattle.client_facts.proofs.BootLaws.{put_none, put_once}
 use Rattle.client_facts.proofs.CostLaws.{eq_turned}
-use Rattle.client_facts.proofs.PlaceLaws.{Clean, Kept, Returned, and_true, at_is, excused, found_set, free_of, kept_between, kept_dies, kept_if, kept_more, kept_places, kept_replies, kept_same, kept_set, kept_with, listed_here, never, or_true, places_kept, returned_more, settled, that}
+use Rattle.client_facts.proofs.PlaceLaws.{Clean, Kept, Returned, and_true, at_is, excused, found_set, free_of, kept_between, kept_dies, kept_if, kept_more, kept_places, kept_replies, kept_same, kept_set, listed_here, never, places_kept, returned_more, settled, that}
 
 -- A process that is flagged or changed, whose call and fresh image stay
 

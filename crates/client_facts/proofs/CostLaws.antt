@@ -1,5 +1,5 @@
 -- How much a step may still run: a bound that each turn lowers.
-use Rattle.std.proofs.Common.{rules, tests, arith, ◌≡◌, ℕ, zero, suc, ◌+◌, ◌*◌, ◌≤◌, ◌==◌, Bool, true, false, cond, List, [], ◌∷◌, ◌++◌, length, Option, Some, None, refl, sym, ap, ◌∙◌, ap₂, ◌&&◌, ◌||◌, option_map, subst, append-nil}
+use Rattle.std.proofs.Common.{rules, tests, arith, ◌≡◌, ℕ, suc, ◌+◌, ◌*◌, ◌≤◌, ◌==◌, Bool, true, false, cond, List, [], ◌∷◌, ◌++◌, length, Option, Some, None, refl, sym, ap, ◌∙◌, ap₂, ◌&&◌, ◌||◌, option_map, subst, append-nil}
 use Rattle.std.proofs.lemmas.Bool.{and_parts, eqb-true}
 use Rattle.std.proofs.lemmas.Bool.Decides.{eqb_tells}
 use Rattle.std.specs.List.{find, list_any}

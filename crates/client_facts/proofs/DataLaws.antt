@@ -1,11 +1,10 @@
 -- Operations on a file's data, when they run.
-use Rattle.std.proofs.Common.{arith, ◌≡◌, ℕ, zero, suc, ◌+◌, ◌*◌, ◌≤◌, ◌==◌, nat_lt, Bool, true, false, ◌||◌, not, cond, List, [], ◌∷◌, ◌++◌, length, Option, Some, None, refl, sym, ap, ◌∙◌, subst, min, ◌-◌}
+use Rattle.std.proofs.Common.{arith, ◌≡◌, ℕ, ◌+◌, ◌≤◌, Bool, true, false, ◌||◌, not, cond, List, [], ◌∷◌, ◌++◌, length, Option, Some, None, refl, sym, ap, subst}
 use Rattle.std.specs.List.{list_any}
 use Rattle.sprite_ids.specs.declared.FileId.{FileId}
 use Rattle.sprite_ids.specs.declared.BlockNo.{BlockNo}
 use Rattle.sprite_ids.specs.declared.StreamNo.{StreamNo}
 use Rattle.sprite_ids.specs.declared.TxNo.{TxNo}
-use Rattle.sprite_ids.specs.Lists.{EachOnce, less}
 use Rattle.sprite_ids.proofs.OnceLaws.{pushed_once}
 use Rattle.process_machine.specs.declared.Reply.{Reply}
 use Rattle.kernel_steps.specs.Rows.{is_row, is_under}
@@ -16,7 +15,6 @@ use Rattle.stream_table.specs.declared.Stream.{Stream}
 use Rattle.stream_table.specs.Entries.{unlocked}
 use Rattle.client_tables.specs.declared.client_files.ClientFiles.{ClientFiles}
 use Rattle.client_tables.specs.declared.extent.Extent.{Extent}
-use Rattle.client_tables.specs.declared.pending.Pending.{Pending}
 use Rattle.client_tables.specs.declared.pending.Pending.TheVariants as operations
 use Rattle.client_tables.specs.declared.states.DataState.{DataState}
 use Rattle.client_tables.specs.declared.states.DataState.TheVariants as states
@@ -25,24 +23,23 @@ use Rattle.client_tables.specs.declared.works.DataKind.{DataKind}
 use Rattle.client_tables.specs.declared.works.DataKind.TheVariants as kinds
 use Rattle.client_tables.specs.Blocks.{is_cached, missing_in, reads}
 use Rattle.client_tables.specs.Fillers.{begins_filling, drops_filler, is_filling, leaves_filling, wakes_first, wakes_filler}
-use Rattle.client_tables.specs.Locks.{frees, gets_lock, hands_first, hands_over, locks, takes_lock, unlocks, waits_for_lock}
+use Rattle.client_tables.specs.Locks.{frees, gets_lock, hands_first, locks, takes_lock, unlocks, waits_for_lock}
 use Rattle.client_tables.specs.Rows.{first_stream, is_pid, less_stream, same_pid, same_stream}
 use Rattle.client_tables.specs.Calls.{data_call}
 use Rattle.client_tables.specs.Says.{about_of, answers_here}
-use Rattle.client_tables.specs.Steps.{keeps, wakes}
-use Rattle.client_tables.specs.Streams.{moves_offset, stream_at}
+use Rattle.client_tables.specs.Streams.{stream_at}
 use Rattle.client_tables.specs.WriteBacks.{current_write_back, dirties_all}
 use Rattle.client_data.specs.declared.plan.Plan.{Plan}
 use Rattle.client_data.specs.declared.plan.Plan.TheVariants as plans
-use Rattle.client_data.specs.Plans.{plan_append, plan_at, plan_here, plan_of, plan_put, plan_read, plan_size, plan_write}
+use Rattle.client_data.specs.Plans.{plan_append, plan_at, plan_here, plan_of, plan_write}
 use Rattle.client_data.specs.Cached.{does_cached, is_write, reads_cached, writes_bytes, writes_cached}
 use Rattle.client_data.specs.Filling as filling
 use Rattle.client_data.specs.Finishes.{ends_here, finishes, keeps_data}
-use Rattle.client_data.specs.Looks.{does, looks, looks_by, looks_locked, seeks_here, uses_by, uses_cached}
+use Rattle.client_data.specs.Looks.{does, looks, looks_by, uses_by}
 use Rattle.client_data.specs.ServerOps.{asks_server, sends_op, waits_there}
-use Rattle.client_facts.specs.FileFacts.{QueuesAreOnce, same_wait}
+use Rattle.client_facts.specs.FileFacts.{same_wait}
 use Rattle.client_facts.proofs.CalmLaws.{Calm, asks_at, asks_by, is_shared, calm_dirties_all, calm_fills_zeros, calm_if, calm_join, calm_makes_room, calm_moves_offset, calm_reads, calm_same, calm_self, calm_sends_back, calm_streams, calm_takes_lock, calm_writes_by, below_unlocked}
-use Rattle.client_facts.proofs.CostLaws.{Ends, Ran, any_less, asked, ends_calm, ends_join, ends_more, ends_wakes, length_pushed, less_once, pids_same, ran_after, ran_ended, ran_if, ran_kept, times, times_first, times_less, times_pushed, waits_same, weight, worth, worth_calm}
+use Rattle.client_facts.proofs.CostLaws.{Ends, Ran, ends_calm, ends_join, ends_more, ends_wakes, less_once, pids_same, ran_after, ran_ended, ran_if, ran_kept, times, times_first, times_less, times_pushed, waits_same, worth_calm}
 
 -- Locks
 

@@ -1,6 +1,6 @@
 -- The rounds of a step keep where processes are, and leave who is ready without a call or a flag.
-use Rattle.std.proofs.Common.{arith, ◌≡◌, ℕ, zero, suc, ◌+◌, ◌==◌, nat_lt, Bool, true, false, ◌&&◌, ◌||◌, not, cond, List, [], ◌∷◌, ◌++◌, length, Option, Some, None, option_map, is_some, refl, sym, ap, ap₂, ◌∙◌, subst}
-use Rattle.std.proofs.lemmas.Bool.{and_parts, eqb-true, eq-eqb, ltb-true}
+use Rattle.std.proofs.Common.{arith, ◌≡◌, ℕ, zero, suc, ◌+◌, ◌==◌, nat_lt, Bool, true, false, ◌&&◌, ◌||◌, not, cond, List, [], ◌∷◌, ◌++◌, length, Option, Some, None, option_map, is_some, refl, sym, ap, ◌∙◌, subst}
+use Rattle.std.proofs.lemmas.Bool.{and_parts, eqb-true, ltb-true}
 use Rattle.std.specs.List.{find, list_all, list_any}
 use Rattle.std.specs.BTreeMap.{is_at}
 use Rattle.std.specs.Map.{lookup, remove_entry, set_value}
@@ -21,7 +21,6 @@ use Rattle.pseudo_device.specs.Device.{Asks}
 use Rattle.stream_table.specs.declared.Place.{Place}
 use Rattle.migrate_freeze.specs.declared.frozen.MoveStep.{MoveStep}
 use Rattle.migrate_freeze.specs.declared.frozen.MoveStep.TheVariants as steps
-use Rattle.migrate_freeze.specs.OneMove.{OneMove}
 use Rattle.migrate_freeze.specs.Packing.{can_move}
 use Rattle.unix_calls.specs.declared.About.{About}
 use Rattle.unix_calls.specs.declared.Entry.{Entry}
@@ -55,7 +54,7 @@ use Rattle.client_moves.specs.declared.Route.{Route}
 use Rattle.client_files.specs.Turns as files
 use Rattle.client_procs.specs.Turning as turning
 use Rattle.client_facts.specs.FileFacts.{same_process}
-use Rattle.client_facts.specs.ProcFacts.{is_free_if_ready, is_free_in, is_free_proc, is_gone}
+use Rattle.client_facts.specs.ProcFacts.{is_free_if_ready, is_free_in, is_gone}
 use Rattle.client_facts.specs.Places.{KeepsPlaces}
 use Rattle.client_facts.proofs.CostLaws.{eq_turned, less_once, none_left, processes_same}
 use Rattle.client_facts.proofs.RowLaws.{all_less}

@@ -1,5 +1,5 @@
 -- What changes no operation and puts nobody twice into a queue or a turn; and what takes an operation that was taken out and may keep one.
-use Rattle.std.proofs.Common.{arith, ◌≡◌, ℕ, zero, suc, ◌+◌, ◌≤◌, nat_le, Bool, true, false, cond, List, [], ◌∷◌, ◌++◌, length, Option, Some, None, refl, sym, ap, ◌∙◌, subst, append-nil}
+use Rattle.std.proofs.Common.{◌≡◌, ℕ, nat_le, Bool, true, false, cond, List, [], ◌∷◌, ◌++◌, length, Option, Some, None, refl, sym, ap, ◌∙◌, subst, append-nil}
 use Rattle.std.specs.List.{list_all, list_any}
 use Rattle.sprite_ids.specs.declared.BlockNo.{BlockNo}
 use Rattle.sprite_ids.specs.declared.CallKind.{CallKind}
@@ -28,7 +28,7 @@ use Rattle.client_tables.specs.Steps.{keeps, starts}
 use Rattle.client_tables.specs.Streams.{moves_place, stream_at}
 use Rattle.client_data.specs.Grants as grants
 use Rattle.client_streams.specs.Closing.{closes_rest, closing}
-use Rattle.client_facts.specs.FileFacts.{OneOperationEach, QueuesAreOnce, TurnsAreOnce, same_process, same_wait}
+use Rattle.client_facts.specs.FileFacts.{QueuesAreOnce, TurnsAreOnce, same_process, same_wait}
 use Rattle.client_facts.specs.GoingOn.{GoesOn, few_fds, has_few_fds}
 use Rattle.client_facts.proofs.CalmLaws.{Calm}
 use Rattle.client_facts.proofs.CostLaws.{Ends, Ran, few_of, less_once, none_left, once_kept, row_of}

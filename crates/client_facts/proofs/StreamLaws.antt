@@ -1,5 +1,5 @@
 -- Syncs, closes and moves, when they run.
-use Rattle.std.proofs.Common.{arith, ◌≡◌, ℕ, zero, suc, ◌+◌, ◌*◌, ◌≤◌, nat_le, Bool, true, false, cond, List, [], ◌∷◌, ◌++◌, length, Option, Some, None, is_some, refl, sym, ap, ◌∙◌, slice_get}
+use Rattle.std.proofs.Common.{arith, ◌≡◌, ℕ, zero, suc, ◌+◌, ◌≤◌, nat_le, Bool, true, false, List, [], ◌∷◌, ◌++◌, length, Option, Some, None, is_some, refl, ap, slice_get}
 use Rattle.std.proofs.lemmas.Bool.{le-leb, leb-true}
 use Rattle.std.specs.List.{remove}
 use Rattle.sprite_ids.specs.declared.FileId.{FileId}
@@ -13,7 +13,7 @@ use Rattle.block_cache.specs.Blocks.{dirty_at}
 use Rattle.stream_table.specs.declared.Place.{Place}
 use Rattle.stream_table.specs.declared.Stream.{Stream}
 use Rattle.stream_table.specs.Owners.{descriptor}
-use Rattle.stream_table.specs.Streams.{closed, closed_stream, is_last}
+use Rattle.stream_table.specs.Streams.{closed_stream, is_last}
 use Rattle.unix_calls.specs.declared.SendKind.TheVariants.{Other}
 use Rattle.client_tables.specs.declared.client_files.ClientFiles.{ClientFiles}
 use Rattle.client_tables.specs.declared.moves.ClosingOf.{ClosingOf}
@@ -30,7 +30,7 @@ use Rattle.client_tables.specs.declared.works.SyncCall.{SyncCall}
 use Rattle.client_tables.specs.Locks.{gets_lock, locks, unlocks}
 use Rattle.client_tables.specs.Rows.{same_stream}
 use Rattle.client_tables.specs.Says.{about_of, expects, sends_for}
-use Rattle.client_tables.specs.Steps.{keeps, wakes}
+use Rattle.client_tables.specs.Steps.{keeps}
 use Rattle.client_tables.specs.Streams.{stream_at}
 use Rattle.client_tables.specs.WriteBacks.{current_write_back}
 use Rattle.client_data.specs.Sync as syncs
@@ -39,7 +39,7 @@ use Rattle.client_streams.specs.Closing as closing
 use Rattle.client_streams.specs.Descriptors.{descriptor_count, drops, drops_by, drops_each, drops_under}
 use Rattle.client_streams.specs.Moving as moving
 use Rattle.client_facts.proofs.CalmLaws.{Calm, calm_closed, calm_if, calm_join, calm_same, calm_self, calm_sends_back}
-use Rattle.client_facts.proofs.CostLaws.{Ends, Ran, ends_calm, ends_join, ends_more, ends_wakes, length_pushed, ran_after, ran_ended, ran_if, ran_kept, worth_calm, worth_ends}
+use Rattle.client_facts.proofs.CostLaws.{Ends, Ran, ends_calm, ends_join, length_pushed, ran_after, ran_ended, ran_if, ran_kept, worth_calm, worth_ends}
 use Rattle.client_facts.proofs.DataLaws.{calm_locks, ends_unlocks}
 
 -- Syncs

@@ -1,5 +1,5 @@
 -- A small state of the files' side in which much waits, and edits of it that lack one fact each.
-use Rattle.std.specs.Prelude.{ℕ, true, false, List, [], ◌∷◌, ◌++◌, replicate, Option, Some, None, slice_set}
+use Rattle.std.specs.Prelude.{ℕ, true, false, List, [], ◌∷◌, Option, Some, None, slice_set}
 use Rattle.sprite_ids.specs.declared.BlockNo.{BlockNo}
 use Rattle.sprite_ids.specs.declared.FileId.{FileId}
 use Rattle.sprite_ids.specs.declared.Mode.TheVariants.{Both}

@@ -1,5 +1,5 @@
 -- The turns in which the files' side of a client's kernel works off what a step woke.
-use Rattle.std.specs.Prelude.{◌≡◌, ℕ, nat_le, Bool, true, false, List, [], length}
+use Rattle.std.specs.Prelude.{◌≡◌, ℕ, nat_le, Bool, true, false, [], length}
 use Rattle.std.specs.List.{list_all, list_any}
 use Rattle.sprite_ids.specs.declared.TxNo.{TxNo}
 use Rattle.kernel_steps.specs.declared.Input.{Input}

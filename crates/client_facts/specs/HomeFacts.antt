@@ -3,7 +3,7 @@ use Rattle.std.specs.Prelude.{◌≡◌, ℕ, ◌+◌, ◌==◌, Bool, true, fal
 use Rattle.std.specs.List.{list_all, list_any}
 use Rattle.sprite_ids.specs.declared.TxNo.{TxNo}
 use Rattle.sprite_ids.specs.Lists.{EachOnce}
-use Rattle.kernel_steps.specs.Rows.{is_row, is_under}
+use Rattle.kernel_steps.specs.Rows.{is_under}
 use Rattle.home_table.specs.declared.birth.Birth.{Birth}
 use Rattle.home_table.specs.declared.end.WaitAnswer.{WaitAnswer}
 use Rattle.home_table.specs.declared.end.WaitAnswer.TheVariants as waits
@@ -22,7 +22,7 @@ use Rattle.client_homes.specs.Procs.{is_call, is_pid, proc_at}
 use Rattle.client_homes.specs.Kills.{is_here}
 use Rattle.client_homes.specs.Killing.{kill_at}
 use Rattle.client_facts.specs.FileFacts.{same_process}
-use Rattle.client_facts.specs.ProcFacts.{is_ending, is_in, same_call_row}
+use Rattle.client_facts.specs.ProcFacts.{is_in, same_call_row}
 
 -- the home is the kernel's own
 abbrev pub HomeIsOwn : ClientProcs → Type 0

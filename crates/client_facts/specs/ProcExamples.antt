@@ -1,8 +1,7 @@
 -- A small state of a client's kernel in which much waits, and edits of it that lack one fact each.
-use Rattle.std.specs.Prelude.{ℕ, Bool, true, false, List, [], ◌∷◌, ◌++◌, replicate, Option, Some, None, slice_set}
+use Rattle.std.specs.Prelude.{ℕ, true, false, List, [], ◌∷◌, ◌++◌, replicate, Option, Some, None, slice_set}
 use Rattle.sprite_ids.specs.declared.AskKind.TheVariants.{Write}
 use Rattle.sprite_ids.specs.declared.Ending.TheVariants.{Exit}
-use Rattle.process_machine.specs.declared.Call.{Call}
 use Rattle.process_machine.specs.declared.Call.TheVariants.{Getpid}
 use Rattle.process_machine.specs.Machine.{Machine}
 use Rattle.stream_table.specs.declared.Carried.{Carried}
@@ -10,10 +9,7 @@ use Rattle.stream_table.specs.declared.Place.TheVariants.{Local}
 use Rattle.home_table.specs.declared.birth.Birth.{Birth}
 use Rattle.home_table.specs.declared.birth.Life.{Life}
 use Rattle.home_table.specs.declared.birth.Life.TheVariants.{Living, Ended}
-use Rattle.home_table.specs.Home.{Table}
-use Rattle.migrate_freeze.specs.declared.process.Process.{Process}
 use Rattle.migrate_freeze.specs.declared.freeze.Freeze.{Freeze}
-use Rattle.migrate_freeze.specs.declared.frozen.MoveStep.{MoveStep}
 use Rattle.migrate_freeze.specs.declared.frozen.MoveStep.TheVariants as steps
 use Rattle.pseudo_device.specs.declared.ask.Ask.{Ask}
 use Rattle.pseudo_device.specs.Device.{Asks}
