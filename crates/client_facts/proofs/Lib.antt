@@ -1,0 +1,16 @@
+pub mod CalmLaws
+pub mod CostLaws
+pub mod DataLaws
+pub mod StreamLaws
+pub mod RowLaws
+pub mod TurnLaws
+pub mod SteadyLaws
+pub mod AnswerLaws
+pub mod IssueLaws
+pub mod StepLaws
+pub mod BootLaws
+pub mod PlaceLaws
+pub mod ComingLaws
+pub mod ArrivalLaws
+pub mod QuietLaws
+pub mod CacheLaws
