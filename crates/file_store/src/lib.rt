@@ -12,6 +12,3 @@ pub use laws::{
     written_file_is_held,
 };
 pub use store::Store;
-
-#[cfg(test)]
-mod tests;

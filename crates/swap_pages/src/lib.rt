@@ -5,6 +5,3 @@
 mod swap;
 
 pub use swap::{PageKey, Swap};
-
-#[cfg(test)]
-mod tests;

@@ -15,6 +15,3 @@ pub use laws::{callbacks_go_once, grants_come_alone, grants_say_whether_cached, 
 pub use opens::Open;
 pub use versioned::{Asking, Versioned};
 pub use versions::Versions;
-
-#[cfg(test)]
-mod tests;

@@ -1,5 +1,6 @@
-use crate::store::Store;
+use file_store::Store;
 use sprite_ids::{BlockNo, FileId, Kernel, NoMemory};
+use std::alloc::Global;
 use std::test::Fail;
 
 // A call on the store. Files go by their numbers at one server.
@@ -17,7 +18,7 @@ enum Act {
     Size(u32, Option<u32>),
 }
 
-const ACTS: [Act; 24] = [
+static ACTS: [Act; 24] = [
     Act::Size(7, None),
     Act::Make(7),
     Act::Make(8),
@@ -49,13 +50,17 @@ const ACTS: [Act; 24] = [
 #[test]
 fn calls_answer_as_worked_out(rt: HostRuntime) -> Result<(), Fail> {
     let server = Kernel::new(2).ok_or("kernel 2")?;
-    let mut store = Store::new(rt.alloc(), 262_144);
-    assert_eq!(rt; first_wrong(&mut store, server, &ACTS)?, None);
+    assert_eq!(rt; first_wrong(rt.alloc(), server, &ACTS)?, None);
     Ok(())
 }
 
 // The place of the first call that shows something else.
-fn first_wrong(store: &mut Store, server: Kernel, acts: &[Act]) -> Result<Option<usize>, NoMemory> {
+fn first_wrong(alloc: Global, server: Kernel, acts: &[Act]) -> Result<Option<usize>, NoMemory> {
+    let mut store = Store::new(alloc, 262_144);
+    judged(&mut store, server, acts)
+}
+
+fn judged(store: &mut Store, server: Kernel, acts: &[Act]) -> Result<Option<usize>, NoMemory> {
     for place in 0..acts.len() {
         if !shows(store, server, &acts[place])? {
             return Ok(Some(place));

@@ -1,7 +1,7 @@
-use crate::swap::Swap;
 use sprite_ids::{Kernel, NoMemory, Pid};
 use std::alloc::Global;
 use std::test::Fail;
+use swap_pages::Swap;
 
 // A call: the birth of the process at kernel 2, the page, and the one byte that is put, or that is found.
 #[derive(Clone, Copy)]
@@ -10,7 +10,7 @@ enum Act {
     Take(u8, u8, Option<u8>),
 }
 
-const ACTS: [Act; 11] = [
+static ACTS: [Act; 11] = [
     Act::Put(1, 0, 1),
     Act::Put(1, 7, 2),
     Act::Put(2, 0, 3),
@@ -26,26 +26,19 @@ const ACTS: [Act; 11] = [
 
 #[test]
 fn a_page_is_taken_once(rt: HostRuntime) -> Result<(), Fail> {
-    let alloc = rt.alloc();
-    let home = Kernel::new(2).ok_or("kernel 2")?;
-    let pids = [
-        Pid::new(home, 1).ok_or("process 2001")?,
-        Pid::new(home, 2).ok_or("process 2002")?,
-    ];
-    let mut swap = Swap::new(alloc);
-    assert_eq!(rt; first_wrong(alloc, &mut swap, &pids, &ACTS)?, None);
+    assert_eq!(rt; first_wrong(rt.alloc(), &ACTS)?, None);
     Ok(())
 }
 
 // The place of the first call that shows something else.
-fn first_wrong(
-    alloc: Global,
-    swap: &mut Swap,
-    pids: &[Pid],
-    acts: &[Act],
-) -> Result<Option<usize>, NoMemory> {
+fn first_wrong(alloc: Global, acts: &[Act]) -> Result<Option<usize>, NoMemory> {
+    let mut swap = Swap::new(alloc);
+    judged(alloc, &mut swap, acts)
+}
+
+fn judged(alloc: Global, swap: &mut Swap, acts: &[Act]) -> Result<Option<usize>, NoMemory> {
     for place in 0..acts.len() {
-        if !shows(alloc, swap, pids, acts[place])? {
+        if !shows(alloc, swap, acts[place])? {
             return Ok(Some(place));
         }
     }
@@ -53,25 +46,17 @@ fn first_wrong(
 }
 
 // Makes the call; false where it shows something else.
-fn shows(alloc: Global, swap: &mut Swap, pids: &[Pid], act: Act) -> Result<bool, NoMemory> {
+fn shows(alloc: Global, swap: &mut Swap, act: Act) -> Result<bool, NoMemory> {
     match act {
-        Act::Put(birth, page, byte) => match pid_of(pids, birth) {
-            Some(pid) => put(alloc, swap, pid, page, byte),
-            None => Ok(false),
-        },
-        Act::Take(birth, page, wanted) => match pid_of(pids, birth) {
-            Some(pid) => Ok(take(swap, pid, page) == wanted),
-            None => Ok(false),
-        },
+        Act::Put(birth, page, byte) => put(alloc, swap, process(birth)?, page, byte),
+        Act::Take(birth, page, wanted) => Ok(take(swap, process(birth)?, page) == wanted),
     }
 }
 
 // The process of that birth.
-fn pid_of(pids: &[Pid], birth: u8) -> Option<Pid> {
-    if birth == 0 || usize::from(birth) > pids.len() {
-        return None;
-    }
-    Some(pids[usize::from(birth) - 1])
+fn process(birth: u8) -> Result<Pid, NoMemory> {
+    let home = Kernel::new(2).ok_or(NoMemory)?;
+    Pid::new(home, u32::from(birth)).ok_or(NoMemory)
 }
 
 fn put(alloc: Global, swap: &mut Swap, pid: Pid, page: u8, byte: u8) -> Result<bool, NoMemory> {

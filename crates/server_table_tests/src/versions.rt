@@ -1,8 +1,7 @@
-use crate::action::{Action, Decision};
-use crate::versions::Versions;
 use sprite_ids::{CallKind, FileId, Grant, Kernel, Mode, StreamNo};
 use std::alloc::Global;
 use std::test::Fail;
+use version_table::{Action, Decision, Versions};
 
 // What is done to one file. Kernels and streams go by their numbers; a stream is named by the kernel that opened it first.
 #[derive(Clone, Copy)]
@@ -17,6 +16,12 @@ enum Act {
     Settle(u8),
     Close(u8, (u8, u32)),
     Current(u8),
+    IsOpen,
+    // The stream, and the kernel whose grants are counted.
+    Count((u8, u32), u8),
+    ModeOf((u8, u32)),
+    // The file is forgotten, and looked for.
+    Forget,
 }
 
 // What is then seen.
@@ -27,9 +32,12 @@ enum Seen {
     // One callback: to whom, its stamp and its kind; and how many there are.
     Calls(u8, u32, CallKind, usize),
     Last(bool),
+    Open(bool),
+    Grants(u32),
+    Mode(Option<Mode>),
 }
 
-const STEPS: [(Act, Seen); 20] = [
+static STEPS: [(Act, Seen); 24] = [
     // The first writer raises the version, and holds dirty blocks from now on.
     (
         Act::Open(1, (1, 1), Mode::Write, false),
@@ -82,7 +90,17 @@ const STEPS: [(Act, Seen); 20] = [
         Act::Open(2, (2, 2), Mode::Read, false),
         Seen::Grant(12, 7, 7, true, false),
     ),
+    (Act::IsOpen, Seen::Open(true)),
+    (Act::Count((2, 2), 2), Seen::Grants(1)),
+    (Act::ModeOf((2, 2)), Seen::Mode(Some(Mode::Read))),
+    (Act::Forget, Seen::Open(false)),
 ];
+
+// Where clients have no cache.
+static WITHOUT: [(Act, Seen); 1] = [(
+    Act::Open(1, (1, 1), Mode::Both, false),
+    Seen::Grant(1, 1, 2, false, false),
+)];
 
 fn kernel(number: u8) -> Result<Kernel, Fail> {
     Ok(Kernel::new(number).ok_or("a kernel")?)
@@ -190,6 +208,15 @@ fn close(versions: &mut Versions, number: u8, name: (u8, u32)) -> Result<Seen, F
     Ok(Seen::Last(versions.close(file, kernel(number)?, stream(name)?, 1)))
 }
 
+fn count(versions: &Versions, name: (u8, u32), number: u8) -> Result<Seen, Fail> {
+    Ok(Seen::Grants(versions.count(the_file()?, stream(name)?, kernel(number)?)))
+}
+
+fn forget(versions: &mut Versions) -> Result<Seen, Fail> {
+    versions.forget(the_file()?);
+    Ok(Seen::Open(versions.is_open(the_file()?)))
+}
+
 // Does one thing.
 fn perform(versions: &mut Versions, act: Act) -> Result<Seen, Fail> {
     match act {
@@ -199,38 +226,36 @@ fn perform(versions: &mut Versions, act: Act) -> Result<Seen, Fail> {
         Act::Settle(number) => settle(versions, number),
         Act::Close(number, name) => close(versions, number, name),
         Act::Current(number) => Ok(granted(&versions.current(the_file()?, kernel(number)?))),
+        Act::IsOpen => Ok(Seen::Open(versions.is_open(the_file()?))),
+        Act::Count(name, number) => count(versions, name, number),
+        Act::ModeOf(name) => Ok(Seen::Mode(versions.mode(the_file()?, stream(name)?))),
+        Act::Forget => forget(versions),
     }
 }
 
 // The place of the first act after which something else is seen.
-fn first_wrong(versions: &mut Versions, steps: &[(Act, Seen)]) -> Result<Option<usize>, Fail> {
-    let mut wrong = None;
+fn first_wrong(alloc: Global, cached: bool, steps: &[(Act, Seen)]) -> Result<Option<usize>, Fail> {
+    let mut versions = Versions::new(alloc, cached);
+    judged(&mut versions, steps)
+}
+
+fn judged(versions: &mut Versions, steps: &[(Act, Seen)]) -> Result<Option<usize>, Fail> {
     for (at, step) in steps.iter().enumerate() {
-        if wrong.is_none() && perform(versions, step.0)? != step.1 {
-            wrong = Some(at);
+        if perform(versions, step.0)? != step.1 {
+            return Ok(Some(at));
         }
     }
-    Ok(wrong)
+    Ok(None)
 }
 
 #[test]
 fn opens_and_moves_are_decided(rt: HostRuntime) -> Result<(), Fail> {
-    let alloc = rt.alloc();
-    let mut versions = Versions::new(alloc, true);
-    assert_eq!(rt; first_wrong(&mut versions, &STEPS)?, None);
-    assert!(rt; versions.is_open(the_file()?));
-    assert_eq!(rt; versions.count(the_file()?, stream((2, 2))?, kernel(2)?), 1);
-    assert!(rt; versions.mode(the_file()?, stream((2, 2))?) == Some(Mode::Read));
-    versions.forget(the_file()?);
-    assert!(rt; !versions.is_open(the_file()?));
+    assert_eq!(rt; first_wrong(rt.alloc(), true, &STEPS)?, None);
     Ok(())
 }
 
 #[test]
 fn clients_without_a_cache_are_granted_off(rt: HostRuntime) -> Result<(), Fail> {
-    let alloc = rt.alloc();
-    let mut versions = Versions::new(alloc, false);
-    let seen = perform(&mut versions, Act::Open(1, (1, 1), Mode::Both, false))?;
-    assert!(rt; seen == Seen::Grant(1, 1, 2, false, false));
+    assert_eq!(rt; first_wrong(rt.alloc(), false, &WITHOUT)?, None);
     Ok(())
 }
