@@ -1,0 +1,184 @@
+use crate::bodies::Says::{Done, Page, Refused, Value};
+use crate::bodies::Wants;
+use crate::bodies::Wants::Migrates;
+use crate::script::Row;
+use crate::script::Step::{Answer, Asked, Issue};
+use crate::told::Told::{Answers, Calls, Fails, Freezes, Gives, Thaws};
+use crate::told::{Asked as Ask, Given};
+use crate::words::Does::{Home, Migrate};
+use crate::words::Word::{BadStep, Exit, Fork, Getppid, Host, Kill, Print, Tick, Wait};
+use sprite_ids::Errno;
+
+/// Forks: of a process at its home; of a foreign one, whose page is fetched first, and whose child is born at its home and begins
+/// here; and one that its home refuses.
+pub(crate) const FORKS: [Row; 11] = [
+    (
+        Issue(2001, Home(Fork)),
+        [3, 3, 0, 0],
+        &[Gives(2001, 2003, 0)],
+    ),
+    (
+        Issue(2003, Home(Getppid)),
+        [3, 3, 0, 0],
+        &[Gives(2003, 2001, 0)],
+    ),
+    (
+        Asked(1, Migrates(3001, 4, false)),
+        [1, 3, 0, 1],
+        &[
+            Calls(Ask::Place(3001, 2), 3, false),
+            Answers(1, Given::Done),
+        ],
+    ),
+    (
+        Answer(1, 3, Done),
+        [2, 4, 0, 0],
+        &[Thaws(3001), Gives(3001, 0, 0)],
+    ),
+    (
+        Issue(3001, Home(Fork)),
+        [2, 4, 0, 1],
+        &[Calls(Ask::PageIn(3001, 0), 1, false)],
+    ),
+    (
+        Answer(2, 1, Page),
+        [1, 4, 0, 1],
+        &[Calls(Ask::Home(3001, 5, Fork), 3, true)],
+    ),
+    (
+        Answer(3, 3, Value(3002, 0)),
+        [1, 5, 0, 0],
+        &[Gives(3001, 3002, 0)],
+    ),
+    (
+        Issue(3002, Home(Getppid)),
+        [2, 5, 0, 1],
+        &[Calls(Ask::Home(3002, 1, Getppid), 3, true)],
+    ),
+    (
+        Answer(4, 3, Value(3001, 0)),
+        [1, 5, 0, 0],
+        &[Gives(3002, 3001, 0)],
+    ),
+    (
+        Issue(3001, Home(Fork)),
+        [2, 5, 0, 1],
+        &[Calls(Ask::Home(3001, 6, Fork), 3, true)],
+    ),
+    (
+        Answer(5, 3, Refused(Errno::TooMany)),
+        [1, 5, 0, 0],
+        &[Fails(3001, Errno::TooMany)],
+    ),
+];
+
+/// Waits: of a process that has no child, before its child's end and behind it.
+pub(crate) const WAITS: [Row; 8] = [
+    (
+        Issue(2001, Home(Wait)),
+        [3, 2, 0, 0],
+        &[Fails(2001, Errno::NoChild)],
+    ),
+    (
+        Issue(2001, Home(Fork)),
+        [3, 3, 0, 0],
+        &[Gives(2001, 2003, 0)],
+    ),
+    (Issue(2001, Home(Wait)), [1, 3, 0, 0], &[]),
+    (
+        Issue(2003, Home(Exit(7))),
+        [4, 2, 0, 0],
+        &[Gives(2001, 2003, 7)],
+    ),
+    (
+        Issue(2001, Home(Fork)),
+        [3, 3, 0, 0],
+        &[Gives(2001, 2004, 0)],
+    ),
+    (Issue(2004, Home(BadStep)), [2, 2, 0, 0], &[]),
+    (
+        Issue(2001, Home(Wait)),
+        [3, 2, 0, 0],
+        &[Gives(2001, 2004, 256)],
+    ),
+    (
+        Issue(2001, Home(Wait)),
+        [3, 2, 0, 0],
+        &[Fails(2001, Errno::NoChild)],
+    ),
+];
+
+/// Calls that are done at the home, of a process that is there and of one that has gone to another kernel, and of that one's child.
+pub(crate) const HOMES: [Row; 16] = [
+    (
+        Issue(2001, Home(Print(3))),
+        [3, 2, 0, 0],
+        &[Gives(2001, 0, 0)],
+    ),
+    (
+        Issue(2001, Home(Host(1))),
+        [3, 2, 0, 0],
+        &[Gives(2001, 1, 0)],
+    ),
+    (
+        Issue(2001, Home(Host(0))),
+        [3, 2, 0, 0],
+        &[Fails(2001, Errno::Invalid)],
+    ),
+    (Issue(2001, Home(Tick)), [3, 2, 0, 0], &[Gives(2001, 1, 0)]),
+    (
+        Issue(2002, Migrate(b"b")),
+        [4, 1, 1, 1],
+        &[Calls(Ask::PageOut(2002, 4096), 1, false), Freezes(2002)],
+    ),
+    (
+        Answer(1, 1, Done),
+        [1, 1, 0, 1],
+        &[Calls(Ask::Transfer(2002, 1, 0, true), 3, true)],
+    ),
+    (Answer(2, 3, Done), [0, 1, 0, 0], &[]),
+    (
+        Asked(1, Wants::Place(2002, 3)),
+        [0, 1, 0, 0],
+        &[Answers(1, Given::Done)],
+    ),
+    (
+        Asked(2, Wants::Home(2002, 2, Tick)),
+        [1, 1, 0, 0],
+        &[Answers(2, Given::Value(2, 0))],
+    ),
+    (
+        Asked(3, Wants::Home(2002, 3, Host(0))),
+        [1, 1, 0, 0],
+        &[Answers(3, Given::Refused(Errno::Invalid))],
+    ),
+    (
+        Asked(4, Wants::Home(2002, 4, Fork)),
+        [1, 1, 0, 0],
+        &[Answers(4, Given::Value(2003, 0))],
+    ),
+    (Asked(5, Wants::Home(2002, 5, Wait)), [0, 1, 0, 0], &[]),
+    (
+        Asked(6, Wants::Home(2003, 1, Exit(9))),
+        [2, 1, 0, 0],
+        &[
+            Answers(5, Given::Value(2003, 9)),
+            Answers(6, Given::Value(0, 0)),
+        ],
+    ),
+    (
+        Asked(7, Wants::Home(2002, 6, Print(4))),
+        [1, 1, 0, 0],
+        &[Answers(7, Given::Value(0, 0))],
+    ),
+    (
+        Asked(8, Wants::Home(2002, 7, BadStep)),
+        [1, 1, 0, 0],
+        &[Answers(8, Given::Value(0, 0))],
+    ),
+    (
+        Issue(2001, Home(Kill(2002))),
+        [3, 1, 0, 0],
+        &[Fails(2001, Errno::NoProcess)],
+    ),
+];

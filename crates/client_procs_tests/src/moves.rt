@@ -1,0 +1,321 @@
+use crate::bodies::Says::{Done, Here, Moved, Opened, Page, Value};
+use crate::bodies::Wants::{Brings, Comes, Launches, Migrates};
+use crate::script::Row;
+use crate::script::Step::{Answer, Asked, Issue};
+use crate::told::Told::{Answers, Calls, Fails, Freezes, Gives, Thaws};
+use crate::told::{Asked as Ask, Given};
+use crate::words::Does::{Close, Exec, Getpid, Home, Make, Migrate, Open, Read, Rexec};
+use crate::words::Word::{Fork, Tick};
+use sprite_ids::Errno;
+
+/// Moves that are refused, and those to the kernel where the process is.
+pub(crate) const STAYS: [Row; 15] = [
+    (
+        Issue(2001, Migrate(b"x")),
+        [3, 2, 0, 0],
+        &[Fails(2001, Errno::BadHost)],
+    ),
+    (
+        Issue(2001, Migrate(b"s")),
+        [3, 2, 0, 0],
+        &[Fails(2001, Errno::BadHost)],
+    ),
+    (
+        Issue(2001, Migrate(b"a")),
+        [3, 2, 0, 0],
+        &[Gives(2001, 0, 0)],
+    ),
+    (
+        Issue(2001, Rexec(b"x", b"y")),
+        [3, 2, 0, 0],
+        &[Fails(2001, Errno::NoEntry)],
+    ),
+    (
+        Issue(2001, Rexec(b"p", b"s")),
+        [3, 2, 0, 0],
+        &[Fails(2001, Errno::BadHost)],
+    ),
+    (
+        Issue(2001, Rexec(b"p", b"a")),
+        [3, 2, 0, 0],
+        &[Gives(2001, 0, 0)],
+    ),
+    (
+        Issue(2001, Exec(b"x")),
+        [3, 2, 0, 0],
+        &[Fails(2001, Errno::NoEntry)],
+    ),
+    (Issue(2001, Exec(b"p")), [3, 2, 0, 0], &[Gives(2001, 0, 0)]),
+    (
+        Issue(2001, Make(b"/d")),
+        [2, 2, 0, 0],
+        &[Calls(Ask::Prefix, 1, true)],
+    ),
+    (
+        Answer(1, 1, Here(b"/")),
+        [2, 2, 0, 0],
+        &[Calls(Ask::Echo, 1, true)],
+    ),
+    (
+        Answer(2, 1, Done),
+        [1, 2, 0, 0],
+        &[Calls(Ask::Make(0), 1, true)],
+    ),
+    (
+        Answer(3, 1, Value(0, 0)),
+        [1, 2, 0, 0],
+        &[Gives(2001, 0, 0)],
+    ),
+    (
+        Issue(2001, Migrate(b"b")),
+        [3, 2, 0, 0],
+        &[Fails(2001, Errno::Busy)],
+    ),
+    (
+        Issue(2001, Rexec(b"p", b"b")),
+        [3, 2, 0, 0],
+        &[Fails(2001, Errno::Busy)],
+    ),
+    (
+        Issue(2001, Migrate(b"a")),
+        [3, 2, 0, 0],
+        &[Fails(2001, Errno::Busy)],
+    ),
+];
+
+/// Two processes move, each with a stream: the page of the first is put before its stream has moved, and the second one's behind
+/// that. The second one's stream stays with its child too, whose reading is then done at the server, and which starts its next
+/// program elsewhere, with no page.
+pub(crate) const MOVES: [Row; 19] = [
+    (
+        Issue(2001, Open(b"/f")),
+        [2, 2, 0, 0],
+        &[Calls(Ask::Prefix, 1, true)],
+    ),
+    (
+        Answer(1, 1, Here(b"/")),
+        [2, 2, 0, 0],
+        &[Calls(Ask::Echo, 1, true)],
+    ),
+    (
+        Answer(2, 1, Done),
+        [1, 2, 0, 0],
+        &[Calls(Ask::Opening(0), 1, true)],
+    ),
+    (Answer(3, 1, Opened(1)), [2, 2, 0, 0], &[Gives(2001, 0, 0)]),
+    (
+        Issue(2001, Migrate(b"b")),
+        [5, 1, 1, 1],
+        &[
+            Calls(Ask::PageOut(2001, 4096), 1, false),
+            Calls(Ask::Move(false, None, 1), 1, true),
+            Freezes(2001),
+        ],
+    ),
+    (Answer(4, 1, Done), [0, 1, 1, 0], &[]),
+    (
+        Answer(5, 1, Moved(Some(2))),
+        [1, 1, 0, 1],
+        &[Calls(Ask::Transfer(2001, 2, 1, true), 3, true)],
+    ),
+    (Answer(6, 3, Done), [0, 1, 0, 0], &[]),
+    (
+        Issue(2002, Open(b"/f")),
+        [2, 1, 0, 0],
+        &[Calls(Ask::Echo, 1, true)],
+    ),
+    (
+        Answer(7, 1, Done),
+        [1, 1, 0, 0],
+        &[Calls(Ask::Opening(0), 1, true)],
+    ),
+    (Answer(8, 1, Opened(3)), [2, 1, 0, 0], &[Gives(2002, 0, 0)]),
+    (
+        Issue(2002, Home(Fork)),
+        [3, 2, 0, 0],
+        &[Gives(2002, 2003, 0)],
+    ),
+    (
+        Issue(2002, Migrate(b"b")),
+        [5, 1, 1, 1],
+        &[
+            Calls(Ask::PageOut(2002, 4096), 1, false),
+            Calls(Ask::Move(true, Some(0), 0), 1, true),
+            Freezes(2002),
+        ],
+    ),
+    (Answer(10, 1, Moved(Some(4))), [0, 1, 1, 1], &[]),
+    (
+        Answer(9, 1, Done),
+        [1, 1, 0, 1],
+        &[Calls(Ask::Transfer(2002, 3, 1, true), 3, true)],
+    ),
+    (
+        Issue(2003, Read(0, 10)),
+        [2, 1, 0, 1],
+        &[Calls(Ask::Op, 1, true)],
+    ),
+    (
+        Answer(12, 1, Value(10, 0)),
+        [1, 1, 0, 1],
+        &[Gives(2003, 10, 0)],
+    ),
+    (
+        Issue(2003, Rexec(b"p", b"b")),
+        [4, 0, 1, 1],
+        &[Calls(Ask::Move(false, None, 1), 1, true), Freezes(2003)],
+    ),
+    (
+        Answer(13, 1, Moved(Some(5))),
+        [1, 0, 0, 2],
+        &[Calls(Ask::Launch(2003, 2, 1), 3, true)],
+    ),
+];
+
+/// Processes come: one with a stream, which it closes; one in its own move, whose call names a page that is away; one that starts
+/// its next program; and one that comes home.
+pub(crate) const ARRIVALS: [Row; 13] = [
+    (
+        Asked(1, Brings(3001, 4)),
+        [2, 2, 0, 1],
+        &[
+            Calls(Ask::Place(3001, 2), 3, false),
+            Answers(1, Given::Done),
+        ],
+    ),
+    (Answer(1, 3, Done), [1, 3, 0, 0], &[Thaws(3001)]),
+    (
+        Issue(3001, Close(0)),
+        [3, 3, 0, 0],
+        &[Calls(Ask::Close(1), 1, true)],
+    ),
+    (Answer(2, 1, Done), [1, 3, 0, 0], &[Gives(3001, 0, 0)]),
+    (
+        Asked(2, Migrates(3002, 7, true)),
+        [1, 3, 0, 1],
+        &[
+            Calls(Ask::Place(3002, 2), 3, false),
+            Answers(2, Given::Done),
+        ],
+    ),
+    (
+        Answer(3, 3, Done),
+        [2, 4, 0, 1],
+        &[Calls(Ask::PageIn(3002, 0), 1, false), Thaws(3002)],
+    ),
+    (Answer(4, 1, Page), [1, 4, 0, 0], &[Gives(3002, 0, 0)]),
+    (
+        Asked(3, Launches(3003, 2, 1)),
+        [1, 4, 0, 1],
+        &[
+            Calls(Ask::Place(3003, 2), 3, false),
+            Answers(3, Given::Done),
+        ],
+    ),
+    (
+        Answer(5, 3, Done),
+        [2, 5, 0, 0],
+        &[Thaws(3003), Gives(3003, 0, 0)],
+    ),
+    (
+        Issue(2001, Rexec(b"p", b"c")),
+        [4, 4, 0, 1],
+        &[Calls(Ask::Launch(2001, 1, 1), 4, true), Freezes(2001)],
+    ),
+    (Answer(6, 4, Done), [0, 4, 0, 0], &[]),
+    (
+        Asked(4, Migrates(2001, 2, false)),
+        [2, 5, 0, 0],
+        &[Thaws(2001), Gives(2001, 0, 0), Answers(4, Given::Done)],
+    ),
+    (Issue(2001, Getpid), [3, 5, 0, 0], &[Gives(2001, 2001, 0)]),
+];
+
+/// At the second call the foreign processes leave: one that is between two calls at once, and one that is inside a call behind it;
+/// one that isn't thawed stays.
+pub(crate) const EVICTED: [Row; 11] = [
+    (
+        Asked(1, Comes(3001, 4)),
+        [1, 2, 0, 1],
+        &[
+            Calls(Ask::Place(3001, 2), 3, false),
+            Answers(1, Given::Done),
+        ],
+    ),
+    (Answer(1, 3, Done), [1, 3, 0, 0], &[Thaws(3001)]),
+    (
+        Asked(2, Comes(3002, 1)),
+        [1, 3, 0, 1],
+        &[
+            Calls(Ask::Place(3002, 2), 3, false),
+            Answers(2, Given::Done),
+        ],
+    ),
+    (Answer(2, 3, Done), [1, 4, 0, 0], &[Thaws(3002)]),
+    (
+        Issue(3002, Home(Tick)),
+        [2, 4, 0, 1],
+        &[Calls(Ask::Home(3002, 2, Tick), 3, true)],
+    ),
+    (
+        Asked(3, Comes(3003, 1)),
+        [1, 4, 0, 2],
+        &[
+            Calls(Ask::Place(3003, 2), 3, false),
+            Answers(3, Given::Done),
+        ],
+    ),
+    (
+        Issue(2001, Home(Tick)),
+        [5, 3, 0, 3],
+        &[
+            Calls(Ask::Transfer(3001, 4, 0, false), 3, false),
+            Freezes(3001),
+            Gives(2001, 1, 0),
+        ],
+    ),
+    (
+        Answer(3, 3, Value(1, 0)),
+        [3, 2, 0, 3],
+        &[
+            Calls(Ask::Transfer(3002, 2, 0, false), 3, false),
+            Gives(3002, 1, 0),
+            Freezes(3002),
+        ],
+    ),
+    (Answer(4, 3, Done), [1, 3, 0, 2], &[Thaws(3003)]),
+    (Answer(6, 3, Done), [0, 3, 0, 1], &[]),
+    (Answer(5, 3, Done), [0, 3, 0, 0], &[]),
+];
+
+/// At the first call a process is inside its own move and has a page to wait for: it leaves when that call has returned.
+pub(crate) const TURNED: [Row; 5] = [
+    (
+        Asked(1, Migrates(3001, 7, true)),
+        [1, 2, 0, 1],
+        &[
+            Calls(Ask::Place(3001, 2), 3, false),
+            Answers(1, Given::Done),
+        ],
+    ),
+    (
+        Answer(1, 3, Done),
+        [2, 3, 0, 1],
+        &[Calls(Ask::PageIn(3001, 0), 1, false), Thaws(3001)],
+    ),
+    (Issue(2001, Getpid), [3, 3, 0, 1], &[Gives(2001, 2001, 0)]),
+    (
+        Answer(2, 1, Page),
+        [3, 2, 1, 1],
+        &[
+            Calls(Ask::PageOut(3001, 4096), 1, false),
+            Gives(3001, 0, 0),
+            Freezes(3001),
+        ],
+    ),
+    (
+        Answer(3, 1, Done),
+        [1, 2, 0, 1],
+        &[Calls(Ask::Transfer(3001, 7, 0, false), 3, false)],
+    ),
+];

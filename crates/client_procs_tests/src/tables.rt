@@ -1,0 +1,44 @@
+use crate::births::{FORKS, HOMES, WAITS};
+use crate::devices::{ASKED, ASKS, FOREIGN, MASTERS};
+use crate::kills::{CHASED, CROSSED, EARLY, KILLS, PAGES};
+use crate::moves::{ARRIVALS, EVICTED, MOVES, STAYS, TURNED};
+use crate::script::{Row, first_other};
+use sprite_ids::NoMemory;
+use std::alloc::Global;
+
+// All scripts, each for a kernel of its own, with the number of the call at which foreign processes are to leave it.
+const SCRIPTS: [(u32, &[Row]); 17] = [
+    (0, &FORKS),
+    (0, &WAITS),
+    (0, &HOMES),
+    (0, &KILLS),
+    (0, &CROSSED),
+    (0, &EARLY),
+    (0, &CHASED),
+    (0, &PAGES),
+    (0, &STAYS),
+    (0, &MOVES),
+    (0, &ARRIVALS),
+    (2, &EVICTED),
+    (1, &TURNED),
+    (0, &ASKED),
+    (0, &MASTERS),
+    (0, &ASKS),
+    (3, &FOREIGN),
+];
+
+// The place of the first row that says something else, behind its script's.
+fn first_place(alloc: Global) -> Result<Option<(usize, usize)>, NoMemory> {
+    for (place, script) in SCRIPTS.iter().enumerate() {
+        if let Some(row) = first_other(alloc, script.0, script.1)? {
+            return Ok(Some((place, row)));
+        }
+    }
+    Ok(None)
+}
+
+#[test]
+fn steps_say_what_the_scripts_say(rt: HostRuntime) -> Result<(), NoMemory> {
+    assert_eq!(rt; first_place(rt.alloc())?, None);
+    Ok(())
+}
