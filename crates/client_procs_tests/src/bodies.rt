@@ -159,18 +159,18 @@ fn transfer(
 }
 
 // The stream of the file that a process brings.
-fn stream(home: Kernel) -> Result<CarriedStream, NoMemory> {
-    Ok(CarriedStream {
+fn stream(file: &FileId, grant: Grant, home: Kernel) -> CarriedStream {
+    CarriedStream {
         stream: StreamNo {
             kernel: home,
             number: 1,
         },
-        object: Target::File(file()?),
+        object: Target::File(*file),
         mode: CarriedMode::Both,
         offset: Some(4),
-        grant: Some(grant(1)?),
+        grant: Some(grant),
         grants: 1,
-    })
+    }
 }
 
 fn fds(alloc: Global, home: Kernel) -> Result<Items<(Descriptor, StreamNo)>, NoMemory> {
@@ -185,8 +185,10 @@ fn fds(alloc: Global, home: Kernel) -> Result<Items<(Descriptor, StreamNo)>, NoM
 }
 
 fn streams(alloc: Global, home: Kernel) -> Result<Items<CarriedStream>, NoMemory> {
+    let file = file()?;
+    let grant = grant(1)?;
     let mut streams = Items::new(alloc);
-    streams.push(stream(home)?)?;
+    streams.append(&[stream(&file, grant, home)])?;
     Ok(streams)
 }
 
