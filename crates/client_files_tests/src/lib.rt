@@ -17,6 +17,8 @@ mod bodies;
 #[cfg(test)]
 mod calls;
 #[cfg(test)]
+mod data;
+#[cfg(test)]
 mod script;
 #[cfg(test)]
 mod tables;

@@ -5,6 +5,7 @@ use crate::calls::Does::{
     Chdir, Close, Dup, List, Mkdir, Open, Read, Rename, Rmdir, Seek, Size, Stat, Sync, Unlink,
     Write,
 };
+use crate::data::{APPENDS, HOLDERS, LIMITS, LONG, SYNCS};
 use crate::script::Inside::{Arrives, Ends, Fills, Makes, Moves};
 use crate::script::Step::{Answer, Due, GiveUp, Inside, Issue, Stop};
 use crate::script::{Row, first_other};
@@ -690,16 +691,30 @@ const SHARED: [Row; 16] = [
     (Inside(1, Moves(77)), [0, 0, 0, 0, 0, 0], Nothing),
 ];
 
-// All scripts, each for a kernel of its own.
-const SCRIPTS: [&[Row]; 11] = [
-    &OPENS, &UNREACHED, &DOMAINS, &NAMES, &REFUSALS, &FULL, &DEVICES, &MAKES, &CLOSES, &MOVES,
-    &SHARED,
+// All scripts, each for a kernel of its own, with the version of its cluster.
+static SCRIPTS: [(u8, &[Row]); 16] = [
+    (1, &OPENS),
+    (1, &UNREACHED),
+    (1, &DOMAINS),
+    (1, &NAMES),
+    (1, &REFUSALS),
+    (1, &FULL),
+    (1, &DEVICES),
+    (1, &MAKES),
+    (1, &CLOSES),
+    (1, &MOVES),
+    (1, &SHARED),
+    (1, &APPENDS),
+    (1, &SYNCS),
+    (1, &HOLDERS),
+    (1, &LIMITS),
+    (2, &LONG),
 ];
 
 // The place of the first row that says something else, behind its script's.
 fn first_place(alloc: Global) -> Result<Option<(usize, usize)>, NoMemory> {
     for (place, script) in SCRIPTS.iter().enumerate() {
-        if let Some(row) = first_other(alloc, script)? {
+        if let Some(row) = first_other(alloc, script.0, script.1)? {
             return Ok(Some((place, row)));
         }
     }

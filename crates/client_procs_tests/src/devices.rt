@@ -340,3 +340,37 @@ pub(crate) const FOREIGN: [Row; 11] = [
         &[Answers(2, Given::Refused(Errno::NoServer))],
     ),
 ];
+
+/// The making of a device is refused, and no ask of that device is taken.
+pub(crate) const UNMADE: [Row; 6] = [
+    (
+        Issue(2001, Make(b"/d")),
+        [2, 2, 0, 0],
+        &[Calls(Ask::Prefix, 1, true)],
+    ),
+    (
+        Answer(1, 1, Here(b"/")),
+        [2, 2, 0, 0],
+        &[Calls(Ask::Echo, 1, true)],
+    ),
+    (
+        Answer(2, 1, Done),
+        [1, 2, 0, 0],
+        &[Calls(Ask::Make(0), 1, true)],
+    ),
+    (
+        Answer(3, 1, Refused(Errno::Exists)),
+        [1, 2, 0, 0],
+        &[Fails(2001, Errno::Exists)],
+    ),
+    (
+        Asked(1, Wants::Ask(3001, 1, AskKind::Read, 10)),
+        [2, 2, 0, 0],
+        &[Answers(1, Given::Refused(Errno::NoServer))],
+    ),
+    (
+        Issue(2001, Get(0, 10)),
+        [3, 2, 0, 0],
+        &[Fails(2001, Errno::BadFd)],
+    ),
+];

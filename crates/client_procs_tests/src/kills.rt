@@ -298,3 +298,39 @@ pub(crate) const PAGES: [Row; 5] = [
     ),
     (Answer(2, 1, Page), [0, 1, 0, 0], &[]),
 ];
+
+/// The kernel that is told of the kill knows the process no more, and it comes home next, where it dies.
+pub(crate) const CAUGHT: [Row; 8] = [
+    (
+        Issue(2001, Migrate(b"b")),
+        [4, 1, 1, 1],
+        &[Calls(Ask::PageOut(2001, 4096), 1, false), Freezes(2001)],
+    ),
+    (
+        Answer(1, 1, Done),
+        [1, 1, 0, 1],
+        &[Calls(Ask::Transfer(2001, 1, 0, true), 3, true)],
+    ),
+    (Answer(2, 3, Done), [0, 1, 0, 0], &[]),
+    (
+        Asked(1, Place(2001, 3)),
+        [0, 1, 0, 0],
+        &[Answers(1, Given::Done)],
+    ),
+    (
+        Issue(2002, Home(Kill(2001))),
+        [4, 1, 0, 1],
+        &[Calls(Ask::Killed(2001), 3, true), Gives(2002, 0, 0)],
+    ),
+    (Answer(3, 3, Gone), [0, 1, 0, 0], &[]),
+    (
+        Asked(2, Comes(2001, 5)),
+        [2, 1, 0, 0],
+        &[Thaws(2001), Dies(2001), Answers(2, Given::Done)],
+    ),
+    (
+        Issue(2002, Home(Kill(2001))),
+        [3, 1, 0, 0],
+        &[Fails(2002, Errno::NoProcess)],
+    ),
+];

@@ -1,11 +1,11 @@
 use crate::bodies::Says::{Done, Here, Moved, Opened, Page, Value};
-use crate::bodies::Wants::{Brings, Comes, Launches, Migrates};
+use crate::bodies::Wants::{Brings, Comes, Killed, Launches, Migrates};
 use crate::script::Row;
-use crate::script::Step::{Answer, Asked, Issue};
+use crate::script::Step::{Answer, Asked, Issue, Needs};
 use crate::told::Told::{Answers, Calls, Fails, Freezes, Gives, Thaws};
 use crate::told::{Asked as Ask, Given};
 use crate::words::Does::{Close, Exec, Getpid, Home, Make, Migrate, Open, Read, Rexec};
-use crate::words::Word::{Fork, Tick};
+use crate::words::Word::{Death, Fork, Tick};
 use sprite_ids::Errno;
 
 /// Moves that are refused, and those to the kernel where the process is.
@@ -318,4 +318,107 @@ pub(crate) const TURNED: [Row; 5] = [
         [1, 2, 0, 1],
         &[Calls(Ask::Transfer(3001, 7, 0, false), 3, false)],
     ),
+];
+
+/// At the second call a process is on its way already, whose page isn't put: it doesn't leave once more, and a kill doesn't find it.
+pub(crate) const FROZEN: [Row; 9] = [
+    (
+        Asked(1, Migrates(3001, 7, false)),
+        [1, 2, 0, 1],
+        &[
+            Calls(Ask::Place(3001, 2), 3, false),
+            Answers(1, Given::Done),
+        ],
+    ),
+    (
+        Answer(1, 3, Done),
+        [2, 3, 0, 0],
+        &[Thaws(3001), Gives(3001, 0, 0)],
+    ),
+    (
+        Needs(3001),
+        [1, 3, 0, 1],
+        &[Calls(Ask::PageIn(3001, 0), 1, false)],
+    ),
+    (Answer(2, 1, Page), [0, 3, 0, 0], &[]),
+    (
+        Issue(3001, Migrate(b"c")),
+        [4, 2, 1, 1],
+        &[Calls(Ask::PageOut(3001, 4096), 1, false), Freezes(3001)],
+    ),
+    (Issue(2001, Getpid), [3, 2, 1, 1], &[Gives(2001, 2001, 0)]),
+    (
+        Asked(2, Killed(3001)),
+        [0, 2, 1, 1],
+        &[Answers(2, Given::Gone)],
+    ),
+    (
+        Answer(3, 1, Done),
+        [1, 2, 0, 1],
+        &[Calls(Ask::Transfer(3001, 8, 0, true), 4, true)],
+    ),
+    (Answer(4, 4, Done), [0, 2, 0, 0], &[]),
+];
+
+/// At the first call a process waits for a page: it leaves, with that page, when it has come.
+pub(crate) const PAGED: [Row; 7] = [
+    (
+        Asked(1, Comes(3001, 4)),
+        [1, 2, 0, 1],
+        &[
+            Calls(Ask::Place(3001, 2), 3, false),
+            Answers(1, Given::Done),
+        ],
+    ),
+    (Answer(1, 3, Done), [1, 3, 0, 0], &[Thaws(3001)]),
+    (
+        Needs(3001),
+        [1, 3, 0, 1],
+        &[Calls(Ask::PageIn(3001, 0), 1, false)],
+    ),
+    (Issue(2001, Getpid), [3, 3, 0, 1], &[Gives(2001, 2001, 0)]),
+    (
+        Answer(2, 1, Page),
+        [2, 2, 1, 1],
+        &[Calls(Ask::PageOut(3001, 4096), 1, false), Freezes(3001)],
+    ),
+    (
+        Answer(3, 1, Done),
+        [1, 2, 0, 1],
+        &[Calls(Ask::Transfer(3001, 4, 0, false), 3, false)],
+    ),
+    (Answer(4, 3, Done), [0, 2, 0, 0], &[]),
+];
+
+/// At the second call a process is inside a call, and it is killed there too: it dies behind that call, and doesn't leave.
+pub(crate) const KILLED: [Row; 7] = [
+    (
+        Asked(1, Comes(3001, 4)),
+        [1, 2, 0, 1],
+        &[
+            Calls(Ask::Place(3001, 2), 3, false),
+            Answers(1, Given::Done),
+        ],
+    ),
+    (Answer(1, 3, Done), [1, 3, 0, 0], &[Thaws(3001)]),
+    (
+        Issue(3001, Home(Tick)),
+        [2, 3, 0, 1],
+        &[Calls(Ask::Home(3001, 5, Tick), 3, true)],
+    ),
+    (Issue(2001, Getpid), [3, 3, 0, 1], &[Gives(2001, 2001, 0)]),
+    (
+        Asked(2, Killed(3001)),
+        [0, 3, 0, 1],
+        &[Answers(2, Given::Done)],
+    ),
+    (
+        Answer(2, 3, Value(1, 0)),
+        [2, 2, 0, 1],
+        &[
+            Calls(Ask::Home(3001, 6, Death), 3, false),
+            Gives(3001, 1, 0),
+        ],
+    ),
+    (Answer(3, 3, Value(0, 0)), [0, 2, 0, 0], &[]),
 ];

@@ -1,29 +1,36 @@
-use crate::births::{FORKS, HOMES, WAITS};
-use crate::devices::{ASKED, ASKS, FOREIGN, MASTERS};
-use crate::kills::{CHASED, CROSSED, EARLY, KILLS, PAGES};
-use crate::moves::{ARRIVALS, EVICTED, MOVES, STAYS, TURNED};
+use crate::births::{ABROAD, ENDS, FORKS, HOMES, WAITS};
+use crate::devices::{ASKED, ASKS, FOREIGN, MASTERS, UNMADE};
+use crate::kills::{CAUGHT, CHASED, CROSSED, EARLY, KILLS, PAGES};
+use crate::moves::{ARRIVALS, EVICTED, FROZEN, KILLED, MOVES, PAGED, STAYS, TURNED};
 use crate::script::{Row, first_other};
 use sprite_ids::NoMemory;
 use std::alloc::Global;
 
 // All scripts, each for a kernel of its own, with the number of the call at which foreign processes are to leave it.
-const SCRIPTS: [(u32, &[Row]); 17] = [
+static SCRIPTS: [(u32, &[Row]); 24] = [
     (0, &FORKS),
     (0, &WAITS),
     (0, &HOMES),
+    (0, &ABROAD),
+    (0, &ENDS),
     (0, &KILLS),
     (0, &CROSSED),
     (0, &EARLY),
     (0, &CHASED),
+    (0, &CAUGHT),
     (0, &PAGES),
     (0, &STAYS),
     (0, &MOVES),
     (0, &ARRIVALS),
     (2, &EVICTED),
     (1, &TURNED),
+    (2, &FROZEN),
+    (1, &PAGED),
+    (2, &KILLED),
     (0, &ASKED),
     (0, &MASTERS),
     (0, &ASKS),
+    (0, &UNMADE),
     (3, &FOREIGN),
 ];
 
