@@ -2,17 +2,17 @@ use crate::bodies::Says::{Again, Block, Done, Granted, Here, Opened, Value};
 use crate::bodies::Terms;
 use crate::calls::Does::{Open, Read, Seek, Size, Sync, Write};
 use crate::script::Inside::Arrives;
-use crate::script::Row;
 use crate::script::Step::{Answer, Due, Inside, Issue, Recall, Stop};
+use crate::script::{Row, first_other};
 use crate::told::Asked;
 use crate::told::Told::{Asks, Fails, Flushes, Gives, Nothing};
 use crate::world::Comes;
-use sprite_ids::Errno;
+use sprite_ids::{Errno, NoMemory};
 use stream_table::Place;
 
-/// An append waits for its block while a grant of a larger file comes, and for room while another process writes behind the end:
-/// it begins at the end that the file has when it goes on.
-pub(crate) const APPENDS: [Row; 16] = [
+// An append waits for its block while a grant of a larger file comes, and for room while another process writes behind the end:
+// it begins at the end that the file has when it goes on.
+static APPENDS: [Row; 16] = [
     (
         Issue(2, Open(b"/b", 19)),
         [1, 0, 0, 2, 1, 0],
@@ -89,9 +89,15 @@ pub(crate) const APPENDS: [Row; 16] = [
     (Issue(1, Read(0, 100)), [0, 0, 1, 1, 0, 0], Gives(20, 20)),
 ];
 
-/// A sync waits for its own write-back, and another one for that; a recall comes meanwhile, so that the server has the block
-/// before the write-back is answered. Then one waits for a write-back that was due, and finds nothing dirty behind it.
-pub(crate) const SYNCS: [Row; 15] = [
+#[test]
+fn appends_that_wait(rt: HostRuntime) -> Result<(), NoMemory> {
+    assert_eq!(rt; first_other(rt.alloc(), 1, &APPENDS)?, None);
+    Ok(())
+}
+
+// A sync waits for its own write-back, and another one for that; a recall comes meanwhile, so that the server has the block
+// before the write-back is answered. Then one waits for a write-back that was due, and finds nothing dirty behind it.
+static SYNCS: [Row; 15] = [
     (
         Inside(
             1,
@@ -154,9 +160,15 @@ pub(crate) const SYNCS: [Row; 15] = [
     (Issue(1, Sync(0)), [0, 0, 1, 1, 0, 0], Gives(0, 0)),
 ];
 
-/// A grant for the holder, whose version is the file's, leaves its own size and its dirty block; one that isn't for the holder
-/// brings the size, and so does one of another version.
-pub(crate) const HOLDERS: [Row; 17] = [
+#[test]
+fn syncs(rt: HostRuntime) -> Result<(), NoMemory> {
+    assert_eq!(rt; first_other(rt.alloc(), 1, &SYNCS)?, None);
+    Ok(())
+}
+
+// A grant for the holder, whose version is the file's, leaves its own size and its dirty block; one that isn't for the holder
+// brings the size, and so does one of another version.
+static HOLDERS: [Row; 17] = [
     (
         Inside(
             1,
@@ -255,8 +267,14 @@ pub(crate) const HOLDERS: [Row; 17] = [
     (Issue(1, Size(1)), [0, 0, 1, 1, 0, 0], Gives(50, 0)),
 ];
 
-/// The most bytes that a file may have: 262,144. The grant is the holder's, whose size is that already.
-pub(crate) const LIMITS: [Row; 16] = [
+#[test]
+fn grants_for_the_holder(rt: HostRuntime) -> Result<(), NoMemory> {
+    assert_eq!(rt; first_other(rt.alloc(), 1, &HOLDERS)?, None);
+    Ok(())
+}
+
+// The most bytes that a file may have: 262,144. The grant is the holder's, whose size is that already.
+static LIMITS: [Row; 16] = [
     (
         Inside(
             1,
@@ -340,8 +358,14 @@ pub(crate) const LIMITS: [Row; 16] = [
     ),
 ];
 
-/// In a cluster of version 2 it is 4,194,304, for what is done at the server too.
-pub(crate) const LONG: [Row; 13] = [
+#[test]
+fn the_limit(rt: HostRuntime) -> Result<(), NoMemory> {
+    assert_eq!(rt; first_other(rt.alloc(), 1, &LIMITS)?, None);
+    Ok(())
+}
+
+// In a cluster of version 2 it is 4,194,304, for what is done at the server too.
+static LONG: [Row; 13] = [
     (
         Inside(
             1,
@@ -392,3 +416,9 @@ pub(crate) const LONG: [Row; 13] = [
     (Issue(1, Read(0, 1)), [1, 0, 0, 1, 1, 0], Asks(Asked::Op, 1)),
     (Answer(0, 1, Value(0, 0)), [0, 0, 1, 0, 0, 0], Gives(0, 0)),
 ];
+
+#[test]
+fn the_limit_of_version_2(rt: HostRuntime) -> Result<(), NoMemory> {
+    assert_eq!(rt; first_other(rt.alloc(), 2, &LONG)?, None);
+    Ok(())
+}

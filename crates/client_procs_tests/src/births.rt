@@ -1,17 +1,17 @@
 use crate::bodies::Says::{Done, Here, Opened, Page, Refused, Value};
 use crate::bodies::Wants;
 use crate::bodies::Wants::{Comes, Migrates};
-use crate::script::Row;
 use crate::script::Step::{Answer, Asked, Issue};
+use crate::script::{Row, first_other};
 use crate::told::Told::{Answers, Calls, Dies, Fails, Freezes, Gives, Thaws};
 use crate::told::{Asked as Ask, Given};
 use crate::words::Does::{Home, Migrate, Open};
 use crate::words::Word::{BadStep, Death, Exit, Fork, Getppid, Host, Kill, Print, Tick, Wait};
-use sprite_ids::Errno;
+use sprite_ids::{Errno, NoMemory};
 
-/// Forks: of a process at its home; of a foreign one, whose page is fetched first, and whose child is born at its home and begins
-/// here; and one that its home refuses.
-pub(crate) const FORKS: [Row; 11] = [
+// Forks: of a process at its home; of a foreign one, whose page is fetched first, and whose child is born at its home and begins
+// here; and one that its home refuses.
+static FORKS: [Row; 11] = [
     (
         Issue(2001, Home(Fork)),
         [3, 3, 0, 0],
@@ -72,8 +72,14 @@ pub(crate) const FORKS: [Row; 11] = [
     ),
 ];
 
-/// Waits: of a process that has no child, before its child's end and behind it.
-pub(crate) const WAITS: [Row; 8] = [
+#[test]
+fn forks(rt: HostRuntime) -> Result<(), NoMemory> {
+    assert_eq!(rt; first_other(rt.alloc(), 0, &FORKS)?, None);
+    Ok(())
+}
+
+// Waits: of a process that has no child, before its child's end and behind it.
+static WAITS: [Row; 8] = [
     (
         Issue(2001, Home(Wait)),
         [3, 2, 0, 0],
@@ -108,8 +114,14 @@ pub(crate) const WAITS: [Row; 8] = [
     ),
 ];
 
-/// Calls that are done at the home, of a process that is there and of one that has gone to another kernel, and of that one's child.
-pub(crate) const HOMES: [Row; 16] = [
+#[test]
+fn waits(rt: HostRuntime) -> Result<(), NoMemory> {
+    assert_eq!(rt; first_other(rt.alloc(), 0, &WAITS)?, None);
+    Ok(())
+}
+
+// Calls that are done at the home, of a process that is there and of one that has gone to another kernel, and of that one's child.
+static HOMES: [Row; 16] = [
     (
         Issue(2001, Home(Print(3))),
         [3, 2, 0, 0],
@@ -183,9 +195,15 @@ pub(crate) const HOMES: [Row; 16] = [
     ),
 ];
 
-/// A foreign process's calls go to its home, and a kill to the home of the one that is killed, which is this one once; it is killed
-/// inside a wait, which its home breaks off. Another foreign one ends by a bad step.
-pub(crate) const ABROAD: [Row; 17] = [
+#[test]
+fn calls_of_a_home(rt: HostRuntime) -> Result<(), NoMemory> {
+    assert_eq!(rt; first_other(rt.alloc(), 0, &HOMES)?, None);
+    Ok(())
+}
+
+// A foreign process's calls go to its home, and a kill to the home of the one that is killed, which is this one once; it is killed
+// inside a wait, which its home breaks off. Another foreign one ends by a bad step.
+static ABROAD: [Row; 17] = [
     (
         Asked(1, Comes(3001, 4)),
         [1, 2, 0, 1],
@@ -266,9 +284,15 @@ pub(crate) const ABROAD: [Row; 17] = [
     (Answer(8, 3, Value(0, 0)), [0, 1, 0, 0], &[]),
 ];
 
-/// Ends with a file open: an exit that leaves the stream to the child, one with the last reference, which is closed for its sake; and
-/// a kill inside an open, whose stream is closed for no call's sake.
-pub(crate) const ENDS: [Row; 13] = [
+#[test]
+fn calls_of_a_foreign_process(rt: HostRuntime) -> Result<(), NoMemory> {
+    assert_eq!(rt; first_other(rt.alloc(), 0, &ABROAD)?, None);
+    Ok(())
+}
+
+// Ends with a file open: an exit that leaves the stream to the child, one with the last reference, which is closed for its sake; and
+// a kill inside an open, whose stream is closed for no call's sake.
+static ENDS: [Row; 13] = [
     (
         Issue(2001, Open(b"/f")),
         [2, 2, 0, 0],
@@ -323,3 +347,9 @@ pub(crate) const ENDS: [Row; 13] = [
     ),
     (Answer(7, 1, Done), [0, 0, 0, 0], &[]),
 ];
+
+#[test]
+fn ends_with_a_file_open(rt: HostRuntime) -> Result<(), NoMemory> {
+    assert_eq!(rt; first_other(rt.alloc(), 0, &ENDS)?, None);
+    Ok(())
+}

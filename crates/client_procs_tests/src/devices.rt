@@ -1,17 +1,17 @@
 use crate::bodies::Says::{Done, Here, OpenedDevice, Refused, Value};
 use crate::bodies::Wants;
 use crate::bodies::Wants::Comes;
-use crate::script::Row;
 use crate::script::Step::{Answer, Asked, GiveUp, Issue};
+use crate::script::{Row, first_other};
 use crate::told::Told::{Answers, Calls, Dies, Fails, Gives, Thaws};
 use crate::told::{Asked as Ask, Given};
 use crate::words::Does::{Close, Get, Home, Ioctl, Make, Open, Put, Read, Write};
 use crate::words::Word::{Exit, Fork, Kill};
-use sprite_ids::{AskKind, Errno};
+use sprite_ids::{AskKind, Errno, NoMemory};
 
-/// A pseudo-device's asks come from another kernel, the first one before its making is answered: they are taken, answered and
-/// refused; and those that are left end when the master's end is closed.
-pub(crate) const ASKED: [Row; 19] = [
+// A pseudo-device's asks come from another kernel, the first one before its making is answered: they are taken, answered and
+// refused; and those that are left end when the master's end is closed.
+static ASKED: [Row; 19] = [
     (
         Issue(2001, Make(b"/d")),
         [2, 2, 0, 0],
@@ -100,9 +100,15 @@ pub(crate) const ASKED: [Row; 19] = [
     ),
 ];
 
-/// Two masters wait for one ask: the first takes it, and the other is refused. A kill breaks off the wait for an ask, and one of a
-/// process that asks meets it when the master has answered.
-pub(crate) const MASTERS: [Row; 22] = [
+#[test]
+fn asks_from_elsewhere(rt: HostRuntime) -> Result<(), NoMemory> {
+    assert_eq!(rt; first_other(rt.alloc(), 0, &ASKED)?, None);
+    Ok(())
+}
+
+// Two masters wait for one ask: the first takes it, and the other is refused. A kill breaks off the wait for an ask, and one of a
+// process that asks meets it when the master has answered.
+static MASTERS: [Row; 22] = [
     (
         Issue(2001, Make(b"/d")),
         [2, 2, 0, 0],
@@ -191,9 +197,15 @@ pub(crate) const MASTERS: [Row; 22] = [
     (Issue(2001, Home(Exit(0))), [2, 0, 0, 0], &[]),
 ];
 
-/// A process asks a pseudo-device of another kernel: it is answered, refused, and killed before its ask is answered. The making of
-/// a device is given up, and no ask of that device is taken.
-pub(crate) const ASKS: [Row; 18] = [
+#[test]
+fn masters_that_wait(rt: HostRuntime) -> Result<(), NoMemory> {
+    assert_eq!(rt; first_other(rt.alloc(), 0, &MASTERS)?, None);
+    Ok(())
+}
+
+// A process asks a pseudo-device of another kernel: it is answered, refused, and killed before its ask is answered. The making of
+// a device is given up, and no ask of that device is taken.
+static ASKS: [Row; 18] = [
     (
         Issue(2001, Open(b"/d")),
         [2, 2, 0, 0],
@@ -282,9 +294,15 @@ pub(crate) const ASKS: [Row; 18] = [
     ),
 ];
 
-/// At the third call the foreign processes leave, but one that holds a master's end stays, and is not asked again; asks that come
-/// behind its exit end when its descriptors are closed.
-pub(crate) const FOREIGN: [Row; 11] = [
+#[test]
+fn asks_to_elsewhere(rt: HostRuntime) -> Result<(), NoMemory> {
+    assert_eq!(rt; first_other(rt.alloc(), 0, &ASKS)?, None);
+    Ok(())
+}
+
+// At the third call the foreign processes leave, but one that holds a master's end stays, and is not asked again; asks that come
+// behind its exit end when its descriptors are closed.
+static FOREIGN: [Row; 11] = [
     (
         Asked(1, Comes(3001, 1)),
         [1, 2, 0, 1],
@@ -341,8 +359,14 @@ pub(crate) const FOREIGN: [Row; 11] = [
     ),
 ];
 
-/// The making of a device is refused, and no ask of that device is taken.
-pub(crate) const UNMADE: [Row; 6] = [
+#[test]
+fn a_foreign_master(rt: HostRuntime) -> Result<(), NoMemory> {
+    assert_eq!(rt; first_other(rt.alloc(), 3, &FOREIGN)?, None);
+    Ok(())
+}
+
+// The making of a device is refused, and no ask of that device is taken.
+static UNMADE: [Row; 6] = [
     (
         Issue(2001, Make(b"/d")),
         [2, 2, 0, 0],
@@ -374,3 +398,9 @@ pub(crate) const UNMADE: [Row; 6] = [
         &[Fails(2001, Errno::BadFd)],
     ),
 ];
+
+#[test]
+fn a_device_that_is_not_made(rt: HostRuntime) -> Result<(), NoMemory> {
+    assert_eq!(rt; first_other(rt.alloc(), 0, &UNMADE)?, None);
+    Ok(())
+}

@@ -1,16 +1,16 @@
 use crate::bodies::Says::{Done, Gone, Page, Value};
 use crate::bodies::Wants::{Comes, Home as AtHome, Killed, Place};
-use crate::script::Row;
 use crate::script::Step::{Answer, Asked, Issue, Needs};
+use crate::script::{Row, first_other};
 use crate::told::Told::{Answers, Calls, Dies, Fails, Freezes, Gives, Thaws};
 use crate::told::{Asked as Ask, Given};
 use crate::words::Does::{Home, Migrate};
 use crate::words::Word::{Death, Fork, Getppid, Kill, Wait};
-use sprite_ids::Errno;
+use sprite_ids::{Errno, NoMemory};
 
-/// A kill meets a process between two calls; none meets one that has ended, was never born, or is no client's. A process that is
-/// inside its own kill, at another home, is killed twice, and dies when that is answered.
-pub(crate) const KILLS: [Row; 10] = [
+// A kill meets a process between two calls; none meets one that has ended, was never born, or is no client's. A process that is
+// inside its own kill, at another home, is killed twice, and dies when that is answered.
+static KILLS: [Row; 10] = [
     (
         Issue(2001, Home(Kill(2002))),
         [4, 1, 0, 0],
@@ -63,9 +63,15 @@ pub(crate) const KILLS: [Row; 10] = [
     ),
 ];
 
-/// A kill and a parked wait cross: at the home of a process that is there, and of one that is elsewhere, whose next wait is broken
-/// off at once.
-pub(crate) const CROSSED: [Row; 15] = [
+#[test]
+fn kills(rt: HostRuntime) -> Result<(), NoMemory> {
+    assert_eq!(rt; first_other(rt.alloc(), 0, &KILLS)?, None);
+    Ok(())
+}
+
+// A kill and a parked wait cross: at the home of a process that is there, and of one that is elsewhere, whose next wait is broken
+// off at once.
+static CROSSED: [Row; 15] = [
     (
         Issue(2001, Home(Fork)),
         [3, 3, 0, 0],
@@ -135,9 +141,15 @@ pub(crate) const CROSSED: [Row; 15] = [
     ),
 ];
 
-/// Kills come to the kernel at which foreign processes are: one of a process that a fork brings later; one of a process that has
-/// left and comes back, which that fork doesn't bring; one before a process is thawed; and one between two calls.
-pub(crate) const EARLY: [Row; 16] = [
+#[test]
+fn kills_that_cross_waits(rt: HostRuntime) -> Result<(), NoMemory> {
+    assert_eq!(rt; first_other(rt.alloc(), 0, &CROSSED)?, None);
+    Ok(())
+}
+
+// Kills come to the kernel at which foreign processes are: one of a process that a fork brings later; one of a process that has
+// left and comes back, which that fork doesn't bring; one before a process is thawed; and one between two calls.
+static EARLY: [Row; 16] = [
     (
         Asked(1, Comes(3001, 4)),
         [1, 2, 0, 1],
@@ -220,9 +232,15 @@ pub(crate) const EARLY: [Row; 16] = [
     ),
 ];
 
-/// A home follows its process with a kill: the process is on its way; has left the kernel that is told; comes to another one before
-/// that kernel has answered; and comes home, where it dies.
-pub(crate) const CHASED: [Row; 13] = [
+#[test]
+fn kills_of_foreign_processes(rt: HostRuntime) -> Result<(), NoMemory> {
+    assert_eq!(rt; first_other(rt.alloc(), 0, &EARLY)?, None);
+    Ok(())
+}
+
+// A home follows its process with a kill: the process is on its way; has left the kernel that is told; comes to another one before
+// that kernel has answered; and comes home, where it dies.
+static CHASED: [Row; 13] = [
     (
         Issue(2001, Migrate(b"b")),
         [4, 1, 1, 1],
@@ -278,8 +296,14 @@ pub(crate) const CHASED: [Row; 13] = [
     ),
 ];
 
-/// A process waits for a page and goes on with it; another one is killed while its page is on its way.
-pub(crate) const PAGES: [Row; 5] = [
+#[test]
+fn kills_that_follow_a_process(rt: HostRuntime) -> Result<(), NoMemory> {
+    assert_eq!(rt; first_other(rt.alloc(), 0, &CHASED)?, None);
+    Ok(())
+}
+
+// A process waits for a page and goes on with it; another one is killed while its page is on its way.
+static PAGES: [Row; 5] = [
     (
         Needs(2002),
         [1, 2, 0, 1],
@@ -299,8 +323,14 @@ pub(crate) const PAGES: [Row; 5] = [
     (Answer(2, 1, Page), [0, 1, 0, 0], &[]),
 ];
 
-/// The kernel that is told of the kill knows the process no more, and it comes home next, where it dies.
-pub(crate) const CAUGHT: [Row; 8] = [
+#[test]
+fn pages(rt: HostRuntime) -> Result<(), NoMemory> {
+    assert_eq!(rt; first_other(rt.alloc(), 0, &PAGES)?, None);
+    Ok(())
+}
+
+// The kernel that is told of the kill knows the process no more, and it comes home next, where it dies.
+static CAUGHT: [Row; 8] = [
     (
         Issue(2001, Migrate(b"b")),
         [4, 1, 1, 1],
@@ -334,3 +364,9 @@ pub(crate) const CAUGHT: [Row; 8] = [
         &[Fails(2002, Errno::NoProcess)],
     ),
 ];
+
+#[test]
+fn a_kill_that_waits_at_home(rt: HostRuntime) -> Result<(), NoMemory> {
+    assert_eq!(rt; first_other(rt.alloc(), 0, &CAUGHT)?, None);
+    Ok(())
+}

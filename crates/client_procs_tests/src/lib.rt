@@ -27,8 +27,6 @@ mod moves;
 #[cfg(test)]
 mod script;
 #[cfg(test)]
-mod tables;
-#[cfg(test)]
 mod told;
 #[cfg(test)]
 mod words;

@@ -1,15 +1,15 @@
 use crate::bodies::Says::{Done, Here, Moved, Opened, Page, Value};
 use crate::bodies::Wants::{Brings, Comes, Killed, Launches, Migrates};
-use crate::script::Row;
 use crate::script::Step::{Answer, Asked, Issue, Needs};
+use crate::script::{Row, first_other};
 use crate::told::Told::{Answers, Calls, Fails, Freezes, Gives, Thaws};
 use crate::told::{Asked as Ask, Given};
 use crate::words::Does::{Close, Exec, Getpid, Home, Make, Migrate, Open, Read, Rexec};
 use crate::words::Word::{Death, Fork, Tick};
-use sprite_ids::Errno;
+use sprite_ids::{Errno, NoMemory};
 
-/// Moves that are refused, and those to the kernel where the process is.
-pub(crate) const STAYS: [Row; 15] = [
+// Moves that are refused, and those to the kernel where the process is.
+static STAYS: [Row; 15] = [
     (
         Issue(2001, Migrate(b"x")),
         [3, 2, 0, 0],
@@ -83,10 +83,16 @@ pub(crate) const STAYS: [Row; 15] = [
     ),
 ];
 
-/// Two processes move, each with a stream: the page of the first is put before its stream has moved, and the second one's behind
-/// that. The second one's stream stays with its child too, whose reading is then done at the server, and which starts its next
-/// program elsewhere, with no page.
-pub(crate) const MOVES: [Row; 19] = [
+#[test]
+fn moves_that_are_refused(rt: HostRuntime) -> Result<(), NoMemory> {
+    assert_eq!(rt; first_other(rt.alloc(), 0, &STAYS)?, None);
+    Ok(())
+}
+
+// Two processes move, each with a stream: the page of the first is put before its stream has moved, and the second one's behind
+// that. The second one's stream stays with its child too, whose reading is then done at the server, and which starts its next
+// program elsewhere, with no page.
+static MOVES: [Row; 19] = [
     (
         Issue(2001, Open(b"/f")),
         [2, 2, 0, 0],
@@ -172,9 +178,15 @@ pub(crate) const MOVES: [Row; 19] = [
     ),
 ];
 
-/// Processes come: one with a stream, which it closes; one in its own move, whose call names a page that is away; one that starts
-/// its next program; and one that comes home.
-pub(crate) const ARRIVALS: [Row; 13] = [
+#[test]
+fn moves_with_streams(rt: HostRuntime) -> Result<(), NoMemory> {
+    assert_eq!(rt; first_other(rt.alloc(), 0, &MOVES)?, None);
+    Ok(())
+}
+
+// Processes come: one with a stream, which it closes; one in its own move, whose call names a page that is away; one that starts
+// its next program; and one that comes home.
+static ARRIVALS: [Row; 13] = [
     (
         Asked(1, Brings(3001, 4)),
         [2, 2, 0, 1],
@@ -231,9 +243,15 @@ pub(crate) const ARRIVALS: [Row; 13] = [
     (Issue(2001, Getpid), [3, 5, 0, 0], &[Gives(2001, 2001, 0)]),
 ];
 
-/// At the second call the foreign processes leave: one that is between two calls at once, and one that is inside a call behind it;
-/// one that isn't thawed stays.
-pub(crate) const EVICTED: [Row; 11] = [
+#[test]
+fn arrivals(rt: HostRuntime) -> Result<(), NoMemory> {
+    assert_eq!(rt; first_other(rt.alloc(), 0, &ARRIVALS)?, None);
+    Ok(())
+}
+
+// At the second call the foreign processes leave: one that is between two calls at once, and one that is inside a call behind it;
+// one that isn't thawed stays.
+static EVICTED: [Row; 11] = [
     (
         Asked(1, Comes(3001, 4)),
         [1, 2, 0, 1],
@@ -288,8 +306,14 @@ pub(crate) const EVICTED: [Row; 11] = [
     (Answer(5, 3, Done), [0, 3, 0, 0], &[]),
 ];
 
-/// At the first call a process is inside its own move and has a page to wait for: it leaves when that call has returned.
-pub(crate) const TURNED: [Row; 5] = [
+#[test]
+fn evictions(rt: HostRuntime) -> Result<(), NoMemory> {
+    assert_eq!(rt; first_other(rt.alloc(), 2, &EVICTED)?, None);
+    Ok(())
+}
+
+// At the first call a process is inside its own move and has a page to wait for: it leaves when that call has returned.
+static TURNED: [Row; 5] = [
     (
         Asked(1, Migrates(3001, 7, true)),
         [1, 2, 0, 1],
@@ -320,8 +344,14 @@ pub(crate) const TURNED: [Row; 5] = [
     ),
 ];
 
-/// At the second call a process is on its way already, whose page isn't put: it doesn't leave once more, and a kill doesn't find it.
-pub(crate) const FROZEN: [Row; 9] = [
+#[test]
+fn an_eviction_inside_a_migrate(rt: HostRuntime) -> Result<(), NoMemory> {
+    assert_eq!(rt; first_other(rt.alloc(), 1, &TURNED)?, None);
+    Ok(())
+}
+
+// At the second call a process is on its way already, whose page isn't put: it doesn't leave once more, and a kill doesn't find it.
+static FROZEN: [Row; 9] = [
     (
         Asked(1, Migrates(3001, 7, false)),
         [1, 2, 0, 1],
@@ -360,8 +390,14 @@ pub(crate) const FROZEN: [Row; 9] = [
     (Answer(4, 4, Done), [0, 2, 0, 0], &[]),
 ];
 
-/// At the first call a process waits for a page: it leaves, with that page, when it has come.
-pub(crate) const PAGED: [Row; 7] = [
+#[test]
+fn an_eviction_behind_a_freeze(rt: HostRuntime) -> Result<(), NoMemory> {
+    assert_eq!(rt; first_other(rt.alloc(), 2, &FROZEN)?, None);
+    Ok(())
+}
+
+// At the first call a process waits for a page: it leaves, with that page, when it has come.
+static PAGED: [Row; 7] = [
     (
         Asked(1, Comes(3001, 4)),
         [1, 2, 0, 1],
@@ -390,8 +426,14 @@ pub(crate) const PAGED: [Row; 7] = [
     (Answer(4, 3, Done), [0, 2, 0, 0], &[]),
 ];
 
-/// At the second call a process is inside a call, and it is killed there too: it dies behind that call, and doesn't leave.
-pub(crate) const KILLED: [Row; 7] = [
+#[test]
+fn an_eviction_inside_a_page_wait(rt: HostRuntime) -> Result<(), NoMemory> {
+    assert_eq!(rt; first_other(rt.alloc(), 1, &PAGED)?, None);
+    Ok(())
+}
+
+// At the second call a process is inside a call, and it is killed there too: it dies behind that call, and doesn't leave.
+static KILLED: [Row; 7] = [
     (
         Asked(1, Comes(3001, 4)),
         [1, 2, 0, 1],
@@ -422,3 +464,9 @@ pub(crate) const KILLED: [Row; 7] = [
     ),
     (Answer(3, 3, Value(0, 0)), [0, 2, 0, 0], &[]),
 ];
+
+#[test]
+fn an_eviction_of_a_killed_process(rt: HostRuntime) -> Result<(), NoMemory> {
+    assert_eq!(rt; first_other(rt.alloc(), 2, &KILLED)?, None);
+    Ok(())
+}
