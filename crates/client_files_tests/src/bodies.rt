@@ -4,6 +4,17 @@ use sprite_ids::{DeviceId, Errno, FileId, Grant, Kernel, NoMemory};
 use sprite_paths::Path;
 use std::alloc::Global;
 
+/// A grant of the file.
+#[derive(Clone, Copy)]
+pub(crate) struct Terms {
+    pub stamp: u32,
+    /// The version that the file had, and the one that it has.
+    pub versions: [u32; 2],
+    pub size: u32,
+    /// Whether the client was the last that may have dirty blocks.
+    pub holder: bool,
+}
+
 /// What a server answers.
 #[derive(Clone, Copy)]
 pub(crate) enum Says {
@@ -13,6 +24,10 @@ pub(crate) enum Says {
     Redirect(Text),
     /// The file, under a grant of that stamp.
     Opened(u32),
+    /// The file, under that grant.
+    Granted(Terms),
+    /// A grant in the place of an answer.
+    Again(Terms),
     /// A pseudo-device.
     OpenedDevice,
     /// The first value, and how many bytes.
@@ -23,15 +38,25 @@ pub(crate) enum Says {
     Moved(Option<u32>),
 }
 
-// A grant of the file, which has 100 bytes and may be cached.
-fn grant_of(file: &FileId, stamp: u32) -> Grant {
+// A grant of the file, which may be cached.
+fn grant_of(file: &FileId, terms: &Terms) -> Grant {
     Grant {
         file: *file,
-        stamp,
-        old: 0,
-        new: 0,
-        size: 100,
+        stamp: terms.stamp,
+        old: terms.versions[0],
+        new: terms.versions[1],
+        size: terms.size,
         on: true,
+        holder: terms.holder,
+    }
+}
+
+// The terms of a grant of that stamp: the file has 100 bytes.
+fn plain(stamp: u32) -> Terms {
+    Terms {
+        stamp,
+        versions: [0, 0],
+        size: 100,
         holder: false,
     }
 }
@@ -39,7 +64,7 @@ fn grant_of(file: &FileId, stamp: u32) -> Grant {
 /// A grant of that stamp, where there is one.
 pub(crate) fn some_grant(file: &FileId, stamp: Option<u32>) -> Option<Grant> {
     match stamp {
-        Some(stamp) => Some(grant_of(file, stamp)),
+        Some(stamp) => Some(grant_of(file, &plain(stamp))),
         None => None,
     }
 }
@@ -48,11 +73,11 @@ fn path(alloc: Global, text: Text) -> Result<Path, NoMemory> {
     Path::clean(alloc, &Path::root(alloc), text).or(Err(NoMemory))
 }
 
-fn opened(file: &FileId, stamp: u32) -> ReplyBody {
+fn opened(file: &FileId, terms: &Terms) -> ReplyBody {
     ReplyBody::Opened(OpenedReply {
         object: Target::File(*file),
-        grant: Some(grant_of(file, stamp)),
-        size: 100,
+        grant: Some(grant_of(file, terms)),
+        size: terms.size,
     })
 }
 
@@ -75,7 +100,11 @@ pub(crate) fn body_of(alloc: Global, file: &FileId, says: Says) -> Result<ReplyB
         Says::Redirect(text) => Ok(ReplyBody::Redirect {
             path: path(alloc, text)?,
         }),
-        Says::Opened(stamp) => Ok(opened(file, stamp)),
+        Says::Opened(stamp) => Ok(opened(file, &plain(stamp))),
+        Says::Granted(terms) => Ok(opened(file, &terms)),
+        Says::Again(terms) => Ok(ReplyBody::Again {
+            grant: grant_of(file, &terms),
+        }),
         Says::OpenedDevice => Ok(opened_device(file.server)),
         Says::Value(first, many) => Ok(ReplyBody::Value(ValueReply {
             first,

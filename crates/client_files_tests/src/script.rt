@@ -20,6 +20,8 @@ pub(crate) enum Step {
     GiveUp(u32),
     /// A callback of that stamp that stops caching.
     Stop(u32),
+    /// A callback of that stamp that asks for dirty blocks.
+    Recall(u32),
     /// The block is due.
     Due(u16),
     /// The processes' side of the kernel says this of that process.
@@ -108,14 +110,14 @@ fn tx_at(at: &Cluster, back: u32) -> TxNo {
     TxNo(at.next.saturating_sub(back).saturating_sub(1))
 }
 
-fn stopped(file: &FileId, stamp: u32) -> Input {
+fn called(file: &FileId, stamp: u32, kind: CallKind) -> Input {
     Input::Request {
         tx: TxNo(1),
         from: file.server,
         body: Request::Callback(CallbackRequest {
             file: *file,
             stamp,
-            kind: CallKind::Stop,
+            kind,
         }),
     }
 }
@@ -133,7 +135,8 @@ fn input_of(
         Step::GiveUp(back) => Ok(Input::GaveUp {
             tx: tx_at(at, back),
         }),
-        Step::Stop(stamp) => Ok(stopped(&at.file, stamp)),
+        Step::Stop(stamp) => Ok(called(&at.file, stamp, CallKind::Stop)),
+        Step::Recall(stamp) => Ok(called(&at.file, stamp, CallKind::Recall)),
         Step::Due(block) => Ok(Input::Due {
             file: at.file,
             block: BlockNo(block),
@@ -226,13 +229,17 @@ fn first_wrong(
     Ok(None)
 }
 
-/// The place of the first row that says something else, at a kernel of its own.
-pub(crate) fn first_other(alloc: Global, rows: &[Row]) -> Result<Option<usize>, NoMemory> {
+/// The place of the first row that says something else, at a kernel of its own, of a cluster of that version.
+pub(crate) fn first_other(
+    alloc: Global,
+    version: u8,
+    rows: &[Row],
+) -> Result<Option<usize>, NoMemory> {
     let server = kernel(1)?;
     let mut at = Cluster {
         file: FileId { server, number: 1 },
         next: 1,
     };
-    let mut files = boot(alloc)?;
+    let mut files = boot(alloc, version)?;
     first_wrong(&mut files, &mut at, alloc, rows)
 }

@@ -13,12 +13,11 @@ use crate::told::{Asked, Told};
 use crate::world::Comes;
 use packet_bodies::NameOp;
 use sprite_ids::{Errno, NoMemory};
-use std::alloc::Global;
 use stream_table::Place;
 
 // Two processes meet one prefix: each asks for itself, and it is learned once. The second one's file comes first, and the
 // first one's grant is older then. Then data go through the same steps: a fetch, a write-back, a stop.
-const OPENS: [Row; 17] = [
+static OPENS: [Row; 17] = [
     (
         Issue(1, Open(b"/b", 3)),
         [1, 0, 0, 2, 1, 0],
@@ -74,8 +73,14 @@ const OPENS: [Row; 17] = [
     ),
 ];
 
+#[test]
+fn opens(rt: HostRuntime) -> Result<(), NoMemory> {
+    assert_eq!(rt; first_other(rt.alloc(), 1, &OPENS)?, None);
+    Ok(())
+}
+
 // A broadcast and an echo are given up, and a request is refused.
-const UNREACHED: [Row; 9] = [
+static UNREACHED: [Row; 9] = [
     (
         Issue(1, Stat(b"/b")),
         [1, 0, 0, 2, 1, 0],
@@ -111,9 +116,15 @@ const UNREACHED: [Row; 9] = [
     (GiveUp(0), [0, 0, 0, 0, 0, 0], Nothing),
 ];
 
+#[test]
+fn servers_that_are_not_reached(rt: HostRuntime) -> Result<(), NoMemory> {
+    assert_eq!(rt; first_other(rt.alloc(), 1, &UNREACHED)?, None);
+    Ok(())
+}
+
 // Two paths lead on into one domain: the first call asks who serves it, the second one knows by then. The second process's
 // working directory is in that domain from then on.
-const DOMAINS: [Row; 15] = [
+static DOMAINS: [Row; 15] = [
     (
         Issue(1, Open(b"/a/b", 3)),
         [1, 0, 0, 2, 1, 0],
@@ -183,8 +194,14 @@ const DOMAINS: [Row; 15] = [
     ),
 ];
 
+#[test]
+fn domains(rt: HostRuntime) -> Result<(), NoMemory> {
+    assert_eq!(rt; first_other(rt.alloc(), 1, &DOMAINS)?, None);
+    Ok(())
+}
+
 // The other name calls.
-const NAMES: [Row; 16] = [
+static NAMES: [Row; 16] = [
     (
         Issue(1, Rmdir(b"/d")),
         [1, 0, 0, 2, 1, 0],
@@ -251,8 +268,14 @@ const NAMES: [Row; 16] = [
     (Answer(0, 1, Value(0, 0)), [0, 0, 1, 0, 0, 0], Gives(0, 0)),
 ];
 
+#[test]
+fn names(rt: HostRuntime) -> Result<(), NoMemory> {
+    assert_eq!(rt; first_other(rt.alloc(), 1, &NAMES)?, None);
+    Ok(())
+}
+
 // What is refused here: no lawful flags, no name, no descriptor, too much.
-const REFUSALS: [Row; 16] = [
+static REFUSALS: [Row; 16] = [
     (
         Issue(1, Open(b"/b", 0)),
         [0, 0, 1, 1, 0, 0],
@@ -319,8 +342,14 @@ const REFUSALS: [Row; 16] = [
     (Issue(1, Sync(0)), [0, 0, 1, 1, 0, 0], Fails(Errno::BadFd)),
 ];
 
+#[test]
+fn refusals(rt: HostRuntime) -> Result<(), NoMemory> {
+    assert_eq!(rt; first_other(rt.alloc(), 1, &REFUSALS)?, None);
+    Ok(())
+}
+
 // All 16 descriptors are in use; a seek past the limit.
-const FULL: [Row; 7] = [
+static FULL: [Row; 7] = [
     (
         Inside(
             1,
@@ -358,8 +387,14 @@ const FULL: [Row; 7] = [
     ),
 ];
 
+#[test]
+fn descriptors_in_use(rt: HostRuntime) -> Result<(), NoMemory> {
+    assert_eq!(rt; first_other(rt.alloc(), 1, &FULL)?, None);
+    Ok(())
+}
+
 // A pseudo-device is made and opened; its ends are closed, and a client's end moves at once.
-const DEVICES: [Row; 16] = [
+static DEVICES: [Row; 16] = [
     (
         Inside(1, Makes(b"/v")),
         [1, 0, 0, 2, 1, 0],
@@ -410,8 +445,14 @@ const DEVICES: [Row; 16] = [
     (Issue(1, Close(1)), [0, 0, 1, 1, 0, 1], MasterClosed),
 ];
 
+#[test]
+fn devices(rt: HostRuntime) -> Result<(), NoMemory> {
+    assert_eq!(rt; first_other(rt.alloc(), 1, &DEVICES)?, None);
+    Ok(())
+}
+
 // The making of a pseudo-device is refused, and leads on.
-const MAKES: [Row; 8] = [
+static MAKES: [Row; 8] = [
     (
         Inside(1, Makes(b"/v")),
         [1, 0, 0, 2, 1, 0],
@@ -450,9 +491,15 @@ const MAKES: [Row; 8] = [
     (GiveUp(0), [0, 0, 1, 1, 0, 0], Fails(Errno::Unreachable)),
 ];
 
+#[test]
+fn devices_that_are_not_made(rt: HostRuntime) -> Result<(), NoMemory> {
+    assert_eq!(rt; first_other(rt.alloc(), 1, &MAKES)?, None);
+    Ok(())
+}
+
 // A close waits for the lock that a reading has; at the end of a process its last reference is closed at the server, and the
 // same stream arrives again meanwhile: a reading of it waits for the answer.
-const CLOSES: [Row; 15] = [
+static CLOSES: [Row; 15] = [
     (
         Inside(
             1,
@@ -518,9 +565,15 @@ const CLOSES: [Row; 15] = [
     (Issue(2, Close(0)), [0, 0, 1, 1, 0, 0], Fails(Errno::BadFd)),
 ];
 
+#[test]
+fn closes(rt: HostRuntime) -> Result<(), NoMemory> {
+    assert_eq!(rt; first_other(rt.alloc(), 1, &CLOSES)?, None);
+    Ok(())
+}
+
 // A stream of two processes moves with the first one: the close of the second one waits, and is the last reference here. A
 // stop comes before the grant of a stream that arrives.
-const MOVES: [Row; 10] = [
+static MOVES: [Row; 10] = [
     (
         Inside(
             1,
@@ -585,9 +638,15 @@ const MOVES: [Row; 10] = [
     ),
 ];
 
+#[test]
+fn moves(rt: HostRuntime) -> Result<(), NoMemory> {
+    assert_eq!(rt; first_other(rt.alloc(), 1, &MOVES)?, None);
+    Ok(())
+}
+
 // A move waits for the lock that a reading has; the first process's makes the stream shared, the second one's moves a shared
 // one. The same stream arrives again while its move has no answer: a seek of it waits.
-const SHARED: [Row; 16] = [
+static SHARED: [Row; 16] = [
     (
         Inside(
             1,
@@ -690,24 +749,8 @@ const SHARED: [Row; 16] = [
     (Inside(1, Moves(77)), [0, 0, 0, 0, 0, 0], Nothing),
 ];
 
-// All scripts, each for a kernel of its own.
-const SCRIPTS: [&[Row]; 11] = [
-    &OPENS, &UNREACHED, &DOMAINS, &NAMES, &REFUSALS, &FULL, &DEVICES, &MAKES, &CLOSES, &MOVES,
-    &SHARED,
-];
-
-// The place of the first row that says something else, behind its script's.
-fn first_place(alloc: Global) -> Result<Option<(usize, usize)>, NoMemory> {
-    for (place, script) in SCRIPTS.iter().enumerate() {
-        if let Some(row) = first_other(alloc, script)? {
-            return Ok(Some((place, row)));
-        }
-    }
-    Ok(None)
-}
-
 #[test]
-fn steps_say_what_the_scripts_say(rt: HostRuntime) -> Result<(), NoMemory> {
-    assert_eq!(rt; first_place(rt.alloc())?, None);
+fn shared_streams(rt: HostRuntime) -> Result<(), NoMemory> {
+    assert_eq!(rt; first_other(rt.alloc(), 1, &SHARED)?, None);
     Ok(())
 }

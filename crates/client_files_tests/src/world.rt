@@ -17,10 +17,10 @@ pub(crate) struct Comes {
     pub place: Place,
 }
 
-// A cluster with a cache of eight blocks.
-fn cluster(alloc: Global) -> Description {
+// A cluster of that version, with a cache of eight blocks.
+fn cluster(alloc: Global, version: u8) -> Description {
     Description {
-        version: 1,
+        version,
         budget: 1_000_000,
         cache: 8,
         kernels: Items::new(alloc),
@@ -39,10 +39,10 @@ pub(crate) fn kernel(number: u8) -> Result<Kernel, NoMemory> {
     Kernel::new(number).ok_or(NoMemory)
 }
 
-/// A client kernel, number 2, at which nothing is learned or open.
-pub(crate) fn boot(alloc: Global) -> Result<ClientFiles, NoMemory> {
+/// A client kernel, number 2, of a cluster of that version; nothing is learned or open there.
+pub(crate) fn boot(alloc: Global, version: u8) -> Result<ClientFiles, NoMemory> {
     let client = kernel(2)?;
-    ClientFiles::boot(alloc, &cluster(alloc), client)
+    ClientFiles::boot(alloc, &cluster(alloc, version), client)
 }
 
 /// The servers are known to the client: 1 serves `/` and has the one file, 3 serves `/a`.

@@ -1,0 +1,130 @@
+use crate::bodies::{Says, Wants, answer_of, request_of};
+use crate::told::{Told, told_of};
+use crate::words::{Does, call_of, pid};
+use crate::world::{client, image_away, kernel};
+use client_procs::{ClientProcs, number, pids, set_image, take};
+use kernel_steps::{Input, Out};
+use sprite_ids::{NoMemory, Pid, TxNo};
+use std::alloc::Global;
+
+/// What happens.
+#[derive(Clone, Copy)]
+pub(crate) enum Step {
+    /// The process comes to its next call.
+    Issue(u64, Does),
+    /// Another client asks something by a remote call of that number.
+    Asked(u32, Wants),
+    /// The client's own remote call of that number, counted from 1, is answered by that kernel.
+    Answer(u32, u8, Says),
+    /// The client's own remote call of that number is given up.
+    GiveUp(u32),
+    /// The process has run until its page is away, behind its one instruction, and comes to that page.
+    Needs(u64),
+}
+
+/// A step; how many records it makes, and how many processes are kept behind it, how many leave, and how many remote calls for
+/// processes have no answer; and what it says.
+pub(crate) type Row = (Step, [usize; 4], &'static [Told]);
+
+fn counts(client: &ClientProcs, alloc: Global, out: &Out) -> Result<[usize; 4], NoMemory> {
+    let kept = pids(client, alloc)?;
+    Ok([
+        out.events.len(),
+        kept.len(),
+        client.leaving.len(),
+        client.unfinished.len(),
+    ])
+}
+
+// Whether the step said so.
+fn is_said(client: &ClientProcs, alloc: Global, out: &Out, row: &Row) -> Result<bool, NoMemory> {
+    let counts = counts(client, alloc, out)?;
+    let told = told_of(alloc, out)?;
+    Ok(counts.as_slice() == row.1.as_slice() && told.as_slice() == row.2)
+}
+
+fn issued(client: &ClientProcs, alloc: Global, pid: Pid, does: Does) -> Result<Input, NoMemory> {
+    let last = number(client, pid).ok_or(NoMemory)?;
+    let number = last.saturating_add(1);
+    let call = call_of(alloc, does)?;
+    Ok(Input::Issued { pid, number, call })
+}
+
+fn asked(alloc: Global, tx: u32, wants: Wants) -> Result<Input, NoMemory> {
+    let tx = TxNo(tx);
+    let from = kernel(3)?;
+    let body = request_of(alloc, wants)?;
+    Ok(Input::Request { tx, from, body })
+}
+
+fn answered(alloc: Global, tx: u32, from: u8, says: Says) -> Result<Input, NoMemory> {
+    let tx = TxNo(tx);
+    let from = kernel(from)?;
+    let body = answer_of(alloc, says)?;
+    Ok(Input::Replied { tx, from, body })
+}
+
+fn needs(client: &mut ClientProcs, alloc: Global, pid: Pid) -> Result<Input, NoMemory> {
+    set_image(client, pid, image_away(alloc, 1)?);
+    Ok(Input::PageNeeded { pid, page: 0 })
+}
+
+// What comes to the kernel.
+fn input_of(client: &mut ClientProcs, alloc: Global, step: Step) -> Result<Input, NoMemory> {
+    match step {
+        Step::Issue(who, does) => issued(client, alloc, pid(who)?, does),
+        Step::Asked(tx, wants) => asked(alloc, tx, wants),
+        Step::Answer(tx, from, says) => answered(alloc, tx, from, says),
+        Step::GiveUp(tx) => Ok(Input::GaveUp { tx: TxNo(tx) }),
+        Step::Needs(who) => needs(client, alloc, pid(who)?),
+    }
+}
+
+fn stepped(
+    client: &mut ClientProcs,
+    next: &mut TxNo,
+    alloc: Global,
+    input: &Input,
+    row: &Row,
+) -> Result<bool, NoMemory> {
+    let step = client.files.step.saturating_add(1);
+    let out = take(client, alloc, input, *next, step)?;
+    *next = out.next;
+    is_said(client, alloc, &out, row)
+}
+
+// Whether the step says what the row says; the next remote call has that number.
+fn is_so(
+    client: &mut ClientProcs,
+    next: &mut TxNo,
+    alloc: Global,
+    row: &Row,
+) -> Result<bool, NoMemory> {
+    let input = input_of(client, alloc, row.0)?;
+    stepped(client, next, alloc, &input, row)
+}
+
+fn first_wrong(
+    client: &mut ClientProcs,
+    alloc: Global,
+    rows: &[Row],
+) -> Result<Option<usize>, NoMemory> {
+    let mut next = TxNo(1);
+    for (place, row) in rows.iter().enumerate() {
+        if !is_so(client, &mut next, alloc, row)? {
+            return Ok(Some(place));
+        }
+    }
+    Ok(None)
+}
+
+/// The place of the first row that says something else, at a client of its own, which foreign processes are to leave at the call
+/// of that number.
+pub(crate) fn first_other(
+    alloc: Global,
+    after: u32,
+    rows: &[Row],
+) -> Result<Option<usize>, NoMemory> {
+    let mut client = client(alloc, after)?;
+    first_wrong(&mut client, alloc, rows)
+}
