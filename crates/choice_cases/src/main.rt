@@ -85,7 +85,7 @@ fn print_all(rt: &HostRuntime) -> io::Result<()> {
     Ok(())
 }
 
-/// Prints how the runs of a cluster end, by seeds that this one begins.
+/// Prints how the runs of a cluster end, each by that seed. It fails where the file can't be read, or where the output fails.
 fn print_cluster(rt: &HostRuntime, name: &str, seed: u64) -> io::Result<()> {
     let file = fs::read(rt, name)?;
     for cache in CACHES {
