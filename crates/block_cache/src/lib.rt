@@ -26,6 +26,3 @@ pub use laws::{
     dirty_blocks_stay, older_grants_do_nothing, other_blocks_stay, reads_are_whole,
     written_bytes_are_read,
 };
-
-#[cfg(test)]
-mod tests;

@@ -94,7 +94,7 @@ fn reading(
 // Bytes in the source, bytes per read, number of the read that fails, limit, answer, bytes left in the source.
 type ReadRow = (usize, usize, u64, usize, Result<usize, ReadEnd>, usize);
 
-const READS: [ReadRow; 19] = [
+static READS: [ReadRow; 19] = [
     (0, 1, 0, 0, Ok(0), 0),
     (0, 1, 1, 0, Err(FAULT), 0),
     (10, 1, 0, 10, Ok(10), 0),
@@ -197,7 +197,7 @@ fn writing(
 // Bytes to write, room, bytes per write, number of the write that fails, whether all are written, bytes in the sink.
 type WriteRow = (usize, usize, usize, u64, bool, usize);
 
-const WRITES: [WriteRow; 18] = [
+static WRITES: [WriteRow; 18] = [
     (0, 0, 1, 1, true, 0),
     (33, 1000, 10, 0, true, 33),
     (33, 1000, 10, 1, false, 0),

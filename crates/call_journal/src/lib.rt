@@ -10,6 +10,3 @@ mod trace;
 pub use closed::Closed;
 pub use laws::{journals_grow, look_backs_grow, pasts_are_told, units_never_fall};
 pub use trace::Trace;
-
-#[cfg(test)]
-mod tests;

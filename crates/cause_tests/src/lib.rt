@@ -1,6 +1,8 @@
 //! Small traces, right ones and wrong ones, of which `cause_judge` tells whether a server is called unreachable only for a cause (this
-//! project).
+//! project), and a trace whose records and units are counted.
 #![tactic(auto)]
 
 #[cfg(test)]
 mod tests;
+#[cfg(test)]
+mod traces;

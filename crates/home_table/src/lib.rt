@@ -9,6 +9,3 @@ mod home;
 pub use birth::{Birth, Life};
 pub use end::{HomeEnd, WaitAnswer};
 pub use home::Home;
-
-#[cfg(test)]
-mod tests;

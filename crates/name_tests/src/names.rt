@@ -35,7 +35,7 @@ enum Step {
 }
 
 // Calls on names in which other domains hang at `/m/n` and `/z`.
-const STEPS: [(Step, Told); 55] = [
+static STEPS: [(Step, Told); 55] = [
     (Step::Find(b"/"), Told::Dir),
     (Step::Find(b"/m"), Told::Dir),
     (Step::Find(b"/m/n"), Told::Redirect(b"/m/n")),
@@ -100,7 +100,7 @@ const STEPS: [(Step, Told); 55] = [
 ];
 
 // Two places where others hang, and why they can't: the second lies below the first, is above it, is there, or is the root.
-const LINKS: [(&[u8], &[u8], Told); 4] = [
+static LINKS: [(&[u8], &[u8], Told); 4] = [
     (b"/z", b"/z/y", Told::Redirect(b"/z")),
     (b"/z/y", b"/z", Told::Refused(Errno::Exists)),
     (b"/z", b"/z", Told::Redirect(b"/z")),
@@ -108,7 +108,7 @@ const LINKS: [(&[u8], &[u8], Told); 4] = [
 ];
 
 // What a directory with 256 entries takes no more.
-const FULL: [(Step, Told); 9] = [
+static FULL: [(Step, Told); 9] = [
     (Step::MakeDir(b"/d"), Told::Done),
     (Step::MakeFile(b"/f", 1), Told::Done),
     (Step::Fill, Told::Done),

@@ -7,6 +7,3 @@ mod prefixes;
 
 pub use laws::{known_keep_places, longest_is_longest, none_matches, other_servers_stay};
 pub use prefixes::{Domain, Prefixes};
-
-#[cfg(test)]
-mod tests;

@@ -9,6 +9,3 @@ mod end;
 pub use ask::{Answer, Ask};
 pub use device::Device;
 pub use end::{PutEnd, TakeEnd};
-
-#[cfg(test)]
-mod tests;

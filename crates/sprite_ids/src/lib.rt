@@ -23,6 +23,3 @@ pub use names::{AskKind, BlockNo, CopyNo, DeviceId, FileId, Mode, Object, Stream
 pub use no_memory::NoMemory;
 pub use pid::Pid;
 pub use running::{Ending, Finish, Tries};
-
-#[cfg(test)]
-mod tests;

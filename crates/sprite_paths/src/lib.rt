@@ -11,6 +11,3 @@ pub use laws::{
 };
 pub use path::Path;
 pub use path_end::PathEnd;
-
-#[cfg(test)]
-mod tests;

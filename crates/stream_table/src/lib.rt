@@ -12,6 +12,3 @@ mod streams;
 pub use end::StreamEnd;
 pub use stream::{Carried, Place, Stream};
 pub use streams::Streams;
-
-#[cfg(test)]
-mod tests;

@@ -25,7 +25,7 @@ struct Run {
     goal: u32,
 }
 
-const RUNS: [Run; 8] = [
+static RUNS: [Run; 8] = [
     Run {
         way: Way::Threads,
         goal: 0,
@@ -69,7 +69,7 @@ struct Script {
     kernels: [u8; 8],
 }
 
-const SCRIPTS: [Script; 4] = [
+static SCRIPTS: [Script; 4] = [
     Script {
         way: Way::Rounds,
         goal: 8,

@@ -16,6 +16,3 @@ pub use book::Book;
 pub use gate::Gate;
 pub use seat::{Seat, Turn};
 pub use view::View;
-
-#[cfg(test)]
-mod tests;

@@ -7,6 +7,3 @@ mod delays;
 
 pub use delayed_block::DelayedBlock;
 pub use delays::Delays;
-
-#[cfg(test)]
-mod tests;

@@ -2,13 +2,13 @@ ghost use Rattle.std.specs.Prelude.{◌≡◌, ◌≤◌, All, IfOk, map};
 ghost use Rattle.turn_gate.specs.Steps.{Grows, Later};
 ghost use Rattle.turn_gate.specs.Ended.{IsAll};
 
-use crate::{Book, Gate, Seat};
 use std::alloc::{AllocError, Global};
 use std::process::Abort;
 use std::sync::Wait;
 use std::test::Fail;
 use std::thread;
 use std::thread::Threads;
+use turn_gate::{Book, Gate, Seat};
 
 // Numbered lines under one title, each with the seat that wrote it.
 #[derive(Drop)]

@@ -1,6 +1,6 @@
 use Rattle.std.proofs.Common.{◌∙◌}
 use Rattle.turn_gate.proofs.TurnLaws.{later_on}
-use Rattle.turn_gate.proofs.tests.serve.Goals as goal
+use Rattle.threads_tests.proofs.gate.serve.Goals as goal
 
 pub loop-line-preserved : goal.loop-line-preserved
 loop-line-preserved g c =

@@ -1,11 +1,10 @@
-use crate::path::Path;
-use crate::path_end::PathEnd;
 use sprite_ids::{Copying, NoMemory};
+use sprite_paths::{Path, PathEnd};
 use std::alloc::Global;
 use std::test::Fail;
 
 // A text, and what it is cleaned into from /a/b; `BadName` where it is none.
-const CLEANED: [(&[u8], &[u8]); 28] = [
+static CLEANED: [(&[u8], &[u8]); 28] = [
     (b"/", b"/"),
     (b"//", b"/"),
     (b"/.", b"/"),
@@ -38,7 +37,7 @@ const CLEANED: [(&[u8], &[u8]); 28] = [
 
 // The text of a path and of a prefix, and the text of what the path has behind the prefix; none where it doesn't begin
 // with it.
-const PREFIXES: [(&[u8], &[u8], &[u8]); 11] = [
+static PREFIXES: [(&[u8], &[u8], &[u8]); 11] = [
     (b"/", b"/", b"/"),
     (b"/a", b"/", b"/a"),
     (b"/", b"/a", b""),
@@ -55,7 +54,7 @@ const PREFIXES: [(&[u8], &[u8], &[u8]); 11] = [
 // A limit: the text of a cwd as a piece so many times, and a head and a piece of which so many are the most of a path
 // from there. They are the bytes of a part, the parts, the parts below a cwd of 16, and the bytes of a part below a cwd
 // whose text has 231.
-const LIMITS: [(&[u8], usize, &[u8], &[u8], usize); 4] = [
+static LIMITS: [(&[u8], usize, &[u8], &[u8], usize); 4] = [
     (b"/", 1, b"/", b"x", 32),
     (b"/", 1, b"", b"/x", 16),
     (b"/p", 16, b".", b"/x", 0),
@@ -64,7 +63,7 @@ const LIMITS: [(&[u8], usize, &[u8], &[u8], usize); 4] = [
 
 // Pieces and a tail, and whether so many pieces and the tail are a path text: 255 bytes are, and 256 are not, whatever
 // `..` drops.
-const TEXTS: [(&[u8], usize, &[u8], bool); 4] = [
+static TEXTS: [(&[u8], usize, &[u8], bool); 4] = [
     (b"/", 255, b"", true),
     (b"/", 256, b"", false),
     (b"/..", 85, b"", true),

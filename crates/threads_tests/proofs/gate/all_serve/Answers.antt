@@ -2,7 +2,7 @@ use Rattle.std.proofs.Common.{rules, IfOk, subst, sym, Result, Ok, Err}
 use Rattle.std.specs.Prelude.{slice_index_or}
 use Rattle.turn_gate.specs.Steps.{Later}
 use Rattle.turn_gate.proofs.SeatLaws.{all_later}
-use Rattle.turn_gate.proofs.tests.all_serve.Goals as goal
+use Rattle.threads_tests.proofs.gate.all_serve.Goals as goal
 
 both : {T E : Type 0} (r : Result T E) (P Q R : T → Type 0) → IfOk r P → IfOk r Q → ((x : T) → P x → Q x → R x) → IfOk r R
 both (Ok x) P Q R p q f = f x p q

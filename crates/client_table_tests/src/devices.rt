@@ -1,7 +1,5 @@
-use crate::ask::{Answer, Ask};
-use crate::device::Device;
-use crate::end::{PutEnd, TakeEnd};
 use process_machine::Reply;
+use pseudo_device::{Answer, Ask, Device, PutEnd, TakeEnd};
 use sprite_ids::{AskKind, Bytes, Errno, Kernel, Pid};
 use std::alloc::Global;
 use std::test::Fail;
@@ -15,11 +13,13 @@ enum Step {
     Take(u32, Result<u32, TakeEnd>),
     // The number of the ask in hand, and the reply's first value.
     Put(&'static [u8], Option<Errno>, Result<(u32, u64), PutEnd>),
-    // How many asks come back, and whether the device is then alive.
-    DropMaster(usize, bool),
+    // The asks that come back, and whether the device is then alive.
+    DropMaster(&'static [u32], bool),
+    Alive(bool),
 }
 
-const STEPS: [Step; 28] = [
+static STEPS: [Step; 30] = [
+    Step::Alive(false),
     Step::AddMaster,
     Step::Take(100, Err(TakeEnd::Empty)),
     Step::Put(b"", None, Err(PutEnd::Invalid)),
@@ -44,10 +44,11 @@ const STEPS: [Step; 28] = [
     Step::Ask(AskKind::Write, 5, 0, b""),
     Step::Take(9, Ok(4)),
     Step::AddMaster,
-    Step::DropMaster(0, true),
+    Step::DropMaster(&[], true),
     Step::Put(b"y", None, Ok((4, 1))),
     Step::Take(0, Ok(5)),
     Step::Ask(AskKind::Write, 6, 0, b"z"),
+    Step::DropMaster(&[5, 6], false),
 ];
 
 // The ask of that call of process 1001.
@@ -85,46 +86,95 @@ fn is_answer(answer: &Answer, bytes: &[u8], errno: Option<Errno>, number: u32, v
 // Makes the call; true where it answers so.
 fn does(alloc: Global, device: &mut Device, step: Step) -> Result<bool, Fail> {
     match step {
-        Step::AddMaster => {
-            if !device.room() {
-                return Ok(false);
-            }
-            device.add_master();
-            Ok(device.alive())
-        }
-        Step::Ask(kind, number, length, bytes) => {
-            let ask = ask_of(alloc, kind, number, length, bytes)?;
-            if !device.alive() {
-                return Ok(false);
-            }
-            device.ask(ask)?;
-            Ok(true)
-        }
-        Step::Take(max, wanted) => match (device.take(max), wanted) {
-            (Ok(ask), Ok(number)) => Ok(ask.number == number),
-            (Err(end), Err(known)) => Ok(end == known),
-            _ => Ok(false),
-        },
-        Step::Put(bytes, errno, wanted) => match (device.put(bytes, errno), wanted) {
-            (Ok(answer), Ok((number, value))) => {
-                Ok(is_answer(&answer, bytes, errno, number, value))
-            }
-            (Err(end), Err(known)) => Ok(end == known),
-            _ => Ok(false),
-        },
-        Step::DropMaster(count, alive) => {
-            if !device.alive() {
-                return Ok(false);
-            }
-            let asks = device.drop_master()?;
-            Ok(asks.len() == count && device.alive() == alive)
-        }
+        Step::AddMaster => Ok(add_master(device)),
+        Step::Ask(kind, number, length, bytes) => ask(alloc, device, kind, number, length, bytes),
+        Step::Take(max, wanted) => Ok(take(device, max, wanted)),
+        Step::Put(bytes, errno, wanted) => Ok(put(device, bytes, errno, wanted)),
+        Step::DropMaster(numbers, alive) => drop_master(device, numbers, alive),
+        Step::Alive(wanted) => Ok(device.alive() == wanted),
     }
 }
 
+fn add_master(device: &mut Device) -> bool {
+    if !device.room() {
+        return false;
+    }
+    device.add_master();
+    device.alive()
+}
+
+fn ask(
+    alloc: Global,
+    device: &mut Device,
+    kind: AskKind,
+    number: u32,
+    length: u32,
+    bytes: &[u8],
+) -> Result<bool, Fail> {
+    if !device.alive() {
+        return Ok(false);
+    }
+    device.ask(ask_of(alloc, kind, number, length, bytes)?)?;
+    Ok(true)
+}
+
+fn take(device: &mut Device, max: u32, wanted: Result<u32, TakeEnd>) -> bool {
+    match device.take(max) {
+        Ok(ask) => wanted == Ok(ask.number),
+        Err(end) => wanted == Err(end),
+    }
+}
+
+fn put(
+    device: &mut Device,
+    bytes: &[u8],
+    errno: Option<Errno>,
+    wanted: Result<(u32, u64), PutEnd>,
+) -> bool {
+    match device.put(bytes, errno) {
+        Ok(answer) => is_wanted(&answer, bytes, errno, wanted),
+        Err(end) => wanted == Err(end),
+    }
+}
+
+fn is_wanted(
+    answer: &Answer,
+    bytes: &[u8],
+    errno: Option<Errno>,
+    wanted: Result<(u32, u64), PutEnd>,
+) -> bool {
+    match wanted {
+        Ok((number, value)) => is_answer(answer, bytes, errno, number, value),
+        Err(_) => false,
+    }
+}
+
+fn drop_master(device: &mut Device, numbers: &[u32], alive: bool) -> Result<bool, Fail> {
+    if !device.alive() {
+        return Ok(false);
+    }
+    let asks = device.drop_master()?;
+    Ok(are_numbered(asks.as_slice(), numbers) && device.alive() == alive)
+}
+
+// Whether the asks are those of these calls, in this order.
+fn are_numbered(asks: &[Ask], numbers: &[u32]) -> bool {
+    for at in 0..asks.len() {
+        if at >= numbers.len() || asks[at].number != numbers[at] {
+            return false;
+        }
+    }
+    asks.len() == numbers.len()
+}
+
 // The first step that answers otherwise.
-fn first_wrong(alloc: Global, device: &mut Device) -> Result<Option<usize>, Fail> {
-    for (at, step) in STEPS.iter().enumerate() {
+fn first_wrong(alloc: Global, steps: &[Step]) -> Result<Option<usize>, Fail> {
+    let mut device = Device::new(alloc);
+    judged(alloc, &mut device, steps)
+}
+
+fn judged(alloc: Global, device: &mut Device, steps: &[Step]) -> Result<Option<usize>, Fail> {
+    for (at, step) in steps.iter().enumerate() {
         if !does(alloc, device, *step)? {
             return Ok(Some(at));
         }
@@ -134,15 +184,7 @@ fn first_wrong(alloc: Global, device: &mut Device) -> Result<Option<usize>, Fail
 
 #[test]
 fn a_master_answers_asks_in_order(rt: HostRuntime) -> Result<(), Fail> {
-    let mut device = Device::new(rt.alloc());
-    assert!(rt; !device.alive());
-    assert_eq!(rt; first_wrong(rt.alloc(), &mut device)?, None);
-    if device.alive() {
-        let asks = device.drop_master()?;
-        assert_eq!(rt; asks.len(), 2);
-        assert!(rt; asks[0].number == 5 && asks[1].number == 6);
-    }
-    assert!(rt; !device.alive());
+    assert_eq!(rt; first_wrong(rt.alloc(), &STEPS)?, None);
     Ok(())
 }
 

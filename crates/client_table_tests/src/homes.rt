@@ -1,9 +1,9 @@
 ghost use Rattle.std.specs.Prelude.{◌≡◌, IfSome};
 ghost use Rattle.sprite_ids.specs.Pid.{home_of};
 
-use crate::end::{HomeEnd, WaitAnswer};
-use crate::home::Home;
+use home_table::{Home, HomeEnd, WaitAnswer};
 use sprite_ids::{Ending, Kernel, Pid};
+use std::alloc::Global;
 use std::test::Fail;
 
 // One call, with what it must answer. Processes are named by their births; 0 is none.
@@ -22,10 +22,15 @@ enum Step {
     // The number of its living parent.
     Parent(u32, u32),
     Tick(u64),
+    // Whether a process of it lives.
+    Lives(bool),
+    // So many processes more, after which there is room for none.
+    Fill(usize),
 }
 
 // Home 3: process 1 makes 2, moves, and makes 3 and 4; 2 makes 5.
-const STEPS: [Step; 37] = [
+static STEPS: [Step; 40] = [
+    Step::Lives(false),
     Step::Born(0, 3001),
     Step::Wait(1, 0, 0),
     Step::Born(1, 3002),
@@ -63,6 +68,8 @@ const STEPS: [Step; 37] = [
     Step::Parent(6, 0),
     Step::Tick(1),
     Step::Tick(2),
+    Step::Lives(true),
+    Step::Fill(195),
 ];
 
 // The process of that birth.
@@ -96,6 +103,16 @@ fn told(answer: WaitAnswer) -> (u32, u16) {
         WaitAnswer::NoChild => (0, 0),
         WaitAnswer::NotYet => (0, 1),
     }
+}
+
+// Makes so many processes; whether there is then room for none.
+fn fills(home: &mut Home, count: usize) -> bool {
+    for _ in 0..count {
+        if home.born(None).is_err() {
+            return false;
+        }
+    }
+    home.born(None) == Err(HomeEnd::TooMany)
 }
 
 // Whether the process stands so.
@@ -145,11 +162,18 @@ fn does(home: &mut Home, step: Step) -> bool {
             None => false,
         },
         Step::Tick(count) => home.room() && home.tick() == count,
+        Step::Lives(wanted) => home.lives() == wanted,
+        Step::Fill(count) => fills(home, count),
     }
 }
 
 // The first step that answers otherwise.
-fn first_wrong(home: &mut Home) -> Option<usize> {
+fn first_wrong(alloc: Global, kernel: Kernel) -> Option<usize> {
+    let mut home = Home::new(alloc, kernel);
+    judged(&mut home)
+}
+
+fn judged(home: &mut Home) -> Option<usize> {
     for (at, step) in STEPS.iter().enumerate() {
         if !does(home, *step) {
             return Some(at);
@@ -161,13 +185,6 @@ fn first_wrong(home: &mut Home) -> Option<usize> {
 #[test]
 fn a_home_keeps_its_processes(rt: HostRuntime) -> Result<(), Fail> {
     let kernel = Kernel::new(3).ok_or("kernel 3")?;
-    let mut home = Home::new(rt.alloc(), kernel);
-    assert!(rt; !home.lives());
-    assert_eq!(rt; first_wrong(&mut home), None);
-    assert!(rt; home.lives());
-    for _ in 5..200 {
-        home.born(None)?;
-    }
-    assert_eq!(rt; home.born(None), Err(HomeEnd::TooMany));
+    assert_eq!(rt; first_wrong(rt.alloc(), kernel), None);
     Ok(())
 }

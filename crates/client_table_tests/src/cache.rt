@@ -1,8 +1,8 @@
 ghost use Rattle.std.specs.Prelude.{◌≡◌};
 
-use crate::cache::Cache;
-use crate::filled::Filled;
+use block_cache::{Cache, Filled};
 use sprite_ids::{BlockNo, CallKind, FileId, Grant, Kernel, NoMemory};
+use std::alloc::Global;
 use std::test::Fail;
 
 // A call on the cache, with what it answers. Files go by their numbers at one server.
@@ -35,7 +35,7 @@ enum Act {
 }
 
 // A cache of four blocks.
-const ACTS: [Act; 36] = [
+static ACTS: [Act; 36] = [
     Act::State(1, None, false),
     Act::Grant(1, 1, (0, 0), 5_000, true, false, true),
     Act::State(1, Some((0, 5_000)), false),
@@ -83,24 +83,32 @@ const ACTS: [Act; 36] = [
 #[test]
 fn calls_answer_as_worked_out(rt: HostRuntime) -> Result<(), Fail> {
     let server = Kernel::new(2).ok_or("kernel 2")?;
-    let mut cache = Cache::new(rt.alloc(), 4)?;
-    assert_eq!(rt; first_wrong(&mut cache, &server, &ACTS)?, None);
+    assert_eq!(rt; first_wrong(rt.alloc(), &server, &ACTS)?, None);
     Ok(())
 }
 
 #[test]
 fn a_cache_without_room_is_full(rt: HostRuntime) -> Result<(), Fail> {
-    let cache = Cache::new(rt.alloc(), 0)?;
-    assert!(rt; cache.size() == 0 && cache.full());
+    assert!(rt; is_full_at_once(rt.alloc())?);
     Ok(())
 }
 
+fn is_full_at_once(alloc: Global) -> Result<bool, NoMemory> {
+    let cache = Cache::new(alloc, 0)?;
+    Ok(is_full(&cache))
+}
+
+fn is_full(cache: &Cache) -> bool {
+    cache.size() == 0 && cache.full()
+}
+
 // The place of the first call that answers otherwise.
-fn first_wrong(
-    cache: &mut Cache,
-    server: &Kernel,
-    acts: &[Act],
-) -> Result<Option<usize>, NoMemory> {
+fn first_wrong(alloc: Global, server: &Kernel, acts: &[Act]) -> Result<Option<usize>, NoMemory> {
+    let mut cache = Cache::new(alloc, 4)?;
+    judged(&mut cache, server, acts)
+}
+
+fn judged(cache: &mut Cache, server: &Kernel, acts: &[Act]) -> Result<Option<usize>, NoMemory> {
     for place in 0..acts.len() {
         if !answers(cache, server, &acts[place])? {
             return Ok(Some(place));

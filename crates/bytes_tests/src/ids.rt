@@ -1,11 +1,6 @@
 ghost use Rattle.std.specs.Prelude.{◌<◌, ◌↔◌, IsTrue};
 
-use crate::bytes::Bytes;
-use crate::copying::Copying;
-use crate::errno::Errno;
-use crate::items::Items;
-use crate::kernel::Kernel;
-use crate::pid::Pid;
+use sprite_ids::{Bytes, Copying, Errno, Items, Kernel, Pid};
 use std::test::Fail;
 
 // Kernels are ordered by number.

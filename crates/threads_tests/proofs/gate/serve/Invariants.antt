@@ -1,6 +1,6 @@
 use Rattle.std.proofs.Common.{◌≡◌}
 use Rattle.turn_gate.specs.Steps.{Later}
-use Rattle.turn_gate.proofs.tests.serve.Given as goal
+use Rattle.threads_tests.proofs.gate.serve.Given as goal
 
 abbrev pub invariant-loop-line : goal.invariant-loop-line
 invariant-loop-line g l = record {

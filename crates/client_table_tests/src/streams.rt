@@ -1,11 +1,10 @@
 ghost use Rattle.std.specs.Prelude.{◌≡◌, IsTrue, IfSome};
 ghost use Rattle.stream_table.specs.Entries.{is_placed};
 
-use crate::end::StreamEnd;
-use crate::stream::{Carried, Place, Stream};
-use crate::streams::Streams;
 use sprite_ids::{DeviceId, FileId, Kernel, Mode, Object, Pid, StreamNo};
+use std::alloc::Global;
 use std::test::Fail;
+use stream_table::{Carried, Place, Stream, StreamEnd, Streams};
 
 // One call, with what it must answer. Processes are 1001, 1002 and so on, streams of kernel 1 are named by their numbers;
 // stream 9 is of a device, any other of a file.
@@ -24,9 +23,12 @@ enum Step {
     Move(u32, u32),
     // The place of the stream; None where it isn't here.
     At(u32, Option<Place>),
+    // Process 1001 comes, and goes, with its three descriptors.
+    Arrive,
+    Leave,
 }
 
-const STEPS: [Step; 44] = [
+static STEPS: [Step; 62] = [
     Step::At(5, None),
     Step::Get(1, 0, 0),
     Step::Dup(1, 0, Err(StreamEnd::BadFd)),
@@ -71,6 +73,34 @@ const STEPS: [Step; 44] = [
     Step::Unlock(8),
     Step::Lock(8, 4, true),
     Step::At(5, Some(Place::Local(0))),
+    Step::Add(7, 5, Ok(0)),
+    Step::Add(7, 5, Ok(1)),
+    Step::Add(7, 5, Ok(2)),
+    Step::Add(7, 5, Ok(3)),
+    Step::Add(7, 5, Ok(4)),
+    Step::Add(7, 5, Ok(5)),
+    Step::Add(7, 5, Ok(6)),
+    Step::Add(7, 5, Ok(7)),
+    Step::Add(7, 5, Ok(8)),
+    Step::Add(7, 5, Ok(9)),
+    Step::Add(7, 5, Ok(10)),
+    Step::Add(7, 5, Ok(11)),
+    Step::Add(7, 5, Ok(12)),
+    Step::Add(7, 5, Ok(13)),
+    Step::Add(7, 5, Ok(14)),
+    Step::Add(7, 5, Ok(15)),
+    Step::Add(7, 5, Err(StreamEnd::TooMany)),
+    Step::Dup(7, 15, Err(StreamEnd::TooMany)),
+];
+
+// At its new place stream 5 was here before, with one grant: it has the grants of both, and the place that it came with.
+static MOVED: [Step; 6] = [
+    Step::Add(2, 5, Ok(0)),
+    Step::Arrive,
+    Step::At(5, Some(Place::Shared)),
+    Step::Leave,
+    Step::At(6, None),
+    Step::At(5, Some(Place::Shared)),
 ];
 
 // A stream of a file of kernel 2, or the device's.
@@ -136,6 +166,8 @@ fn does(streams: &mut Streams, step: Step) -> Option<bool> {
             Some(stream) => place == Some(stream.place),
             None => place.is_none(),
         },
+        Step::Arrive => arrives(streams, process(1)?)?,
+        Step::Leave => leaves(streams, process(1)?),
     })
 }
 
@@ -151,8 +183,13 @@ fn moves(streams: &mut Streams, number: &StreamNo, place: Place) -> bool {
 }
 
 // The first step that answers otherwise.
-fn first_wrong(streams: &mut Streams) -> Option<usize> {
-    for (at, step) in STEPS.iter().enumerate() {
+fn first_wrong(alloc: Global, steps: &[Step]) -> Option<usize> {
+    let mut streams = Streams::new(alloc);
+    judged(&mut streams, steps)
+}
+
+fn judged(streams: &mut Streams, steps: &[Step]) -> Option<usize> {
+    for (at, step) in steps.iter().enumerate() {
         if does(streams, *step) != Some(true) {
             return Some(at);
         }
@@ -162,14 +199,13 @@ fn first_wrong(streams: &mut Streams) -> Option<usize> {
 
 #[test]
 fn descriptors_lead_to_streams(rt: HostRuntime) -> Result<(), Fail> {
-    let mut streams = Streams::new(rt.alloc());
-    assert_eq!(rt; first_wrong(&mut streams), None);
-    for fd in 0..16 {
-        assert_eq!(rt; does(&mut streams, Step::Add(7, 5, Ok(fd))), Some(true));
-    }
-    let full = Err(StreamEnd::TooMany);
-    assert_eq!(rt; does(&mut streams, Step::Add(7, 5, full)), Some(true));
-    assert_eq!(rt; does(&mut streams, Step::Dup(7, 15, full)), Some(true));
+    assert_eq!(rt; first_wrong(rt.alloc(), &STEPS), None);
+    Ok(())
+}
+
+#[test]
+fn streams_move_with_a_process(rt: HostRuntime) -> Result<(), Fail> {
+    assert_eq!(rt; first_wrong(rt.alloc(), &MOVED), None);
     Ok(())
 }
 
@@ -234,18 +270,4 @@ fn leaves(streams: &mut Streams, pid: Pid) -> bool {
         Ok(taken) => are_carried(taken.as_slice()),
         Err(_) => false,
     }
-}
-
-// At its new place stream 5 was here before, with one grant: it has the grants of both, and the place that it came with.
-#[test]
-fn streams_move_with_a_process(rt: HostRuntime) -> Result<(), Fail> {
-    let mut streams = Streams::new(rt.alloc());
-    let pid = process(1).ok_or("process 1001")?;
-    assert!(rt; does(&mut streams, Step::Add(2, 5, Ok(0))) == Some(true));
-    assert!(rt; arrives(&mut streams, pid) == Some(true));
-    assert!(rt; does(&mut streams, Step::At(5, Some(Place::Shared))) == Some(true));
-    assert!(rt; leaves(&mut streams, pid));
-    assert!(rt; does(&mut streams, Step::At(6, None)) == Some(true));
-    assert!(rt; does(&mut streams, Step::At(5, Some(Place::Shared))) == Some(true));
-    Ok(())
 }

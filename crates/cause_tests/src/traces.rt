@@ -1,4 +1,4 @@
-use crate::Trace;
+use call_journal::Trace;
 use process_machine::{Call, Reply};
 use sprite_ids::{Bytes, Kernel, NoMemory, Pid};
 use std::alloc::Global;
