@@ -1,0 +1,5 @@
+use Rattle.sprite_cluster.specs.Logs.{Holds}
+use Rattle.cases.proofs.chance.run_by_chance.Given as goal
+
+abbrev pub invariant-loop-turn : goal.invariant-loop-turn
+invariant-loop-turn g l = Holds g.L.Link.faults g.L.Link.asked l.cluster.description l.cluster.closed l.cluster.begun.value l.cluster.wire l.cluster.trace

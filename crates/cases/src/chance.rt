@@ -1,0 +1,176 @@
+ghost use Rattle.std.specs.Prelude.{◌≡◌, ◌≤◌, IfOk, IfSome, OnErr, OnOk};
+ghost use Rattle.kernel_threads.specs.Steps.{IsAmong};
+ghost use Rattle.sprite_cluster.specs.Finishing.{stands_so};
+ghost use Rattle.sprite_cluster.specs.Logs.{Holds};
+
+use cluster_bursts::{Job, run_job};
+use kernel_threads::Stepped;
+use link_plan::Link;
+use rand_core::SeedableRng;
+use rand_core::utils::NextWord;
+use rand_pcg::Lcg64Xsh32;
+use sprite_cluster::Cluster;
+use sprite_ids::{Finish, Kernel, NoMemory};
+use std::alloc::Global;
+
+/// How many turns a run takes at most.
+const TURNS: u32 = 8_000_000;
+
+/// After how many turns on the average another kernel is starved.
+const STARVED: u32 = 128;
+
+/// A burst that has begun and isn't ended yet.
+#[derive(Drop)]
+struct Held {
+    kernel: Kernel,
+    job: Job,
+}
+
+/// What happens next by chance.
+#[derive(Drop)]
+struct Chance {
+    words: Lcg64Xsh32,
+    /// The number of the kernel that gets no turn for a while.
+    starved: u8,
+    held: Vec<Held>,
+}
+
+/// Runs the cluster of so many kernels until it isn't `Running` any more, or for as many turns as are made at most. In a turn a kernel is
+/// drawn, by a generator (PCG32, made by that seed); for a while one kernel gets no turn. Then one of its choices happens, whichever is
+/// drawn, or a burst of it begins, or one that has begun before ends, so bursts of many processes are out while others go on.
+pub fn run_by_chance<L: Link>(
+    alloc: Global,
+    cluster: Cluster<L>,
+    kernels: u8,
+    seed: u64,
+) -> Cluster<L>
+    requires holds { Holds L.faults L.asked cluster.description cluster.closed cluster.begun.value cluster.wire cluster.trace }
+    requires few { (1 ≤ kernels) × (kernels ≤ 16) }
+    ensures { Holds L.faults L.asked result.description result.closed result.begun.value result.wire result.trace }
+{
+    let mut cluster = cluster;
+    let mut chance = Chance {
+        words: Lcg64Xsh32::seed_from_u64(seed),
+        starved: 0,
+        held: Vec::new(alloc),
+    };
+    for _turn in 0..TURNS {
+        if Stepped::finish(&mut cluster, alloc) != Finish::Running {
+            return cluster;
+        }
+        if !take_turn(alloc, &mut cluster, kernels, &mut chance) {
+            return cluster;
+        }
+    }
+    cluster
+}
+
+// A turn by chance. False where memory is wanting.
+fn take_turn<L: Link>(
+    alloc: Global,
+    cluster: &mut Cluster<L>,
+    kernels: u8,
+    chance: &mut Chance,
+) -> bool
+    requires holds { Holds L.faults L.asked cluster.old.description cluster.old.closed cluster.old.begun.value cluster.old.wire cluster.old.trace }
+    requires running { stands_so cluster.old.closed cluster.old.description cluster.old.trace cluster.old.wire.machine cluster.old.state ≡ Finish.Running }
+    requires few { (1 ≤ kernels) × (kernels ≤ 16) }
+    ensures { Holds L.faults L.asked cluster.new.description cluster.new.closed cluster.new.begun.value cluster.new.wire cluster.new.trace }
+{
+    let kernel = chance.drawn_kernel(kernels);
+    if chance.starves(kernel) {
+        return true;
+    }
+    let word = chance.words.next_word();
+    match word % 4 {
+        0 => begin(alloc, cluster, kernel, chance),
+        1 => end(alloc, cluster, chance),
+        _ => step(alloc, cluster, kernel, word / 4),
+    }
+}
+
+impl Chance {
+    // One of so many kernels.
+    fn drawn_kernel(&mut self, kernels: u8) -> Kernel
+        requires { (1 ≤ kernels) × (kernels ≤ 16) }
+    {
+        let place = self.words.next_word() % u32::from(kernels);
+        match Kernel::new(1 + place as u8) {
+            Some(kernel) => kernel,
+            None => unreachable!(),
+        }
+    }
+
+    // Whether the drawn kernel gets no turn now. Now and then it is the next one that gets none for a while.
+    fn starves(&mut self, kernel: Kernel) -> bool {
+        if self.words.next_word() % STARVED == 0 {
+            self.starved = kernel.number();
+        }
+        self.starved == kernel.number()
+    }
+}
+
+// The kernel's choice at the word's place, modulo their number, happens. False where memory is wanting.
+fn step<V: Stepped>(alloc: Global, value: &mut V, kernel: Kernel, word: u32) -> bool
+    requires holds { V.holds value.old }
+    requires running { V.finish_of value.old ≡ Finish.Running }
+    ensures { V.holds value.new }
+{
+    match drawn_choice(alloc, value, kernel, word) {
+        Ok(Some(choice)) => value.step(alloc, kernel, choice).is_ok(),
+        Ok(None) => true,
+        Err(NoMemory) => false,
+    }
+}
+
+// The kernel's choice at the word's place, modulo their number, where it has one. The one error is want of memory.
+fn drawn_choice<V: Stepped>(
+    alloc: Global,
+    value: &mut V,
+    kernel: Kernel,
+    word: u32,
+) -> Result<Option<V::Choice>, NoMemory>
+    requires holds { V.holds value.old }
+    requires running { V.finish_of value.old ≡ Finish.Running }
+    ensures among { IfOk result (λ choice. IfSome choice (λ c. IsAmong c (V.choices_at value.old kernel))) }
+    ensures ok { OnOk result (value.new ≡ value.old) }
+    ensures err { OnErr result (V.holds value.new) }
+{
+    let choices = value.choices(alloc, kernel)?;
+    if choices.is_empty() {
+        return Ok(None);
+    }
+    Ok(Some(*choices.at(word as usize % choices.len())))
+}
+
+// A burst of the kernel begins, where a process of it can run, and is held. False where memory is wanting.
+fn begin<L: Link>(
+    alloc: Global,
+    cluster: &mut Cluster<L>,
+    kernel: Kernel,
+    chance: &mut Chance,
+) -> bool
+    requires holds { Holds L.faults L.asked cluster.old.description cluster.old.closed cluster.old.begun.value cluster.old.wire cluster.old.trace }
+    requires running { stands_so cluster.old.closed cluster.old.description cluster.old.trace cluster.old.wire.machine cluster.old.state ≡ Finish.Running }
+    ensures { Holds L.faults L.asked cluster.new.description cluster.new.closed cluster.new.begun.value cluster.new.wire cluster.new.trace }
+{
+    match Stepped::begin_burst(cluster, alloc, kernel) {
+        Ok(Some(job)) => chance.held.push(Held { kernel, job }).is_ok(),
+        Ok(None) => true,
+        Err(NoMemory) => false,
+    }
+}
+
+// A burst that is held ends, whichever is drawn. False where memory is wanting.
+fn end<L: Link>(alloc: Global, cluster: &mut Cluster<L>, chance: &mut Chance) -> bool
+    requires holds { Holds L.faults L.asked cluster.old.description cluster.old.closed cluster.old.begun.value cluster.old.wire cluster.old.trace }
+    requires running { stands_so cluster.old.closed cluster.old.description cluster.old.trace cluster.old.wire.machine cluster.old.state ≡ Finish.Running }
+    ensures { Holds L.faults L.asked cluster.new.description cluster.new.closed cluster.new.begun.value cluster.new.wire cluster.new.trace }
+{
+    if chance.held.is_empty() {
+        return true;
+    }
+    let place = chance.words.next_word() as usize % chance.held.len();
+    let Held { kernel, job } = chance.held.swap_remove(place);
+    Stepped::end_burst(cluster, alloc, kernel, run_job(job)).is_ok()
+}

@@ -1,0 +1,90 @@
+//! Judges texts of a cluster file and a history, which lie in `histories`, by the word `check`, and prints of each its name, the exit
+//! status and the line that is written. Their verdicts come from an independent reading of the rules (this project).
+
+use crate::files::case_file;
+use crate::top::{Left, SOUND, called};
+use kernel_threads::NoWatch;
+use sprite_ids::NoMemory;
+use std::io;
+use std::sync::Wait;
+use std::thread::Threads;
+
+/// The files.
+const CASES: [&str; 49] = [
+    "answer-before-master-ends",
+    "cluster-before-body",
+    "dead-device",
+    "death",
+    "death-before-kill",
+    "first-entry-missing",
+    "last-line-dropped",
+    "legal",
+    "no-separator",
+    "no-separator-before-other-refusals",
+    "no-such-call",
+    "stale-read",
+    "steps",
+    "unknown-word-on-second-line",
+    "unreachable",
+    "wrong-value",
+    "legal-1",
+    "legal-2",
+    "legal-3",
+    "legal-4",
+    "legal-5",
+    "legal-6",
+    "legal-7",
+    "legal-8",
+    "legal-9",
+    "legal-10",
+    "legal-11",
+    "legal-12",
+    "legal-13",
+    "legal-14",
+    "legal-15",
+    "legal-16",
+    "legal-17",
+    "legal-18",
+    "legal-19",
+    "legal-20",
+    "legal-21",
+    "legal-22",
+    "wrong-number",
+    "wrong-first",
+    "wrong-second",
+    "wrong-dropped",
+    "wrong-refused",
+    "wrong-other-errno",
+    "wrong-death",
+    "wrong-swapped",
+    "wrong-twice",
+    "wrong-shorter",
+    "wrong-not-refused",
+];
+
+/// Prints what comes of each file. It fails where one can't be read, or where the output fails.
+pub fn print_all<R: Threads + Wait + Sync>(rt: &HostRuntime, threads: &R) -> io::Result<()> {
+    for name in CASES {
+        print_case(rt, threads, name)?;
+    }
+    Ok(())
+}
+
+/// Prints what comes of a file. It fails where the file can't be read, or where the output fails.
+fn print_case<R: Threads + Wait + Sync>(
+    rt: &HostRuntime,
+    threads: &R,
+    name: &str,
+) -> io::Result<()> {
+    let text = case_file(rt, "histories", name)?;
+    match called(threads, rt.alloc(), &["check"], text, SOUND, &NoWatch) {
+        Ok(left) => print_left(rt, name, &left),
+        Err(NoMemory) => println!(rt; "{name} out of memory"),
+    }
+}
+
+fn print_left(rt: &HostRuntime, name: &str, left: &Left) -> io::Result<()> {
+    let status = left.status.number();
+    let line = left.written.as_str();
+    print!(rt; "{name} {status} {line}")
+}

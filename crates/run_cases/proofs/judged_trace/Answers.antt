@@ -1,5 +1,0 @@
-use Rattle.cluster_file.proofs.LawfulLaws.{described_is_lawful}
-use Rattle.run_cases.proofs.judged_trace.Goals as goal
-
-pub judge_run-requires-clause-lawful : goal.judge_run-requires-clause-lawful
-judge_run-requires-clause-lawful c = described_is_lawful c.args.cluster.now c.in-Ok.description c.in-Ok.ensures.described
