@@ -1,4 +1,4 @@
-ghost use Rattle.std.specs.Prelude.{◌≤◌};
+ghost use Rattle.std.specs.Prelude.{◌<◌, ◌≤◌};
 
 mod answers;
 mod calls;
@@ -15,8 +15,13 @@ use std::process::Abort;
 
 const MAX: u64 = 18446744073709551615;
 
-fn register(number: u8) -> Result<Register, NoMemory> {
-    Register::new(number).ok_or(NoMemory)
+fn register(number: u8) -> Register
+    requires { number < 8 }
+{
+    match Register::new(number) {
+        Some(register) => register,
+        None => unreachable!(),
+    }
 }
 
 fn bytes(alloc: Global, text: &[u8]) -> Result<Bytes, NoMemory> {
@@ -36,17 +41,17 @@ fn coded(alloc: Global, code: &[Instruction]) -> Result<Program, NoMemory> {
 }
 
 // A page that begins with `abcdefgh`.
-fn lettered() -> [u8; 4096] {
-    let mut page = [b'-'; 4096];
-    page[..8].copy_from_slice(b"abcdefgh");
-    page
+fn lettered(alloc: Global) -> Result<Bytes, NoMemory> {
+    let mut page = bytes(alloc, b"abcdefgh")?;
+    page.append(&[b'-'; 4088])?;
+    Ok(page)
 }
 
 // A page that is filled with the letter, one that begins with `abcdefgh` for `*`, and none for `-`.
 fn page(alloc: Global, letter: u8) -> Result<Option<Bytes>, NoMemory> {
     match letter {
         b'-' => Ok(None),
-        b'*' => Ok(Some(bytes(alloc, &lettered())?)),
+        b'*' => Ok(Some(lettered(alloc)?)),
         _ => Ok(Some(bytes(alloc, &[letter; 4096])?)),
     }
 }
@@ -87,28 +92,34 @@ fn loaded(
 trait Row {
     fn load(&self, alloc: Global) -> Result<Machine, NoMemory>;
     // Whether it goes on as the row says.
-    fn goes(&self, alloc: Global, machine: &mut Machine) -> Result<bool, NoMemory>;
+    fn goes(&self, alloc: Global, machine: &mut Machine) -> bool;
 }
 
-fn holds<R: Row>(alloc: Global, row: &R) -> Result<bool, NoMemory> {
-    let mut machine = row.load(alloc)?;
-    row.goes(alloc, &mut machine)
+fn holds<R: Row>(alloc: Global, row: &R) -> bool {
+    match row.load(alloc) {
+        Ok(mut machine) => row.goes(alloc, &mut machine),
+        Err(_) => false,
+    }
 }
 
 // The place of the first row that doesn't hold.
-fn first_other<R: Row>(alloc: Global, rows: &[R]) -> Result<Option<usize>, NoMemory> {
+fn first_other<R: Row>(alloc: Global, rows: &[R]) -> Option<usize> {
     for (place, row) in rows.iter().enumerate() {
-        if !holds(alloc, row)? {
-            return Ok(Some(place));
+        if !holds(alloc, row) {
+            return Some(place);
         }
     }
-    Ok(None)
+    None
+}
+
+// Asserts that no row is another, and tells the place of the one that is.
+fn is_none(rt: &impl Abort, other: Option<usize>) {
+    assert_eq!(rt; other, None);
 }
 
 // Asserts that all rows hold; where they don't, the place of the first one that doesn't is told.
-fn all_hold<R: Row>(rt: &impl Abort, alloc: Global, rows: &[R]) -> Result<(), NoMemory> {
-    assert_eq!(rt; first_other(alloc, rows)?, None);
-    Ok(())
+fn all_hold<R: Row>(rt: &impl Abort, alloc: Global, rows: &[R]) {
+    is_none(rt, first_other(alloc, rows));
 }
 
 // A burst of at most that many instructions, 1 to 10,000.
@@ -118,20 +129,42 @@ fn run(machine: &mut Machine, limit: u32) -> (u32, BurstEnd)
     burst(&machine.program, &mut machine.image, limit)
 }
 
-// Whether the first two pages are filled with these letters, but for these four bytes, from 4094 on.
-fn has_across(image: &Image, letters: [u8; 2], text: [u8; 4]) -> bool {
-    let mut first = [letters[0]; 4096];
-    first[4094] = text[0];
-    first[4095] = text[1];
-    let mut second = [letters[1]; 4096];
-    second[0] = text[2];
-    second[1] = text[3];
-    image.page(0) == Some(first.as_slice()) && image.page(1) == Some(second.as_slice())
+// A text at an address.
+#[derive(Clone, Copy)]
+struct Lying<'a>(usize, &'a [u8]);
+
+// The byte at that address, where the text lies over pages that are filled with the letter.
+fn byte_at(letter: u8, text: Lying, address: usize) -> u8 {
+    match text.1.get(address.wrapping_sub(text.0)) {
+        Some(byte) => *byte,
+        None => letter,
+    }
+}
+
+// Whether these are the bytes of a page from that address on, where the text lies over pages that are filled with the letter.
+fn are_filled(bytes: &[u8], from: usize, letter: u8, text: Lying) -> bool {
+    for (place, byte) in bytes.iter().enumerate() {
+        if *byte != byte_at(letter, text, from.saturating_add(place)) {
+            return false;
+        }
+    }
+    bytes.len() == 4096
+}
+
+// Whether the first two pages are filled with these letters, but for the text.
+fn has_text(image: &Image, letters: [u8; 2], text: Lying) -> bool {
+    let (Some(first), Some(second)) = (image.page(0), image.page(1)) else {
+        return false;
+    };
+    are_filled(first, 0, letters[0], text) && are_filled(second, 4096, letters[1], text)
 }
 
 // Whether the page is there and filled with the letter.
 fn is_filled(image: &Image, page: u8, letter: u8) -> bool {
-    image.page(page) == Some([letter; 4096].as_slice())
+    match image.page(page) {
+        Some(bytes) => are_filled(bytes, 0, letter, Lying(0, b"")),
+        None => false,
+    }
 }
 
 // A system call with numbers for all its arguments.

@@ -1,10 +1,9 @@
 use super::{MAX, Machine, Row, all_hold, loaded, register};
 use process_machine::{
-    BurstEnd, Call, Image, Instruction, Operand, Program, Register, SyscallName, burst, call_of,
+    BurstEnd, Call, Instruction, Operand, Register, SyscallName, burst, call_of,
 };
 use sprite_ids::{Bytes, Copying, Errno, NoMemory};
 use std::alloc::Global;
-use std::test::Fail;
 
 /// What a call is to be.
 #[derive(Clone, Copy)]
@@ -17,122 +16,137 @@ pub enum Wanted {
     Refused(Option<Errno>),
 }
 
-fn is_wanted(alloc: Global, call: &Call, wanted: Wanted) -> Result<bool, NoMemory> {
+fn is_wanted(alloc: Global, call: &Call, wanted: Wanted) -> bool {
     match wanted {
-        Wanted::Named(name) => Ok(is_of_processes(call, name) && is_copied(alloc, call)?),
-        Wanted::Seek(fd, offset) => Ok(is_seek(call, fd, offset)),
-        Wanted::Refused(errno) => Ok(is_refused(call, errno)),
+        Wanted::Named(name) => {
+            name_of(call) == Some(name) && has_its_value(call) && is_copied(alloc, call)
+        }
+        Wanted::Seek(fd, offset) => is_seek(call, fd, offset),
+        Wanted::Refused(errno) => is_refused(call, errno),
     }
 }
 
-fn tells(alloc: Global, call: Result<Call, NoMemory>, wanted: Wanted) -> Result<bool, NoMemory> {
-    let call = call?;
-    is_wanted(alloc, &call, wanted)
-}
-
-fn stands_in(
-    alloc: Global,
-    program: &Program,
-    image: &mut Image,
-    wanted: Wanted,
-) -> Result<bool, NoMemory> {
-    match burst(program, image, 1) {
-        (0, BurstEnd::Call) => tells(alloc, call_of(alloc, program, image), wanted),
-        _ => Ok(false),
+fn tells(alloc: Global, call: Result<Call, NoMemory>, wanted: Wanted) -> bool {
+    match call {
+        Ok(call) => {
+            let is_so = is_wanted(alloc, &call, wanted);
+            drop(call);
+            is_so
+        }
+        Err(_) => false,
     }
 }
 
 /// Whether the machine stands at a call that is as it is to be.
-pub fn stands_at(alloc: Global, machine: &mut Machine, wanted: Wanted) -> Result<bool, NoMemory> {
-    stands_in(alloc, &machine.program, &mut machine.image, wanted)
+pub fn stands_at(alloc: Global, machine: &mut Machine, wanted: Wanted) -> bool {
+    match burst(&machine.program, &mut machine.image, 1) {
+        (0, BurstEnd::Call) => {
+            let call = call_of(alloc, &machine.program, &machine.image);
+            tells(alloc, call, wanted)
+        }
+        _ => false,
+    }
+}
+
+fn is_text(bytes: &Bytes, text: &[u8]) -> bool {
+    bytes.as_slice() == text
 }
 
 fn is_two(bytes: &Bytes) -> bool {
-    bytes.as_slice() == b"bc".as_slice()
+    is_text(bytes, b"bc")
 }
 
 fn is_three(bytes: &Bytes) -> bool {
-    bytes.as_slice() == b"cde".as_slice()
+    is_text(bytes, b"cde")
 }
 
 fn is_four(bytes: &Bytes) -> bool {
-    bytes.as_slice() == b"defg".as_slice()
+    is_text(bytes, b"defg")
 }
 
-// Whether it is the call of that name whose arguments are 1, 2, 3 and 4, in pages that begin with `abcdefgh`, where it names no
-// file.
-fn is_of_processes(call: &Call, name: SyscallName) -> bool {
+// The call's name, if it is a call that has one.
+fn name_of(call: &Call) -> Option<SyscallName> {
     match call {
-        Call::Print { bytes } => name == SyscallName::Print && is_two(bytes),
-        Call::Exit { code } => name == SyscallName::Exit && *code == 1,
-        Call::Getpid => name == SyscallName::Getpid,
-        Call::Getppid => name == SyscallName::Getppid,
-        Call::Host { max } => name == SyscallName::Host && *max == 2,
-        Call::Tick => name == SyscallName::Tick,
-        Call::Fork => name == SyscallName::Fork,
-        Call::Exec { name: program, arg } => {
-            name == SyscallName::Exec && is_two(program) && *arg == 3
-        }
-        Call::Wait => name == SyscallName::Wait,
-        Call::Kill { pid } => name == SyscallName::Kill && *pid == 1,
-        _ => is_of_hosts(call, name),
+        Call::Print { .. } => Some(SyscallName::Print),
+        Call::Exit { .. } => Some(SyscallName::Exit),
+        Call::Getpid => Some(SyscallName::Getpid),
+        Call::Getppid => Some(SyscallName::Getppid),
+        Call::Host { .. } => Some(SyscallName::Host),
+        Call::Tick => Some(SyscallName::Tick),
+        Call::Fork => Some(SyscallName::Fork),
+        Call::Exec { .. } => Some(SyscallName::Exec),
+        Call::Wait => Some(SyscallName::Wait),
+        Call::Kill { .. } => Some(SyscallName::Kill),
+        Call::OpenFile { .. } => Some(SyscallName::Open),
+        Call::Close { .. } => Some(SyscallName::Close),
+        Call::Dup { .. } => Some(SyscallName::Dup),
+        Call::Read { .. } => Some(SyscallName::Read),
+        Call::Write { .. } => Some(SyscallName::Write),
+        Call::Seek { .. } => Some(SyscallName::Seek),
+        Call::Size { .. } => Some(SyscallName::Size),
+        Call::Sync { .. } => Some(SyscallName::Sync),
+        Call::Stat { .. } => Some(SyscallName::Stat),
+        Call::Mkdir { .. } => Some(SyscallName::Mkdir),
+        Call::Rmdir { .. } => Some(SyscallName::Rmdir),
+        Call::Unlink { .. } => Some(SyscallName::Unlink),
+        Call::Rename { .. } => Some(SyscallName::Rename),
+        Call::List { .. } => Some(SyscallName::List),
+        Call::Chdir { .. } => Some(SyscallName::Chdir),
+        Call::Migrate { .. } => Some(SyscallName::Migrate),
+        Call::PdMake { .. } => Some(SyscallName::PdMake),
+        Call::PdGet { .. } => Some(SyscallName::PdGet),
+        Call::PdPut { .. } => Some(SyscallName::PdPut),
+        Call::Ioctl { .. } => Some(SyscallName::Ioctl),
+        Call::Rexec { .. } => Some(SyscallName::Rexec),
+        Call::Refused { .. } | Call::BadStep => None,
     }
 }
 
-// The same for the calls with the name of a kernel.
-fn is_of_hosts(call: &Call, name: SyscallName) -> bool {
+// Whether the call has the values of the arguments 1, 2, 3 and 4, in pages that begin with `abcdefgh`, if it has one value.
+fn has_its_value(call: &Call) -> bool {
     match call {
-        Call::Migrate { name: host } => name == SyscallName::Migrate && is_two(host),
-        Call::Rexec {
-            name: program,
-            host,
-        } => { name == SyscallName::Rexec && is_two(program) && is_four(host) }
-        _ => is_of_paths(call, name),
+        Call::Getpid | Call::Getppid | Call::Tick | Call::Fork | Call::Wait => true,
+        Call::Host { max } => *max == 2,
+        Call::Exit { code: number }
+        | Call::Kill { pid: number }
+        | Call::Close { fd: number }
+        | Call::Dup { fd: number }
+        | Call::Size { fd: number }
+        | Call::Sync { fd: number } => *number == 1,
+        Call::Print { bytes: text }
+        | Call::Stat { path: text }
+        | Call::Mkdir { path: text }
+        | Call::Rmdir { path: text }
+        | Call::Unlink { path: text }
+        | Call::Chdir { path: text }
+        | Call::Migrate { name: text }
+        | Call::PdMake { path: text } => is_two(text),
+        _ => has_its_values(call),
     }
 }
 
-// The same for the calls with paths.
-fn is_of_paths(call: &Call, name: SyscallName) -> bool {
+// The same for the calls with several values.
+fn has_its_values(call: &Call) -> bool {
     match call {
-        Call::OpenFile { path, flags } => {
-            name == SyscallName::Open && is_two(path) && *flags == 3
+        Call::Seek { fd, offset } => (*fd, *offset) == (1, 2),
+        Call::Read { fd, length } | Call::PdGet { fd, max: length } => (*fd, *length) == (1, 3),
+        Call::Exec {
+            name: text,
+            arg: number,
         }
-        Call::Stat { path } => name == SyscallName::Stat && is_two(path),
-        Call::Mkdir { path } => name == SyscallName::Mkdir && is_two(path),
-        Call::Rmdir { path } => name == SyscallName::Rmdir && is_two(path),
-        Call::Unlink { path } => name == SyscallName::Unlink && is_two(path),
-        Call::Rename { old, new } => { name == SyscallName::Rename && is_two(old) && is_four(new) }
-        Call::List { path, max } => { name == SyscallName::List && is_two(path) && *max == 4 }
-        Call::Chdir { path } => name == SyscallName::Chdir && is_two(path),
-        Call::PdMake { path } => name == SyscallName::PdMake && is_two(path),
-        _ => is_of_descriptors(call, name),
-    }
-}
-
-// The same for the calls with descriptors.
-fn is_of_descriptors(call: &Call, name: SyscallName) -> bool {
-    match call {
-        Call::Close { fd } => name == SyscallName::Close && *fd == 1,
-        Call::Dup { fd } => name == SyscallName::Dup && *fd == 1,
-        Call::Read { fd, length } => name == SyscallName::Read && *fd == 1 && *length == 3,
-        Call::Write { fd, bytes } => { name == SyscallName::Write && *fd == 1 && is_three(bytes) }
-        Call::Seek { fd, offset } => name == SyscallName::Seek && *fd == 1 && *offset == 2,
-        Call::Size { fd } => name == SyscallName::Size && *fd == 1,
-        Call::Sync { fd } => name == SyscallName::Sync && *fd == 1,
-        Call::PdGet { fd, max } => name == SyscallName::PdGet && *fd == 1 && *max == 3,
-        _ => is_of_answers(call, name),
-    }
-}
-
-// The same for an answer of a pseudo-device's master, and for what it is asked.
-fn is_of_answers(call: &Call, name: SyscallName) -> bool {
-    match call {
-        Call::PdPut { fd, bytes, errno } => {
-            name == SyscallName::PdPut && *fd == 1 && is_three(bytes) && *errno == 4
-        }
-        Call::Ioctl { fd, command, bytes } => {
-            name == SyscallName::Ioctl && *fd == 1 && *command == 2 && is_four(bytes)
-        }
+        | Call::OpenFile {
+            path: text,
+            flags: number,
+        } => { is_two(text) && *number == 3 }
+        Call::List { path, max } => is_two(path) && *max == 4,
+        Call::Rename { old, new }
+        | Call::Rexec {
+            name: old,
+            host: new,
+        } => { is_two(old) && is_four(new) }
+        Call::Write { fd, bytes } => *fd == 1 && is_three(bytes),
+        Call::PdPut { fd, bytes, errno } => (*fd, *errno) == (1, 4) && is_three(bytes),
+        Call::Ioctl { fd, command, bytes } => (*fd, *command) == (1, 2) && is_four(bytes),
         _ => false,
     }
 }
@@ -181,20 +195,25 @@ impl Row for SyscallName {
         loaded(alloc, &[call], [0, 1, 2, 3, 4, 0, 0, 0], b"*")
     }
 
-    fn goes(&self, alloc: Global, machine: &mut Machine) -> Result<bool, NoMemory> {
+    fn goes(&self, alloc: Global, machine: &mut Machine) -> bool {
         stands_at(alloc, machine, Wanted::Named(*self))
     }
 }
 
-fn is_copied(alloc: Global, call: &Call) -> Result<bool, NoMemory> {
-    let copy = call.copy(alloc)?;
-    Ok(copy == *call)
+fn is_copied(alloc: Global, call: &Call) -> bool {
+    match call.copy(alloc) {
+        Ok(copy) => {
+            let is_same = copy == *call;
+            drop(copy);
+            is_same
+        }
+        Err(_) => false,
+    }
 }
 
 #[test]
-fn calls_have_their_values(rt: HostRuntime) -> Result<(), Fail> {
-    all_hold(&rt, rt.alloc(), &NAMES)?;
-    Ok(())
+fn calls_have_their_values(rt: HostRuntime) {
+    all_hold(&rt, rt.alloc(), &NAMES);
 }
 
 fn is_seek(call: &Call, wanted: u64, from: u64) -> bool {
@@ -220,7 +239,7 @@ impl Row for Sought {
         loaded(alloc, &[self.0], [0, 10, 20, 30, 40, 50, 60, 70], b"a")
     }
 
-    fn goes(&self, alloc: Global, machine: &mut Machine) -> Result<bool, NoMemory> {
+    fn goes(&self, alloc: Global, machine: &mut Machine) -> bool {
         stands_at(alloc, machine, Wanted::Seek(self.1, self.2))
     }
 }
@@ -244,8 +263,6 @@ fn seek_rows(three: Register, seven: Register) -> [Sought; 4] {
 }
 
 #[test]
-fn arguments_are_operands_or_registers(rt: HostRuntime) -> Result<(), Fail> {
-    let (three, seven) = (register(3)?, register(7)?);
-    all_hold(&rt, rt.alloc(), &seek_rows(three, seven))?;
-    Ok(())
+fn arguments_are_operands_or_registers(rt: HostRuntime) {
+    all_hold(&rt, rt.alloc(), &seek_rows(register(3), register(7)));
 }

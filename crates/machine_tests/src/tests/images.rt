@@ -1,16 +1,30 @@
-use super::{MAX, bytes, has_across, image, is_filled};
+use super::{Lying, MAX, are_filled, bytes, has_text, image, is_filled, is_none};
 use process_machine::{Code, Image, Instruction, PageCount, Program, Register, Text};
 use sprite_ids::{Bytes, Copying, Items, NoMemory};
 use std::alloc::Global;
-use std::test::Fail;
 
-// Whether that many instructions are a program's code.
-fn is_code(alloc: Global, length: u16) -> Result<bool, NoMemory> {
-    let mut code = Vec::new(alloc);
-    for _ in 0..length {
-        code.extend_from_slice(&[Instruction::Jmp(0)])?;
+// How many instructions, and whether they are a program's code.
+static LENGTHS: [(usize, bool); 3] = [(0, true), (512, true), (513, false)];
+
+// Whether the instructions are a program's code, or are none.
+fn is_so_code(alloc: Global, jumps: &[Instruction], fits: bool) -> bool {
+    match Vec::from_slice(alloc, jumps) {
+        Ok(code) => Code::of_vec(code).is_some() == fits,
+        Err(_) => false,
     }
-    Ok(Code::of_vec(code).is_some())
+}
+
+fn codes_have_at_most_512(alloc: Global) -> bool {
+    let jumps = [Instruction::Jmp(0); 513];
+    for (length, fits) in LENGTHS.iter() {
+        let Some(jumps) = jumps.get(..*length) else {
+            return false;
+        };
+        if !is_so_code(alloc, jumps, *fits) {
+            return false;
+        }
+    }
+    true
 }
 
 fn registers_are_0_to_7() -> bool {
@@ -27,37 +41,33 @@ fn page_counts_are_1_to_8() -> bool {
         && PageCount::new(9).is_none()
 }
 
-fn codes_have_at_most_512(alloc: Global) -> Result<bool, NoMemory> {
-    Ok(is_code(alloc, 0)? && is_code(alloc, 512)? && !is_code(alloc, 513)?)
-}
-
 #[test]
-fn numbers_have_their_ranges(rt: HostRuntime) -> Result<(), Fail> {
-    assert!(rt; registers_are_0_to_7());
-    assert!(rt; page_counts_are_1_to_8());
-    assert!(rt; codes_have_at_most_512(rt.alloc())?);
-    Ok(())
+fn numbers_have_their_ranges(rt: HostRuntime) {
+    let are_so = registers_are_0_to_7() && page_counts_are_1_to_8();
+    assert!(rt; are_so && codes_have_at_most_512(rt.alloc()));
 }
 
-fn zeros(alloc: Global, length: u16) -> Result<Bytes, NoMemory> {
-    let mut bytes = Bytes::new(alloc);
-    for _ in 0..length {
-        bytes.push(0)?;
-    }
-    Ok(bytes)
-}
+static ZEROS: [u8; 4097] = [0; 4097];
 
-// Whether that many pages of that length are an image.
-fn is_image(alloc: Global, count: u8, length: u16) -> Result<bool, NoMemory> {
+// That many pages of these bytes.
+fn pages_of(alloc: Global, count: u8, text: &[u8]) -> Result<Vec<Option<Bytes>>, NoMemory> {
     let mut pages = Vec::new(alloc);
     for _ in 0..count {
-        pages.push(Some(zeros(alloc, length)?))?;
+        pages.push(Some(bytes(alloc, text)?))?;
     }
-    Ok(Image::of_parts(9, 65535, [1; 8], pages).is_some())
+    Ok(pages)
+}
+
+// Whether that many pages of these bytes are an image, or are none.
+fn is_so_image(alloc: Global, count: u8, text: &[u8], fits: bool) -> bool {
+    match pages_of(alloc, count, text) {
+        Ok(pages) => Image::of_parts(9, 65535, [1; 8], pages).is_some() == fits,
+        Err(_) => false,
+    }
 }
 
 // How many pages of which length, and whether they are an image's.
-static SIZES: [(u8, u16, bool); 6] = [
+static SIZES: [(u8, usize, bool); 6] = [
     (1, 4096, true),
     (8, 4096, true),
     (0, 4096, false),
@@ -66,19 +76,21 @@ static SIZES: [(u8, u16, bool); 6] = [
     (1, 4097, false),
 ];
 
-fn first_other_size(alloc: Global) -> Result<Option<usize>, NoMemory> {
+fn first_other_size(alloc: Global) -> Option<usize> {
     for (place, (count, length, fits)) in SIZES.iter().enumerate() {
-        if is_image(alloc, *count, *length)? != *fits {
-            return Ok(Some(place));
+        let Some(text) = ZEROS.get(..*length) else {
+            return Some(place);
+        };
+        if !is_so_image(alloc, *count, text, *fits) {
+            return Some(place);
         }
     }
-    Ok(None)
+    None
 }
 
 #[test]
-fn images_have_1_to_8_whole_pages(rt: HostRuntime) -> Result<(), Fail> {
-    assert_eq!(rt; first_other_size(rt.alloc())?, None);
-    Ok(())
+fn images_have_1_to_8_whole_pages(rt: HostRuntime) {
+    is_none(&rt, first_other_size(rt.alloc()));
 }
 
 fn has_its_parts(image: &Image) -> bool {
@@ -94,17 +106,20 @@ fn has_its_parts(image: &Image) -> bool {
 }
 
 // Puts a page where none was.
-fn takes_a_page(alloc: Global, image: &mut Image) -> Result<bool, NoMemory> {
+fn takes_a_page(alloc: Global, image: &mut Image) -> bool {
     if image.page_count() != 3 {
-        return Ok(false);
+        return false;
     }
-    let before = image.set_page(1, Some(Bytes::of_slice(alloc, &[b'b'; 4096])?));
-    Ok(before.is_none() && is_filled(image, 1, b'b'))
+    let Ok(page) = Bytes::of_slice(alloc, &[b'b'; 4096]) else {
+        return false;
+    };
+    let before = image.set_page(1, Some(page));
+    before.is_none() && is_filled(image, 1, b'b')
 }
 
 fn is_page(page: &Option<Bytes>, letter: u8) -> bool {
     match page {
-        Some(bytes) => bytes.as_slice() == [letter; 4096].as_slice(),
+        Some(bytes) => are_filled(bytes.as_slice(), 0, letter, Lying(0, b"")),
         None => false,
     }
 }
@@ -119,52 +134,57 @@ fn gives_a_page(image: &mut Image) -> bool {
 }
 
 // Whether a copy stays what it is when pages of the image change.
-fn change_apart(alloc: Global, image: &mut Image, copy: &Image) -> Result<bool, NoMemory> {
+fn change_apart(alloc: Global, image: &mut Image, copy: &Image) -> bool {
     if *copy != *image || !has_its_parts(copy) {
-        return Ok(false);
+        return false;
     }
-    let is_changed = takes_a_page(alloc, image)? && gives_a_page(image);
-    Ok(is_changed && *copy != *image && has_its_parts(copy))
+    let is_changed = takes_a_page(alloc, image) && gives_a_page(image);
+    is_changed && *copy != *image && has_its_parts(copy)
 }
 
-fn is_copied(alloc: Global) -> Result<bool, NoMemory> {
-    let mut image = image(alloc, [1, 2, 3, 4, 5, 6, 7, 8], b"a-c")?;
-    let copy = image.copy(alloc)?;
-    change_apart(alloc, &mut image, &copy)
+fn is_copied(alloc: Global, image: &mut Image) -> bool {
+    match image.copy(alloc) {
+        Ok(copy) => change_apart(alloc, image, &copy),
+        Err(_) => false,
+    }
+}
+
+fn three_pages_are_copied(alloc: Global) -> bool {
+    match image(alloc, [1, 2, 3, 4, 5, 6, 7, 8], b"a-c") {
+        Ok(mut image) => is_copied(alloc, &mut image),
+        Err(_) => false,
+    }
 }
 
 #[test]
-fn images_have_their_parts(rt: HostRuntime) -> Result<(), Fail> {
-    assert!(rt; is_copied(rt.alloc())?);
-    Ok(())
+fn images_have_their_parts(rt: HostRuntime) {
+    assert!(rt; three_pages_are_copied(rt.alloc()));
 }
 
 // Texts, each with its address.
 type Texts = &'static [(u64, &'static [u8])];
 
-fn text(alloc: Global, address: u64, text: &[u8]) -> Result<Text, NoMemory> {
-    let bytes = bytes(alloc, text)?;
-    Ok(Text { address, bytes })
-}
-
 fn texts(alloc: Global, rows: Texts) -> Result<Items<Text>, NoMemory> {
     let mut texts = Items::new(alloc);
-    for row in rows {
-        texts.push(text(alloc, row.0, row.1)?)?;
+    for (address, text) in rows {
+        texts.push(Text {
+            address: *address,
+            bytes: bytes(alloc, *text)?,
+        })?;
     }
     Ok(texts)
 }
 
 // A program of that many pages without code.
 fn program(alloc: Global, count: u8, rows: Texts) -> Result<Program, NoMemory> {
-    let pages = PageCount::new(count).ok_or(NoMemory)?;
-    let code = Code::of_vec(Vec::new(alloc)).ok_or(NoMemory)?;
-    let texts = texts(alloc, rows)?;
+    let Some(pages) = PageCount::new(count) else {
+        return Err(NoMemory);
+    };
     Ok(Program {
         number: 3,
         pages,
-        texts,
-        code,
+        texts: texts(alloc, rows)?,
+        code: Code::new(alloc),
     })
 }
 
@@ -183,33 +203,42 @@ fn is_fresh(image: &Image) -> bool {
 // The second text lies over the first one, which goes on into the second page.
 const OVER: Texts = &[(4094, b"abcd"), (4097, b"X")];
 
-fn has_its_texts(alloc: Global) -> Result<bool, NoMemory> {
-    let fresh = fresh(alloc, 2, OVER, MAX)?;
-    Ok(is_fresh(&fresh) && has_across(&fresh, [0, 0], *b"abcX"))
+fn has_its_texts(alloc: Global) -> bool {
+    match fresh(alloc, 2, OVER, MAX) {
+        Ok(fresh) => is_fresh(&fresh) && has_text(&fresh, [0, 0], Lying(4094, b"abcX")),
+        Err(_) => false,
+    }
 }
 
-fn program_is_copied(alloc: Global) -> Result<bool, NoMemory> {
-    let program = program(alloc, 2, OVER)?;
-    let copy = program.copy(alloc)?;
-    Ok(copy == program)
+fn is_same_copied(alloc: Global, program: &Program) -> bool {
+    match program.copy(alloc) {
+        Ok(copy) => copy == *program,
+        Err(_) => false,
+    }
+}
+
+fn program_is_copied(alloc: Global) -> bool {
+    match program(alloc, 2, OVER) {
+        Ok(program) => is_same_copied(alloc, &program),
+        Err(_) => false,
+    }
 }
 
 #[test]
-fn a_fresh_image_has_its_texts(rt: HostRuntime) -> Result<(), Fail> {
-    assert!(rt; has_its_texts(rt.alloc())?);
-    assert!(rt; program_is_copied(rt.alloc())?);
-    Ok(())
+fn a_fresh_image_has_its_texts(rt: HostRuntime) {
+    assert!(rt; has_its_texts(rt.alloc()) && program_is_copied(rt.alloc()));
 }
 
 const OUTSIDE: Texts = &[(4096, b"ab"), (MAX - 1, b"abcd")];
 
-fn is_left_empty(alloc: Global) -> Result<bool, NoMemory> {
-    let fresh = fresh(alloc, 1, OUTSIDE, 0)?;
-    Ok(is_filled(&fresh, 0, 0) && fresh.page_count() == 1)
+fn is_left_empty(alloc: Global) -> bool {
+    match fresh(alloc, 1, OUTSIDE, 0) {
+        Ok(fresh) => is_filled(&fresh, 0, 0) && fresh.page_count() == 1,
+        Err(_) => false,
+    }
 }
 
 #[test]
-fn texts_outside_the_pages_are_left_out(rt: HostRuntime) -> Result<(), Fail> {
-    assert!(rt; is_left_empty(rt.alloc())?);
-    Ok(())
+fn texts_outside_the_pages_are_left_out(rt: HostRuntime) {
+    assert!(rt; is_left_empty(rt.alloc()));
 }

@@ -3,7 +3,6 @@ use super::{MAX, Machine, Row, all_hold, loaded, run, sys};
 use process_machine::{BurstEnd, SyscallName};
 use sprite_ids::{Errno, NoMemory};
 use std::alloc::Global;
-use std::test::Fail;
 
 const ADDRESS: Option<Errno> = Some(Errno::BadAddress);
 
@@ -20,7 +19,7 @@ impl Row for Refused {
         loaded(alloc, &[sys(self.0, self.1)], [0; 8], b"aaaaaaaa")
     }
 
-    fn goes(&self, alloc: Global, machine: &mut Machine) -> Result<bool, NoMemory> {
+    fn goes(&self, alloc: Global, machine: &mut Machine) -> bool {
         stands_at(alloc, machine, Wanted::Refused(self.2))
     }
 }
@@ -71,10 +70,9 @@ static BY_NAME: [Refused; 15] = [
 ];
 
 #[test]
-fn calls_are_refused_for_their_arguments(rt: HostRuntime) -> Result<(), Fail> {
-    all_hold(&rt, rt.alloc(), &BY_LENGTH)?;
-    all_hold(&rt, rt.alloc(), &BY_NAME)?;
-    Ok(())
+fn calls_are_refused_for_their_arguments(rt: HostRuntime) {
+    all_hold(&rt, rt.alloc(), &BY_LENGTH);
+    all_hold(&rt, rt.alloc(), &BY_NAME);
 }
 
 // A call, its arguments, the pages, and how a burst that begins at it ends.
@@ -86,8 +84,8 @@ impl Row for Wanting {
         loaded(alloc, &[sys(self.0, self.1)], [0; 8], self.2)
     }
 
-    fn goes(&self, _alloc: Global, machine: &mut Machine) -> Result<bool, NoMemory> {
-        Ok(run(machine, 9) == (0, self.3))
+    fn goes(&self, _alloc: Global, machine: &mut Machine) -> bool {
+        run(machine, 9) == (0, self.3)
     }
 }
 
@@ -181,7 +179,6 @@ static PAGES: [Wanting; 16] = [
 ];
 
 #[test]
-fn calls_want_their_pages(rt: HostRuntime) -> Result<(), Fail> {
-    all_hold(&rt, rt.alloc(), &PAGES)?;
-    Ok(())
+fn calls_want_their_pages(rt: HostRuntime) {
+    all_hold(&rt, rt.alloc(), &PAGES);
 }

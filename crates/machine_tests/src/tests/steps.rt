@@ -1,8 +1,7 @@
-use super::{MAX, Machine, Row, all_hold, holds, loaded, register, run, sys};
-use process_machine::{BurstEnd, Image, Instruction, Register, SyscallName};
+use super::{Lying, MAX, Machine, Row, all_hold, has_text, holds, loaded, register, run, sys};
+use process_machine::{BurstEnd, Instruction, Register, SyscallName};
 use sprite_ids::NoMemory;
 use std::alloc::Global;
-use std::test::Fail;
 
 const HALF: u64 = 9223372036854775808;
 
@@ -15,13 +14,11 @@ impl Row for Computed {
         loaded(alloc, &[self.0], [0, self.1, self.2, 0, 0, 0, 0, 9], b"a")
     }
 
-    fn goes(&self, _alloc: Global, machine: &mut Machine) -> Result<bool, NoMemory> {
+    fn goes(&self, _alloc: Global, machine: &mut Machine) -> bool {
         let is_done = run(machine, 1) == (1, BurstEnd::Limit);
-        Ok(
-            is_done
-                && machine.image.registers() == [0, self.3, self.2, 0, 0, 0, 0, 9]
-                && machine.image.counter() == self.4,
-        )
+        is_done
+            && machine.image.registers() == [0, self.3, self.2, 0, 0, 0, 0, 9]
+            && machine.image.counter() == self.4
     }
 }
 
@@ -59,17 +56,13 @@ fn jumps(one: Register, two: Register) -> [Computed; 9] {
 }
 
 #[test]
-fn instructions_compute(rt: HostRuntime) -> Result<(), Fail> {
-    let (one, two) = (register(1)?, register(2)?);
-    all_hold(&rt, rt.alloc(), &sums(one, two))?;
-    Ok(())
+fn instructions_compute(rt: HostRuntime) {
+    all_hold(&rt, rt.alloc(), &sums(register(1), register(2)));
 }
 
 #[test]
-fn jumps_compare_without_signs(rt: HostRuntime) -> Result<(), Fail> {
-    let (one, two) = (register(1)?, register(2)?);
-    all_hold(&rt, rt.alloc(), &jumps(one, two))?;
-    Ok(())
+fn jumps_compare_without_signs(rt: HostRuntime) {
+    all_hold(&rt, rt.alloc(), &jumps(register(1), register(2)));
 }
 
 // The pages, a load or store at the address that register 1 holds, and how it ends.
@@ -81,10 +74,10 @@ impl Row for Reached {
         loaded(alloc, &[self.1], [0, self.2, 0, 0, 0, 0, 0, 0], self.0)
     }
 
-    fn goes(&self, _alloc: Global, machine: &mut Machine) -> Result<bool, NoMemory> {
+    fn goes(&self, _alloc: Global, machine: &mut Machine) -> bool {
         let count = if self.3 == BurstEnd::Limit { 1 } else { 0 };
         let has_ended = run(machine, 1) == (count, self.3);
-        Ok(has_ended && machine.image.counter() as u32 == count)
+        has_ended && machine.image.counter() as u32 == count
     }
 }
 
@@ -144,11 +137,9 @@ fn before_a_hole(one: Register, two: Register) -> [Reached; 8] {
 }
 
 #[test]
-fn steps_end_where_they_cannot_be_done(rt: HostRuntime) -> Result<(), Fail> {
-    let (one, two) = (register(1)?, register(2)?);
-    all_hold(&rt, rt.alloc(), &in_one_page(one, two))?;
-    all_hold(&rt, rt.alloc(), &before_a_hole(one, two))?;
-    Ok(())
+fn steps_end_where_they_cannot_be_done(rt: HostRuntime) {
+    all_hold(&rt, rt.alloc(), &in_one_page(register(1), register(2)));
+    all_hold(&rt, rt.alloc(), &before_a_hole(register(1), register(2)));
 }
 
 fn across_pages(one: Register, two: Register) -> [Reached; 7] {
@@ -166,10 +157,8 @@ fn across_pages(one: Register, two: Register) -> [Reached; 7] {
 }
 
 #[test]
-fn words_reach_across_pages(rt: HostRuntime) -> Result<(), Fail> {
-    let (one, two) = (register(1)?, register(2)?);
-    all_hold(&rt, rt.alloc(), &across_pages(one, two))?;
-    Ok(())
+fn words_reach_across_pages(rt: HostRuntime) {
+    all_hold(&rt, rt.alloc(), &across_pages(register(1), register(2)));
 }
 
 // Stores register 2's word, loads it and its first byte, and stores and loads that byte over its last one.
@@ -184,52 +173,26 @@ fn word_code(one: Register, two: Register, three: Register, four: Register) -> [
     ]
 }
 
-// A page of `a` and one of `b`, with the bytes 1 to 7 and 1 from the address on.
-fn with_word(address: u16) -> [u8; 8192] {
-    let mut bytes = [b'a'; 8192];
-    bytes[4096..].fill(b'b');
-    let (from, end) = (address as usize, address as usize + 8);
-    if end <= 8192 {
-        bytes[from..end].copy_from_slice(&[1, 2, 3, 4, 5, 6, 7, 1]);
-    }
-    bytes
-}
-
-// The bytes of both pages.
-fn both_pages(alloc: Global, image: &Image) -> Result<Vec<u8>, NoMemory> {
-    let first = image.page(0).ok_or(NoMemory)?;
-    let second = image.page(1).ok_or(NoMemory)?;
-    let mut bytes = Vec::from_slice(alloc, first)?;
-    bytes.extend_from_slice(second)?;
-    Ok(bytes)
-}
-
-fn has_word(alloc: Global, image: &Image, address: u16) -> Result<bool, NoMemory> {
-    let bytes = both_pages(alloc, image)?;
-    Ok(bytes.as_slice() == with_word(address).as_slice())
-}
-
 // The word 0x0807060504030201.
 const WORD: u64 = 578437695752307201;
 
-// The address at which the word is stored.
+// The address at which the word is stored. A page of `a` and one of `b` then have the bytes 1 to 7 and 1 from there on.
 #[derive(Clone, Copy)]
 struct Stored(u16);
 
 impl Row for Stored {
     fn load(&self, alloc: Global) -> Result<Machine, NoMemory> {
-        let code = word_code(register(1)?, register(2)?, register(3)?, register(4)?);
+        let code = word_code(register(1), register(2), register(3), register(4));
         loaded(alloc, &code, [0, self.0 as u64, WORD, 0, 0, 0, 0, 0], b"ab")
     }
 
-    fn goes(&self, alloc: Global, machine: &mut Machine) -> Result<bool, NoMemory> {
+    fn goes(&self, _alloc: Global, machine: &mut Machine) -> bool {
         let has_run = run(machine, 10) == (6, BurstEnd::BadStep);
         let end = self.0 as u64 + 7;
-        Ok(
-            has_run
-                && machine.image.registers() == [0, end, 1, WORD, 1, 0, 0, 0]
-                && has_word(alloc, &machine.image, self.0)?,
-        )
+        let word = Lying(self.0 as usize, &[1, 2, 3, 4, 5, 6, 7, 1]);
+        has_run
+            && machine.image.registers() == [0, end, 1, WORD, 1, 0, 0, 0]
+            && has_text(&machine.image, [b'a', b'b'], word)
     }
 }
 
@@ -244,9 +207,8 @@ static ADDRESSES: [Stored; 7] = [
 ];
 
 #[test]
-fn words_have_their_lowest_byte_first(rt: HostRuntime) -> Result<(), Fail> {
-    all_hold(&rt, rt.alloc(), &ADDRESSES)?;
-    Ok(())
+fn words_have_their_lowest_byte_first(rt: HostRuntime) {
+    all_hold(&rt, rt.alloc(), &ADDRESSES);
 }
 
 // Counts twice, and calls.
@@ -258,75 +220,48 @@ fn counting(one: Register) -> [Instruction; 3] {
     ]
 }
 
-// How a burst of at most so many ends, when register 1 counts what was done.
-fn has_counted(machine: &mut Machine, limit: u32, count: u32, end: BurstEnd) -> bool {
-    if limit < 1 || limit > 10000 {
-        return false;
-    }
-    run(machine, limit) == (count, end)
-        && machine.image.registers() == [0, count as u64, 0, 0, 0, 0, 0, 0]
-}
-
-// How many are done at most, how many are done, and how the burst ends.
+// The code, how many instructions are done at most, how many are done, how the burst ends, and what register 1 then holds.
 #[derive(Clone, Copy)]
-struct Burst(u32, u32, BurstEnd);
+struct Burst<'a>(&'a [Instruction], u32, u32, BurstEnd, u64);
 
-impl Row for Burst {
+impl Row for Burst<'_> {
     fn load(&self, alloc: Global) -> Result<Machine, NoMemory> {
-        loaded(alloc, &counting(register(1)?), [0; 8], b"a")
+        loaded(alloc, self.0, [0; 8], b"a")
     }
 
-    fn goes(&self, _alloc: Global, machine: &mut Machine) -> Result<bool, NoMemory> {
-        Ok(has_counted(machine, self.0, self.1, self.2))
+    fn goes(&self, _alloc: Global, machine: &mut Machine) -> bool {
+        if self.1 < 1 || self.1 > 10000 {
+            return false;
+        }
+        run(machine, self.1) == (self.2, self.3)
+            && machine.image.registers() == [0, self.4, 0, 0, 0, 0, 0, 0]
     }
 }
 
-static BURSTS: [Burst; 4] = [
-    Burst(1, 1, BurstEnd::Limit),
-    Burst(2, 2, BurstEnd::Limit),
-    Burst(3, 2, BurstEnd::Call),
-    Burst(10000, 2, BurstEnd::Call),
-];
-
-// A program without code.
-#[derive(Clone, Copy)]
-struct Empty;
-
-impl Row for Empty {
-    fn load(&self, alloc: Global) -> Result<Machine, NoMemory> {
-        loaded(alloc, &[], [0; 8], b"a")
-    }
-
-    fn goes(&self, _alloc: Global, machine: &mut Machine) -> Result<bool, NoMemory> {
-        Ok(has_counted(machine, 1, 0, BurstEnd::BadStep))
-    }
+// The last one is of a program without code.
+fn bursts(counting: &[Instruction]) -> [Burst; 5] {
+    [
+        Burst(counting, 1, 1, BurstEnd::Limit, 1),
+        Burst(counting, 2, 2, BurstEnd::Limit, 2),
+        Burst(counting, 3, 2, BurstEnd::Call, 2),
+        Burst(counting, 10000, 2, BurstEnd::Call, 2),
+        Burst(&[], 1, 0, BurstEnd::BadStep, 0),
+    ]
 }
 
 #[test]
-fn a_burst_keeps_its_limit(rt: HostRuntime) -> Result<(), Fail> {
-    all_hold(&rt, rt.alloc(), &BURSTS)?;
-    assert!(rt; holds(rt.alloc(), &Empty)?);
-    Ok(())
+fn a_burst_keeps_its_limit(rt: HostRuntime) {
+    all_hold(&rt, rt.alloc(), &bursts(&counting(register(1))));
 }
 
-// A program that counts for ever, which is stopped.
-#[derive(Clone, Copy)]
-struct Endless;
-
-impl Row for Endless {
-    fn load(&self, alloc: Global) -> Result<Machine, NoMemory> {
-        let code = [Instruction::Addi(register(1)?, 1), Instruction::Jmp(0)];
-        loaded(alloc, &code, [0; 8], b"a")
-    }
-
-    fn goes(&self, _alloc: Global, machine: &mut Machine) -> Result<bool, NoMemory> {
-        let is_stopped = run(machine, 10000) == (10000, BurstEnd::Limit);
-        Ok(is_stopped && machine.image.registers()[1] == 5000)
-    }
+// A program that counts for ever.
+fn endless(one: Register) -> [Instruction; 2] {
+    [Instruction::Addi(one, 1), Instruction::Jmp(0)]
 }
 
 #[test]
-fn a_long_burst_ends(rt: HostRuntime) -> Result<(), Fail> {
-    assert!(rt; holds(rt.alloc(), &Endless)?);
-    Ok(())
+fn a_long_burst_ends(rt: HostRuntime) {
+    let code = endless(register(1));
+    let row = Burst(&code, 10000, 10000, BurstEnd::Limit, 5000);
+    assert!(rt; holds(rt.alloc(), &row));
 }
