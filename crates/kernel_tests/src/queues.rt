@@ -1,6 +1,11 @@
 use kernel_steps::Queue;
-use sprite_ids::{Items, NoMemory};
 use std::alloc::Global;
+use std::process::Abort;
+
+/// Asserts that no step gives something else, and tells the place of the one that does.
+pub fn is_none(rt: &impl Abort, other: Option<usize>) {
+    assert_eq!(rt; other, None);
+}
 
 // A call on a queue of numbers under numbers, with what it gives.
 #[derive(Clone, Copy)]
@@ -31,7 +36,7 @@ enum Step {
     Rows(&'static [(u32, u32)]),
 }
 
-const STEPS: [Step; 34] = [
+static STEPS: [Step; 34] = [
     Step::Len(0),
     Step::Take(1, None),
     Step::Push(1, 10),
@@ -69,67 +74,60 @@ const STEPS: [Step; 34] = [
 ];
 
 // Whether the queue's values under the key are these.
-fn are_values(
-    alloc: Global,
-    queue: &Queue<u32, u32>,
-    key: u32,
-    values: &[u32],
-) -> Result<bool, NoMemory> {
-    let found: Items<u32> = queue.values(alloc, &key)?;
-    Ok(found.as_slice() == values)
+fn are_values(alloc: Global, queue: &Queue<u32, u32>, key: u32, values: &[u32]) -> bool {
+    match queue.values(alloc, &key) {
+        Ok(found) => found.as_slice() == values,
+        Err(_) => false,
+    }
 }
 
 // Whether the call that looks gives what it should.
-fn tells(alloc: Global, queue: &Queue<u32, u32>, step: Step) -> Result<bool, NoMemory> {
+fn tells(alloc: Global, queue: &Queue<u32, u32>, step: Step) -> bool {
     match step {
-        Step::Has(key, is_there) => Ok(queue.has(&key) == is_there),
-        Step::HasRow(key, value, is_there) => Ok(queue.has_row(&key, &value) == is_there),
-        Step::First(key, value) => Ok(queue.first(&key).copied() == value),
+        Step::Has(key, is_there) => queue.has(&key) == is_there,
+        Step::HasRow(key, value, is_there) => queue.has_row(&key, &value) == is_there,
+        Step::First(key, value) => queue.first(&key).copied() == value,
         Step::Values(key, values) => are_values(alloc, queue, key, values),
-        Step::Len(count) => Ok(queue.len() == count),
-        Step::Rows(rows) => Ok(queue.rows() == rows),
-        _ => Ok(true),
+        Step::Len(count) => queue.len() == count,
+        Step::Rows(rows) => queue.rows() == rows,
+        _ => false,
     }
 }
 
 // Whether the call gives what it should.
-fn does(alloc: Global, queue: &mut Queue<u32, u32>, step: Step) -> Result<bool, NoMemory> {
+fn does(alloc: Global, queue: &mut Queue<u32, u32>, step: Step) -> bool {
     match step {
-        Step::Push(key, value) => {
-            queue.push(key, value)?;
-            Ok(true)
-        }
+        Step::Push(key, value) => queue.push(key, value).is_ok(),
         Step::Set(key, value) => {
             queue.set(&key, value);
-            Ok(true)
+            true
         }
-        Step::Take(key, value) => Ok(queue.take(&key) == value),
-        Step::TakeRow(key, value, is_there) => Ok(queue.take_row(&key, &value) == is_there),
+        Step::Take(key, value) => queue.take(&key) == value,
+        Step::TakeRow(key, value, is_there) => queue.take_row(&key, &value) == is_there,
         Step::RemoveAll(key) => {
             queue.remove_all(&key);
-            Ok(true)
+            true
         }
         Step::RemoveValue(value) => {
             queue.remove_value(&value);
-            Ok(true)
+            true
         }
         _ => tells(alloc, queue, step),
     }
 }
 
 // The place of the first call that gives something else.
-fn first_other(alloc: Global, steps: &[Step]) -> Result<Option<usize>, NoMemory> {
+fn first_other(alloc: Global, steps: &[Step]) -> Option<usize> {
     let mut queue = Queue::new(alloc);
     for (place, step) in steps.iter().enumerate() {
-        if !does(alloc, &mut queue, *step)? {
-            return Ok(Some(place));
+        if !does(alloc, &mut queue, *step) {
+            return Some(place);
         }
     }
-    Ok(None)
+    None
 }
 
 #[test]
-fn a_queue_keeps_the_order_under_each_key(rt: HostRuntime) -> Result<(), NoMemory> {
-    assert_eq!(rt; first_other(rt.alloc(), &STEPS)?, None);
-    Ok(())
+fn a_queue_keeps_the_order_under_each_key(rt: HostRuntime) {
+    is_none(&rt, first_other(rt.alloc(), &STEPS));
 }

@@ -1,5 +1,5 @@
+use crate::queues::is_none;
 use kernel_steps::Table;
-use sprite_ids::{Items, NoMemory};
 use std::alloc::Global;
 
 // A call on a table of numbers under numbers, with what it gives.
@@ -23,7 +23,7 @@ enum Step {
     Len(usize),
 }
 
-const STEPS: [Step; 21] = [
+static STEPS: [Step; 21] = [
     Step::Len(0),
     Step::Take(1, None),
     Step::Put(5, 50),
@@ -48,9 +48,11 @@ const STEPS: [Step; 21] = [
 ];
 
 // Whether the table's keys are these.
-fn are_keys(alloc: Global, table: &Table<u32, u32>, keys: &[u32]) -> Result<bool, NoMemory> {
-    let found: Items<u32> = table.keys(alloc)?;
-    Ok(found.as_slice() == keys)
+fn are_keys(alloc: Global, table: &Table<u32, u32>, keys: &[u32]) -> bool {
+    match table.keys(alloc) {
+        Ok(found) => found.as_slice() == keys,
+        Err(_) => false,
+    }
 }
 
 // Puts the value in the place of the one under the key, where there is one, and tells whether there is.
@@ -65,38 +67,34 @@ fn lends(table: &mut Table<u32, u32>, key: u32, value: u32) -> bool {
 }
 
 // Whether the call gives what it should.
-fn does(alloc: Global, table: &mut Table<u32, u32>, step: Step) -> Result<bool, NoMemory> {
+fn does(alloc: Global, table: &mut Table<u32, u32>, step: Step) -> bool {
     match step {
-        Step::Put(key, value) => {
-            table.put(key, value)?;
-            Ok(true)
-        }
+        Step::Put(key, value) => table.put(key, value).is_ok(),
         Step::Set(key, value) => {
             table.set(&key, value);
-            Ok(true)
+            true
         }
-        Step::Lend(key, value, is_there) => Ok(lends(table, key, value) == is_there),
-        Step::Has(key, is_there) => Ok(table.has(&key) == is_there),
-        Step::Get(key, value) => Ok(table.get(&key).copied() == value),
-        Step::Take(key, value) => Ok(table.take(&key) == value),
+        Step::Lend(key, value, is_there) => lends(table, key, value) == is_there,
+        Step::Has(key, is_there) => table.has(&key) == is_there,
+        Step::Get(key, value) => table.get(&key).copied() == value,
+        Step::Take(key, value) => table.take(&key) == value,
         Step::Keys(keys) => are_keys(alloc, table, keys),
-        Step::Len(count) => Ok(table.len() == count),
+        Step::Len(count) => table.len() == count,
     }
 }
 
 // The place of the first call that gives something else.
-fn first_other(alloc: Global, steps: &[Step]) -> Result<Option<usize>, NoMemory> {
+fn first_other(alloc: Global, steps: &[Step]) -> Option<usize> {
     let mut table = Table::new(alloc);
     for (place, step) in steps.iter().enumerate() {
-        if !does(alloc, &mut table, *step)? {
-            return Ok(Some(place));
+        if !does(alloc, &mut table, *step) {
+            return Some(place);
         }
     }
-    Ok(None)
+    None
 }
 
 #[test]
-fn a_table_has_its_keys_ascending(rt: HostRuntime) -> Result<(), NoMemory> {
-    assert_eq!(rt; first_other(rt.alloc(), &STEPS)?, None);
-    Ok(())
+fn a_table_has_its_keys_ascending(rt: HostRuntime) {
+    is_none(&rt, first_other(rt.alloc(), &STEPS));
 }
