@@ -1,9 +1,8 @@
 ghost use Rattle.std.specs.Prelude.{◌≡◌};
 
 use block_cache::{Cache, Filled};
-use sprite_ids::{BlockNo, CallKind, FileId, Grant, Kernel, NoMemory};
+use sprite_ids::{BlockNo, CallKind, FileId, Grant, Kernel};
 use std::alloc::Global;
-use std::test::Fail;
 
 // A call on the cache, with what it answers. Files go by their numbers at one server.
 #[derive(Clone, Copy)]
@@ -81,44 +80,48 @@ static ACTS: [Act; 36] = [
 ];
 
 #[test]
-fn calls_answer_as_worked_out(rt: HostRuntime) -> Result<(), Fail> {
-    let server = Kernel::new(2).ok_or("kernel 2")?;
-    assert_eq!(rt; first_wrong(rt.alloc(), &server, &ACTS)?, None);
-    Ok(())
+fn calls_answer_as_worked_out(rt: HostRuntime) {
+    assert!(rt; cache_answers(rt.alloc(), &ACTS));
 }
 
 #[test]
-fn a_cache_without_room_is_full(rt: HostRuntime) -> Result<(), Fail> {
-    assert!(rt; is_full_at_once(rt.alloc())?);
-    Ok(())
+fn a_cache_without_room_is_full(rt: HostRuntime) {
+    assert!(rt; is_full_at_once(rt.alloc()));
 }
 
-fn is_full_at_once(alloc: Global) -> Result<bool, NoMemory> {
-    let cache = Cache::new(alloc, 0)?;
-    Ok(is_full(&cache))
+fn is_full_at_once(alloc: Global) -> bool {
+    let Ok(cache) = Cache::new(alloc, 0) else {
+        return false;
+    };
+    let full = cache.size() == 0 && cache.full();
+    std::mem::drop(cache);
+    full
 }
 
-fn is_full(cache: &Cache) -> bool {
-    cache.size() == 0 && cache.full()
+// Whether a cache of four blocks answers to all calls as they tell.
+fn cache_answers(alloc: Global, acts: &[Act]) -> bool {
+    let Some(server) = Kernel::new(2) else {
+        return false;
+    };
+    let Ok(mut cache) = Cache::new(alloc, 4) else {
+        return false;
+    };
+    let right = answers_all(&mut cache, &server, acts);
+    std::mem::drop(cache);
+    right
 }
 
-// The place of the first call that answers otherwise.
-fn first_wrong(alloc: Global, server: &Kernel, acts: &[Act]) -> Result<Option<usize>, NoMemory> {
-    let mut cache = Cache::new(alloc, 4)?;
-    judged(&mut cache, server, acts)
-}
-
-fn judged(cache: &mut Cache, server: &Kernel, acts: &[Act]) -> Result<Option<usize>, NoMemory> {
-    for place in 0..acts.len() {
-        if !answers(cache, server, &acts[place])? {
-            return Ok(Some(place));
+fn answers_all(cache: &mut Cache, server: &Kernel, acts: &[Act]) -> bool {
+    for act in acts {
+        if !answers(cache, server, act) {
+            return false;
         }
     }
-    Ok(None)
+    true
 }
 
 // Makes the call; false where it answers otherwise, or where a condition of it doesn't hold.
-fn answers(cache: &mut Cache, server: &Kernel, act: &Act) -> Result<bool, NoMemory> {
+fn answers(cache: &mut Cache, server: &Kernel, act: &Act) -> bool {
     match *act {
         Act::Grant(number, stamp, versions, size, on, holder, wanted) => {
             let grant = Grant {
@@ -130,54 +133,47 @@ fn answers(cache: &mut Cache, server: &Kernel, act: &Act) -> Result<bool, NoMemo
                 on,
                 holder,
             };
-            Ok(cache.take_grant(&grant)? == wanted)
+            take_grant(cache, &grant, wanted)
         }
         Act::Callback(number, stamp, kind, size, count) => {
-            let sent = cache.take_callback(file(server, number), stamp, kind)?;
-            Ok(sent.size == size && sent.blocks.len() == count)
+            call_back(cache, &file(server, number), stamp, kind, size, count)
         }
         Act::Fill(number, stamp, block, bytes, wanted) => {
             fill(cache, &file(server, number), stamp, block, bytes, wanted)
         }
         Act::Read(number, from, wanted) => read(cache, &file(server, number), from, wanted),
-        Act::Write(number, from, bytes) => Ok(write(cache, &file(server, number), from, bytes)),
+        Act::Write(number, from, bytes) => write(cache, &file(server, number), from, bytes),
         Act::WroteBack(number, stamp, block, dirty, wanted) => {
             let done = cache.wrote_back(file(server, number), stamp, BlockNo(block), dirty);
-            Ok(done == wanted)
+            done == wanted
         }
         Act::DropClean(number, first, last, wanted) => {
             let gone = cache.drop_clean(file(server, number), BlockNo(first), BlockNo(last));
-            Ok(gone.map(|(file, block)| (file.number, block.0)) == wanted)
+            is_block(gone, wanted)
         }
         _ => shows(cache, server, act),
     }
 }
 
 // Whether a call that changes nothing answers so.
-fn shows(cache: &Cache, server: &Kernel, act: &Act) -> Result<bool, NoMemory> {
+fn shows(cache: &Cache, server: &Kernel, act: &Act) -> bool {
     match *act {
         Act::Missing(number, from, length, wanted) => {
-            Ok(missing(cache, &file(server, number), from, length, wanted))
+            misses(cache, &file(server, number), from, length, wanted)
         }
-        Act::Next(wanted) => {
-            let next = cache.write_back_next(None);
-            Ok(next.map(|(file, block, dirty)| (file.number, block.0, dirty)) == wanted)
-        }
+        Act::Next(wanted) => is_next(cache, wanted),
         Act::Count(number, held, dirty) => {
-            let are_held = cache.held(file(server, number))?.len() == held;
-            Ok(are_held && cache.dirty_blocks(file(server, number))?.len() == dirty)
+            holds(cache, &file(server, number), held)
+                && has_dirty(cache, &file(server, number), dirty)
         }
         Act::Block(number, block, dirty, length) => {
-            let bytes = cache.bytes_of(file(server, number), BlockNo(block))?;
-            let is = cache.dirty(file(server, number), BlockNo(block));
-            Ok(is == dirty && bytes.len() == length)
+            cache.dirty(file(server, number), BlockNo(block)) == dirty
+                && has_bytes(cache, &file(server, number), block, length)
         }
         Act::State(number, wanted, full) => {
-            let state = cache.state(file(server, number));
-            let known = state.map(|state| (state.version, state.size));
-            Ok(known == wanted && cache.full() == full)
+            is_state(cache, &file(server, number), wanted) && cache.full() == full
         }
-        _ => Ok(false),
+        _ => false,
     }
 }
 
@@ -190,6 +186,77 @@ fn file(server: &Kernel, number: u32) -> FileId
     }
 }
 
+// Whether it is that block, or none is found and none is wanted.
+fn is_block(found: Option<(FileId, BlockNo)>, wanted: Option<(u32, u16)>) -> bool {
+    match (found, wanted) {
+        (Some((file, block)), Some((number, place))) => file.number == number && block.0 == place,
+        (None, None) => true,
+        _ => false,
+    }
+}
+
+fn is_next(cache: &Cache, wanted: Option<(u32, u16, u64)>) -> bool {
+    match (cache.write_back_next(None), wanted) {
+        (Some((file, block, dirty)), Some((number, place, count))) => {
+            file.number == number && block.0 == place && dirty == count
+        }
+        (None, None) => true,
+        _ => false,
+    }
+}
+
+fn is_state(cache: &Cache, file: &FileId, wanted: Option<(u32, u32)>) -> bool {
+    match (cache.state(*file), wanted) {
+        (Some(state), Some((version, size))) => state.version == version && state.size == size,
+        (None, None) => true,
+        _ => false,
+    }
+}
+
+fn take_grant(cache: &mut Cache, grant: &Grant, wanted: bool) -> bool {
+    let Ok(taken) = cache.take_grant(grant) else {
+        return false;
+    };
+    taken == wanted
+}
+
+fn call_back(
+    cache: &mut Cache,
+    file: &FileId,
+    stamp: u32,
+    kind: CallKind,
+    size: u32,
+    count: usize,
+) -> bool {
+    let Ok(sent) = cache.take_callback(*file, stamp, kind) else {
+        return false;
+    };
+    let right = sent.size == size && sent.blocks.len() == count;
+    std::mem::drop(sent);
+    right
+}
+
+fn holds(cache: &Cache, file: &FileId, count: usize) -> bool {
+    let Ok(blocks) = cache.held(*file) else {
+        return false;
+    };
+    blocks.len() == count
+}
+
+fn has_dirty(cache: &Cache, file: &FileId, count: usize) -> bool {
+    let Ok(blocks) = cache.dirty_blocks(*file) else {
+        return false;
+    };
+    blocks.len() == count
+}
+
+fn has_bytes(cache: &Cache, file: &FileId, block: u16, length: usize) -> bool {
+    let Ok(bytes) = cache.bytes_of(*file, BlockNo(block)) else {
+        return false;
+    };
+    bytes.len() == length
+}
+
 fn fill(
     cache: &mut Cache,
     file: &FileId,
@@ -197,22 +264,28 @@ fn fill(
     block: u16,
     bytes: &[u8],
     wanted: Filled,
-) -> Result<bool, NoMemory> {
+) -> bool {
     if block >= 1_024 || bytes.len() > 4_096 || !cache.cached(*file) {
-        return Ok(false);
+        return false;
     }
-    Ok(cache.fill(*file, stamp, BlockNo(block), bytes)? == wanted)
+    let Ok(filled) = cache.fill(*file, stamp, BlockNo(block), bytes) else {
+        return false;
+    };
+    filled == wanted
 }
 
-fn read(cache: &mut Cache, file: &FileId, from: u32, wanted: &[u8]) -> Result<bool, NoMemory> {
+fn read(cache: &mut Cache, file: &FileId, from: u32, wanted: &[u8]) -> bool {
     if from > 4_000_000 || wanted.len() > 100 || !cache.cached(*file) {
-        return Ok(false);
+        return false;
     }
     let length = wanted.len() as u32;
     if cache.missing(*file, from, length).is_some() {
-        return Ok(false);
+        return false;
     }
-    Ok(cache.read(*file, from, length)?.as_slice() == wanted)
+    let Ok(bytes) = cache.read(*file, from, length) else {
+        return false;
+    };
+    bytes.as_slice() == wanted
 }
 
 fn write(cache: &mut Cache, file: &FileId, from: u32, bytes: &[u8]) -> bool {
@@ -227,10 +300,13 @@ fn write(cache: &mut Cache, file: &FileId, from: u32, bytes: &[u8]) -> bool {
     true
 }
 
-fn missing(cache: &Cache, file: &FileId, from: u32, length: u32, wanted: Option<u16>) -> bool {
+fn misses(cache: &Cache, file: &FileId, from: u32, length: u32, wanted: Option<u16>) -> bool {
     if from > 4_000_000 || length > 10_000 {
         return false;
     }
-    let missing = cache.missing(*file, from, length);
-    missing.map(|block| block.0) == wanted
+    match (cache.missing(*file, from, length), wanted) {
+        (Some(block), Some(place)) => block.0 == place,
+        (None, None) => true,
+        _ => false,
+    }
 }

@@ -1,6 +1,5 @@
-use sprite_ids::{BlockNo, FileId, Kernel, NoMemory};
+use sprite_ids::{BlockNo, FileId, Kernel};
 use std::alloc::Global;
-use std::test::Fail;
 use write_delay::Delays;
 
 // A call on the list of dirty blocks. Files go by their numbers at one server.
@@ -46,59 +45,65 @@ static ACTS: [Act; 22] = [
 ];
 
 #[test]
-fn the_oldest_block_is_due_after_30_steps(rt: HostRuntime) -> Result<(), Fail> {
-    assert_eq!(rt; first_wrong(rt.alloc(), &ACTS)?, None);
-    Ok(())
+fn the_oldest_block_is_due_after_30_steps(rt: HostRuntime) {
+    assert!(rt; list_shows(rt.alloc(), &ACTS));
 }
 
-// The place of the first call that shows something else.
-fn first_wrong(alloc: Global, acts: &[Act]) -> Result<Option<usize>, NoMemory> {
-    let mut delays = Delays::new(alloc)?;
-    judged(&mut delays, acts)
+// Whether a list shows after all calls what they tell.
+fn list_shows(alloc: Global, acts: &[Act]) -> bool {
+    let Some(server) = Kernel::new(3) else {
+        return false;
+    };
+    let Ok(mut delays) = Delays::new(alloc) else {
+        return false;
+    };
+    let right = shows_all(&mut delays, &server, acts);
+    std::mem::drop(delays);
+    right
 }
 
-fn judged(delays: &mut Delays, acts: &[Act]) -> Result<Option<usize>, NoMemory> {
-    for place in 0..acts.len() {
-        if !shows(delays, acts[place])? {
-            return Ok(Some(place));
+fn shows_all(delays: &mut Delays, server: &Kernel, acts: &[Act]) -> bool {
+    for act in acts {
+        if !shows(delays, server, act) {
+            return false;
         }
     }
-    Ok(None)
+    true
 }
 
 // Makes the call; false where it shows something else.
-fn shows(delays: &mut Delays, act: Act) -> Result<bool, NoMemory> {
-    match act {
-        Act::Dirtied(number, block, step) => dirtied(delays, number, block, step),
-        Act::Cleaned(number, block) => cleaned(delays, number, block),
-        Act::Due(step, wanted) => Ok(delays.due(step) == named(wanted)?),
-        Act::Listed(number, block, wanted) => {
-            Ok(delays.listed(file(number)?, BlockNo(block)) == wanted)
+fn shows(delays: &mut Delays, server: &Kernel, act: &Act) -> bool {
+    match *act {
+        Act::Dirtied(number, block, step) => {
+            delays
+                .dirtied(file(server, number), BlockNo(block), step)
+                .is_ok()
         }
-        Act::Len(wanted) => Ok(delays.len() == wanted),
+        Act::Cleaned(number, block) => {
+            delays.cleaned(file(server, number), BlockNo(block));
+            true
+        }
+        Act::Due(step, wanted) => is_due(delays, server, step, wanted),
+        Act::Listed(number, block, wanted) => {
+            delays.listed(file(server, number), BlockNo(block)) == wanted
+        }
+        Act::Len(wanted) => delays.len() == wanted,
     }
 }
 
-fn file(number: u32) -> Result<FileId, NoMemory> {
-    Ok(FileId {
-        server: Kernel::new(3).ok_or(NoMemory)?,
+fn file(server: &Kernel, number: u32) -> FileId {
+    FileId {
+        server: *server,
         number,
-    })
-}
-
-fn named(block: Option<(u32, u16)>) -> Result<Option<(FileId, BlockNo)>, NoMemory> {
-    match block {
-        Some((number, block)) => Ok(Some((file(number)?, BlockNo(block)))),
-        None => Ok(None),
     }
 }
 
-fn dirtied(delays: &mut Delays, number: u32, block: u16, step: u64) -> Result<bool, NoMemory> {
-    delays.dirtied(file(number)?, BlockNo(block), step)?;
-    Ok(true)
-}
-
-fn cleaned(delays: &mut Delays, number: u32, block: u16) -> Result<bool, NoMemory> {
-    delays.cleaned(file(number)?, BlockNo(block));
-    Ok(true)
+fn is_due(delays: &Delays, server: &Kernel, step: u64, wanted: Option<(u32, u16)>) -> bool {
+    match (delays.due(step), wanted) {
+        (Some((due, block)), Some((number, place))) => {
+            due == file(server, number) && block.0 == place
+        }
+        (None, None) => true,
+        _ => false,
+    }
 }

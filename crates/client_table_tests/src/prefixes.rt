@@ -1,8 +1,7 @@
 use prefix_table::Prefixes;
 use sprite_ids::Kernel;
-use sprite_paths::{Path, PathEnd};
+use sprite_paths::Path;
 use std::alloc::Global;
-use std::test::Fail;
 
 // A path, its longest known prefix, and the number of the server; no text and 0 where none is known.
 type Case = (&'static [u8], &'static [u8], u8);
@@ -58,40 +57,53 @@ static STAGES: [Stage; 3] = [
     },
 ];
 
-// Learns them in their order.
-fn learn_all(alloc: Global, prefixes: &mut Prefixes, pairs: &[(&[u8], u8)]) -> Result<(), Fail> {
+// Learns them in their order; false where there is no memory.
+fn learn_all(alloc: Global, prefixes: &mut Prefixes, pairs: &[(&'static [u8], u8)]) -> bool {
     for (text, number) in pairs {
-        learn(alloc, prefixes, *text, *number)?;
+        if !learn(alloc, prefixes, *text, *number) {
+            return false;
+        }
     }
-    Ok(())
+    true
 }
 
-fn learn(alloc: Global, prefixes: &mut Prefixes, text: &[u8], number: u8) -> Result<(), Fail> {
-    let server = Kernel::new(number).ok_or("a kernel's number")?;
-    let prefix = Path::clean(alloc, &Path::root(alloc), text)?;
-    prefixes.learn(prefix, server)?;
-    Ok(())
+fn learn(alloc: Global, prefixes: &mut Prefixes, text: &[u8], number: u8) -> bool {
+    let Some(server) = Kernel::new(number) else {
+        return false;
+    };
+    let Ok(prefix) = Path::clean(alloc, &Path::root(alloc), text) else {
+        return false;
+    };
+    prefixes.learn(prefix, server).is_ok()
+}
+
+// Whether it is the path of that text.
+fn is_text(alloc: Global, path: &Path, wanted: &[u8]) -> bool {
+    let Ok(text) = path.text(alloc) else {
+        return false;
+    };
+    text.as_slice() == wanted
 }
 
 // Whether that prefix and that server are found.
-fn finds(alloc: Global, prefixes: &Prefixes, case: &Case) -> Result<bool, PathEnd> {
-    let path = Path::clean(alloc, &Path::root(alloc), case.0)?;
+fn finds(alloc: Global, prefixes: &Prefixes, case: &Case) -> bool {
+    let Ok(path) = Path::clean(alloc, &Path::root(alloc), case.0) else {
+        return false;
+    };
     match prefixes.server_of(&path) {
-        Some((prefix, server)) => {
-            Ok(prefix.text(alloc)?.as_slice() == case.1 && server.number() == case.2)
-        }
-        None => Ok(case.2 == 0),
+        Some((prefix, server)) => server.number() == case.2 && is_text(alloc, prefix, case.1),
+        None => case.2 == 0,
     }
 }
 
 // Whether each case is found so.
-fn finds_all(alloc: Global, prefixes: &Prefixes, cases: &[Case]) -> Result<bool, PathEnd> {
+fn finds_all(alloc: Global, prefixes: &Prefixes, cases: &[Case]) -> bool {
     for case in cases {
-        if !finds(alloc, prefixes, case)? {
-            return Ok(false);
+        if !finds(alloc, prefixes, case) {
+            return false;
         }
     }
-    Ok(true)
+    true
 }
 
 fn knows_root(alloc: Global, prefixes: &Prefixes) -> bool {
@@ -100,31 +112,31 @@ fn knows_root(alloc: Global, prefixes: &Prefixes) -> bool {
 }
 
 // Learns the stage's prefixes; whether all is then as it says.
-fn stands(alloc: Global, prefixes: &mut Prefixes, stage: &Stage) -> Result<bool, Fail> {
-    learn_all(alloc, prefixes, stage.learned)?;
-    if prefixes.len() != stage.known || knows_root(alloc, prefixes) != stage.root {
-        return Ok(false);
-    }
-    Ok(finds_all(alloc, prefixes, stage.found)?)
+fn stands(alloc: Global, prefixes: &mut Prefixes, stage: &Stage) -> bool {
+    learn_all(alloc, prefixes, stage.learned)
+        && prefixes.len() == stage.known
+        && knows_root(alloc, prefixes) == stage.root
+        && finds_all(alloc, prefixes, stage.found)
 }
 
-// The first stage after which it isn't.
-fn first_wrong(alloc: Global, stages: &[Stage]) -> Result<Option<usize>, Fail> {
-    let mut prefixes = Prefixes::new(alloc);
-    judged(alloc, &mut prefixes, stages)
-}
-
-fn judged(alloc: Global, prefixes: &mut Prefixes, stages: &[Stage]) -> Result<Option<usize>, Fail> {
-    for (at, stage) in stages.iter().enumerate() {
-        if !stands(alloc, prefixes, stage)? {
-            return Ok(Some(at));
+fn stand_all(alloc: Global, prefixes: &mut Prefixes, stages: &[Stage]) -> bool {
+    for stage in stages {
+        if !stands(alloc, prefixes, stage) {
+            return false;
         }
     }
-    Ok(None)
+    true
+}
+
+// Whether all is as the stages say, one after another.
+fn table_stands(alloc: Global, stages: &[Stage]) -> bool {
+    let mut prefixes = Prefixes::new(alloc);
+    let right = stand_all(alloc, &mut prefixes, stages);
+    std::mem::drop(prefixes);
+    right
 }
 
 #[test]
-fn a_path_goes_to_its_longest_prefix(rt: HostRuntime) -> Result<(), Fail> {
-    assert_eq!(rt; first_wrong(rt.alloc(), &STAGES)?, None);
-    Ok(())
+fn a_path_goes_to_its_longest_prefix(rt: HostRuntime) {
+    assert!(rt; table_stands(rt.alloc(), &STAGES));
 }

@@ -29,7 +29,7 @@ struct Step {
 }
 
 // Descriptors 0 and 7 lead to one stream, and 3 to a device.
-const ROWS: [Row; 5] = [
+static ROWS: [Row; 5] = [
     Row {
         fd: 0,
         kernel: 4,
@@ -78,7 +78,7 @@ const ROWS: [Row; 5] = [
 ];
 
 // The moves, by the kernels that opened the streams and then by the streams' counts.
-const STEPS: [Step; 4] = [
+static STEPS: [Step; 4] = [
     Step {
         kernel: 2,
         number: 9,
@@ -106,7 +106,7 @@ const STEPS: [Step; 4] = [
 ];
 
 // The offsets, none where they are shared, and the grants of the descriptors after that, in their order.
-const LANDED: [(Option<u32>, u32); 5] = [
+static LANDED: [(Option<u32>, u32); 5] = [
     (Some(100), 3),
     (Some(250), 2),
     (Some(0), 1),
@@ -164,19 +164,22 @@ fn descriptors(alloc: Global) -> Result<Items<Carried>, NoMemory> {
 
 // An image of that program, whose page is away.
 fn image(alloc: Global, program: u8) -> Result<Image, NoMemory> {
-    let mut pages = Vec::new(alloc);
-    pages.push(None)?;
+    let mut pages = Vec::with_capacity(alloc, 1)?;
+    pages.push_reserved(None);
     Image::of_parts(program, 6, [7; 8], pages).ok_or(NoMemory)
 }
 
 // A process with these descriptors, before its fifth call.
 fn process(alloc: Global) -> Result<Process, NoMemory> {
+    let pid = Pid::new(kernel(1)?, 3).ok_or(NoMemory)?;
+    let image = image(alloc, 2)?;
+    let streams = descriptors(alloc)?;
     Ok(Process {
-        pid: Pid::new(kernel(1)?, 3).ok_or(NoMemory)?,
+        pid,
         number: 4,
-        image: image(alloc, 2)?,
+        image,
         cwd: Path::root(alloc),
-        streams: descriptors(alloc)?,
+        streams,
         killed: false,
         moving: true,
     })
@@ -190,16 +193,14 @@ fn is_step(moving: &Moving, step: &Step) -> bool {
 
 // The process after the step's move; None where another stream moves or none does.
 fn moved(frozen: Frozen, step: &Step) -> Option<Frozen> {
-    match frozen.next() {
-        MoveStep::Moving(moving) => {
-            if is_step(&moving, step) {
-                Some(moving.moved(place(step.offset), None, step.grants))
-            } else {
-                None
-            }
-        }
-        MoveStep::Sent(_) => None,
+    let MoveStep::Moving(moving) = frozen.next() else {
+        return None;
+    };
+    if !is_step(&moving, step) {
+        std::mem::drop(moving);
+        return None;
     }
+    Some(moving.moved(place(step.offset), None, step.grants))
 }
 
 // The process after all moves; None where they are other ones.
@@ -208,10 +209,10 @@ fn all_moved(frozen: Frozen) -> Option<Sent> {
     for step in STEPS.iter() {
         left = moved(left, step)?;
     }
-    match left.next() {
-        MoveStep::Moving(_) => None,
-        MoveStep::Sent(sent) => Some(sent),
-    }
+    let MoveStep::Sent(sent) = left.next() else {
+        return None;
+    };
+    Some(sent)
 }
 
 // Whether the descriptor is as the row says, with that offset and those grants.
@@ -244,48 +245,94 @@ fn is_same(process: &Process) -> bool {
         && first_other(process.streams.as_slice()).is_none()
 }
 
-// What the packet of the process brings after all moves; None where it brings nothing, or the moves are other ones.
-fn sent(alloc: Global, frozen: Frozen) -> Result<Option<Arrived>, NoMemory> {
-    match all_moved(frozen) {
-        Some(sent) => Arrived::read(alloc, sent.body(alloc)?),
-        None => Ok(None),
+// What the packet of the process brings; None where it brings nothing.
+fn read(alloc: Global, sent: &Sent) -> Option<Arrived> {
+    let Ok(body) = sent.body(alloc) else {
+        return None;
+    };
+    let Ok(arrived) = Arrived::read(alloc, body) else {
+        return None;
+    };
+    arrived
+}
+
+// The process, frozen, which goes as it is or starts the program of that number; None where it can't move.
+fn frozen(process: Process, to: Kernel, program: Option<u8>) -> Option<Frozen> {
+    if !process.can_move() {
+        std::mem::drop(process);
+        return None;
     }
+    match program {
+        Some(program) => Some(Frozen::launch(process, to, program)),
+        None => Some(Frozen::new(process, to)),
+    }
+}
+
+// What the packet of a process, frozen so, brings after all moves; None where it brings nothing or they are other ones.
+fn arrived(alloc: Global, program: Option<u8>) -> Option<Arrived> {
+    let to = Kernel::new(5)?;
+    let Ok(process) = process(alloc) else {
+        return None;
+    };
+    let sent = all_moved(frozen(process, to, program)?)?;
+    let arrived = read(alloc, &sent);
+    std::mem::drop(sent);
+    arrived
+}
+
+// Whether the process that arrived lands so.
+fn lands(arrived: Arrived) -> bool {
+    if arrived.launched().is_some() {
+        std::mem::drop(arrived);
+        return false;
+    }
+    let process = arrived.thaw();
+    let same = is_same(&process);
+    std::mem::drop(process);
+    same
+}
+
+// Whether the process that arrived lands with that image.
+fn lands_fresh(arrived: Arrived, fresh: Image) -> bool {
+    if arrived.launched() != Some(fresh.program_number()) {
+        std::mem::drop(arrived);
+        std::mem::drop(fresh);
+        return false;
+    }
+    let process = arrived.thaw_fresh(fresh);
+    let same = is_same(&process);
+    std::mem::drop(process);
+    same
 }
 
 // Whether a process that goes as it is lands so.
-fn goes(alloc: Global) -> Result<bool, NoMemory> {
-    let process = process(alloc)?;
-    if !process.can_move() {
-        return Ok(false);
-    }
-    let Some(arrived) = sent(alloc, Frozen::new(process, kernel(5)?))? else {
-        return Ok(false);
+fn goes(alloc: Global) -> bool {
+    let Some(arrived) = arrived(alloc, None) else {
+        return false;
     };
-    if arrived.launched().is_some() {
-        return Ok(false);
-    }
-    Ok(is_same(&arrived.thaw()))
+    lands(arrived)
 }
 
 // Whether a process that starts its next program lands with that program's image.
-fn starts(alloc: Global) -> Result<bool, NoMemory> {
-    let process = process(alloc)?;
-    if !process.can_move() {
-        return Ok(false);
-    }
-    let Some(arrived) = sent(alloc, Frozen::launch(process, kernel(5)?, 9))? else {
-        return Ok(false);
+fn starts(alloc: Global) -> bool {
+    let Ok(fresh) = image(alloc, 9) else {
+        return false;
     };
-    let fresh = image(alloc, 9)?;
-    if arrived.launched() != Some(fresh.program_number()) {
-        return Ok(false);
-    }
-    Ok(is_same(&arrived.thaw_fresh(fresh)))
+    let Some(arrived) = arrived(alloc, Some(9)) else {
+        std::mem::drop(fresh);
+        return false;
+    };
+    lands_fresh(arrived, fresh)
 }
 
 // Whether a request that is no process's brings none.
-fn echoes(alloc: Global) -> Result<bool, NoMemory> {
-    Ok(Arrived::read(alloc, Request::Echo)?.is_none())
+fn echoes(alloc: Global) -> bool {
+    let Ok(arrived) = Arrived::read(alloc, Request::Echo) else {
+        return false;
+    };
+    let none = arrived.is_none();
+    std::mem::drop(arrived);
+    none
 }
 
 // The master's end of a device.
@@ -304,23 +351,33 @@ fn master(fd: u8) -> Result<Carried, NoMemory> {
     })
 }
 
+// Gives the process the master's end of a device; whether it could stay before, can't move now, and can stay now as told.
+fn stays(process: &mut Process, fd: u8, is_taken: bool) -> bool {
+    let Ok(master) = master(fd) else {
+        return false;
+    };
+    process.can_stay()
+        && process.streams.append(&[master]).is_ok()
+        && !process.can_move()
+        && process.can_stay() == is_taken
+}
+
 // Whether a process stays that gets the master's end of a device, and whether a table takes it then.
-fn holds(alloc: Global, fd: u8, is_taken: bool) -> Result<bool, NoMemory> {
-    let mut process = process(alloc)?;
-    if !process.can_stay() {
-        return Ok(false);
-    }
-    process.streams.append(&[master(fd)?])?;
-    Ok(!process.can_move() && process.can_stay() == is_taken)
+fn holds(alloc: Global, fd: u8, is_taken: bool) -> bool {
+    let Ok(mut process) = process(alloc) else {
+        return false;
+    };
+    let held = stays(&mut process, fd, is_taken);
+    std::mem::drop(process);
+    held
 }
 
 #[test]
-fn a_process_lands_as_it_was_frozen(rt: HostRuntime) -> Result<(), NoMemory> {
+fn a_process_lands_as_it_was_frozen(rt: HostRuntime) {
     let alloc = rt.alloc();
-    assert!(rt; goes(alloc)?);
-    assert!(rt; starts(alloc)?);
-    assert!(rt; echoes(alloc)?);
-    assert!(rt; holds(alloc, 2, true)?);
-    assert!(rt; holds(alloc, 7, false)?);
-    Ok(())
+    assert!(rt; goes(alloc));
+    assert!(rt; starts(alloc));
+    assert!(rt; echoes(alloc));
+    assert!(rt; holds(alloc, 2, true));
+    assert!(rt; holds(alloc, 7, false));
 }

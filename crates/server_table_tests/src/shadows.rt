@@ -1,7 +1,6 @@
 use shadow_streams::Shadows;
-use sprite_ids::{Kernel, NoMemory, StreamNo};
+use sprite_ids::{Kernel, StreamNo};
 use std::alloc::Global;
-use std::test::Fail;
 
 // A call on the shadows. Streams are all of number 5, and go by the kernel that opened them first.
 #[derive(Clone, Copy)]
@@ -43,99 +42,94 @@ static ACTS: [Act; 20] = [
 ];
 
 #[test]
-fn a_stream_is_shared_until_its_last_grant(rt: HostRuntime) -> Result<(), Fail> {
-    assert_eq!(rt; first_wrong(rt.alloc(), &ACTS)?, None);
-    Ok(())
+fn a_stream_is_shared_until_its_last_grant(rt: HostRuntime) {
+    assert!(rt; shadows_show(rt.alloc(), &ACTS));
 }
 
-// The place of the first call that shows something else.
-fn first_wrong(alloc: Global, acts: &[Act]) -> Result<Option<usize>, NoMemory> {
+// Whether shadows show after all calls what they tell.
+fn shadows_show(alloc: Global, acts: &[Act]) -> bool {
     let mut shadows = Shadows::new(alloc);
-    judged(alloc, &mut shadows, acts)
+    let right = shows_all(alloc, &mut shadows, acts);
+    std::mem::drop(shadows);
+    right
 }
 
-fn judged(alloc: Global, shadows: &mut Shadows, acts: &[Act]) -> Result<Option<usize>, NoMemory> {
-    for place in 0..acts.len() {
-        if !shows(alloc, shadows, acts[place])? {
-            return Ok(Some(place));
+fn shows_all(alloc: Global, shadows: &mut Shadows, acts: &[Act]) -> bool {
+    for act in acts {
+        if !shows(alloc, shadows, act) {
+            return false;
         }
     }
-    Ok(None)
+    true
 }
 
 // Makes the call; false where it shows something else.
-fn shows(alloc: Global, shadows: &mut Shadows, act: Act) -> Result<bool, NoMemory> {
-    match act {
+fn shows(alloc: Global, shadows: &mut Shadows, act: &Act) -> bool {
+    match *act {
         Act::Share(owner, offset, holders) => share(alloc, shadows, owner, offset, holders),
-        Act::Room(wanted) => Ok(shadows.room() == wanted),
-        Act::Offset(owner, wanted) => Ok(shadows.offset(stream(owner)?) == wanted),
+        Act::Room(wanted) => shadows.room() == wanted,
+        Act::Offset(owner, wanted) => is_at(shadows, owner, wanted),
         Act::SetOffset(owner, offset) => set_offset(shadows, owner, offset),
         Act::Grant(owner, holder, count) => grant(shadows, owner, holder, count),
         Act::Close(owner, holder, grants, wanted) => close(shadows, owner, holder, grants, wanted),
     }
 }
 
-fn kernel(number: u8) -> Result<Kernel, NoMemory> {
-    Kernel::new(number).ok_or(NoMemory)
-}
-
-fn stream(owner: u8) -> Result<StreamNo, NoMemory> {
-    Ok(StreamNo {
-        kernel: kernel(owner)?,
+fn stream(owner: u8) -> Option<StreamNo> {
+    Some(StreamNo {
+        kernel: Kernel::new(owner)?,
         number: 5,
     })
 }
 
-fn kernels(alloc: Global, numbers: &[u8]) -> Result<Vec<Kernel>, NoMemory> {
+fn kernels(alloc: Global, numbers: &[u8]) -> Option<Vec<Kernel>> {
     let mut kernels = Vec::new(alloc);
     for number in numbers {
-        kernels.push(kernel(*number)?)?;
+        let kernel = Kernel::new(*number)?;
+        kernels.push(kernel).ok()?;
     }
-    Ok(kernels)
+    Some(kernels)
 }
 
-fn share(
-    alloc: Global,
-    shadows: &mut Shadows,
-    owner: u8,
-    offset: u32,
-    holders: &[u8],
-) -> Result<bool, NoMemory> {
-    let kernels = kernels(alloc, holders)?;
+fn share(alloc: Global, shadows: &mut Shadows, owner: u8, offset: u32, holders: &[u8]) -> bool {
+    let Some(kernels) = kernels(alloc, holders) else {
+        return false;
+    };
     share_among(shadows, owner, offset, kernels.as_slice())
 }
 
-fn share_among(
-    shadows: &mut Shadows,
-    owner: u8,
-    offset: u32,
-    holders: &[Kernel],
-) -> Result<bool, NoMemory> {
-    if holders.len() > 16 {
-        return Ok(false);
-    }
-    shadows.share(stream(owner)?, offset, holders)?;
-    Ok(true)
+fn share_among(shadows: &mut Shadows, owner: u8, offset: u32, holders: &[Kernel]) -> bool {
+    let Some(stream) = stream(owner) else {
+        return false;
+    };
+    holders.len() <= 16 && shadows.share(stream, offset, holders).is_ok()
 }
 
-fn set_offset(shadows: &mut Shadows, owner: u8, offset: u32) -> Result<bool, NoMemory> {
-    shadows.set_offset(stream(owner)?, offset);
-    Ok(true)
+fn is_at(shadows: &Shadows, owner: u8, wanted: Option<u32>) -> bool {
+    let Some(stream) = stream(owner) else {
+        return false;
+    };
+    shadows.offset(stream) == wanted
 }
 
-fn grant(shadows: &mut Shadows, owner: u8, holder: u8, count: u32) -> Result<bool, NoMemory> {
-    if !shadows.room() {
-        return Ok(false);
-    }
-    Ok(shadows.grant(stream(owner)?, kernel(holder)?) == count)
+fn set_offset(shadows: &mut Shadows, owner: u8, offset: u32) -> bool {
+    let Some(stream) = stream(owner) else {
+        return false;
+    };
+    shadows.set_offset(stream, offset);
+    true
 }
 
-fn close(
-    shadows: &mut Shadows,
-    owner: u8,
-    holder: u8,
-    grants: u32,
-    wanted: bool,
-) -> Result<bool, NoMemory> {
-    Ok(shadows.close(stream(owner)?, kernel(holder)?, grants) == wanted)
+fn grant(shadows: &mut Shadows, owner: u8, holder: u8, count: u32) -> bool {
+    let (Some(stream), Some(holder)) = (stream(owner), Kernel::new(holder)) else {
+        return false;
+    };
+    shadows.room() && shadows.grant(stream, holder) == count
+}
+
+fn close(shadows: &mut Shadows, owner: u8, holder: u8, grants: u32, wanted: bool) -> bool {
+    let (Some(stream), Some(holder)) = (stream(owner), Kernel::new(holder)) else {
+        return false;
+    };
+    shadows.close(stream, holder, grants) == wanted
 }

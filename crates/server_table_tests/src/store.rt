@@ -1,7 +1,6 @@
 use file_store::Store;
-use sprite_ids::{BlockNo, FileId, Kernel, NoMemory};
+use sprite_ids::{BlockNo, FileId, Kernel};
 use std::alloc::Global;
-use std::test::Fail;
 
 // A call on the store. Files go by their numbers at one server.
 #[derive(Clone, Copy)]
@@ -48,29 +47,32 @@ static ACTS: [Act; 24] = [
 ];
 
 #[test]
-fn calls_answer_as_worked_out(rt: HostRuntime) -> Result<(), Fail> {
-    let server = Kernel::new(2).ok_or("kernel 2")?;
-    assert_eq!(rt; first_wrong(rt.alloc(), server, &ACTS)?, None);
-    Ok(())
+fn calls_answer_as_worked_out(rt: HostRuntime) {
+    assert!(rt; store_shows(rt.alloc(), &ACTS));
 }
 
-// The place of the first call that shows something else.
-fn first_wrong(alloc: Global, server: Kernel, acts: &[Act]) -> Result<Option<usize>, NoMemory> {
+// Whether a store shows after all calls what they tell.
+fn store_shows(alloc: Global, acts: &[Act]) -> bool {
+    let Some(server) = Kernel::new(2) else {
+        return false;
+    };
     let mut store = Store::new(alloc, 262_144);
-    judged(&mut store, server, acts)
+    let right = shows_all(&mut store, server, acts);
+    std::mem::drop(store);
+    right
 }
 
-fn judged(store: &mut Store, server: Kernel, acts: &[Act]) -> Result<Option<usize>, NoMemory> {
-    for place in 0..acts.len() {
-        if !shows(store, server, &acts[place])? {
-            return Ok(Some(place));
+fn shows_all(store: &mut Store, server: Kernel, acts: &[Act]) -> bool {
+    for act in acts {
+        if !shows(store, server, act) {
+            return false;
         }
     }
-    Ok(None)
+    true
 }
 
 // Makes the call; false where it shows something else, or where a condition of it doesn't hold.
-fn shows(store: &mut Store, server: Kernel, act: &Act) -> Result<bool, NoMemory> {
+fn shows(store: &mut Store, server: Kernel, act: &Act) -> bool {
     match *act {
         Act::Make(number) => make(store, &FileId { server, number }),
         Act::Write(number, from, bytes) => write(store, &FileId { server, number }, from, bytes),
@@ -83,45 +85,33 @@ fn shows(store: &mut Store, server: Kernel, act: &Act) -> Result<bool, NoMemory>
                 bytes,
             )
         }
-        Act::Truncate(number) => Ok(truncate(store, &FileId { server, number })),
-        Act::Forget(number) => Ok(forget(store, &FileId { server, number })),
+        Act::Truncate(number) => truncate(store, &FileId { server, number }),
+        Act::Forget(number) => forget(store, &FileId { server, number }),
         Act::Read(number, from, length, wanted) => {
             reads(store, &FileId { server, number }, from, length, wanted)
         }
-        Act::Size(number, wanted) => Ok(size(store, &FileId { server, number }) == wanted),
+        Act::Size(number, wanted) => size(store, &FileId { server, number }) == wanted,
     }
 }
 
-fn make(store: &mut Store, file: &FileId) -> Result<bool, NoMemory> {
-    if store.has(*file) {
-        return Ok(false);
-    }
-    store.make(*file)?;
-    Ok(true)
+fn make(store: &mut Store, file: &FileId) -> bool {
+    !store.has(*file) && store.make(*file).is_ok()
 }
 
-fn write(store: &mut Store, file: &FileId, from: u32, bytes: &[u8]) -> Result<bool, NoMemory> {
+fn write(store: &mut Store, file: &FileId, from: u32, bytes: &[u8]) -> bool {
     let end = u64::from(from) + bytes.len() as u64;
     if !store.has(*file) || end > u64::from(store.limit()) {
-        return Ok(false);
+        return false;
     }
-    store.write_at(*file, from, bytes)?;
-    Ok(true)
+    store.write_at(*file, from, bytes).is_ok()
 }
 
-fn put_block(
-    store: &mut Store,
-    file: &FileId,
-    block: BlockNo,
-    size: u32,
-    bytes: &[u8],
-) -> Result<bool, NoMemory> {
+fn put_block(store: &mut Store, file: &FileId, block: BlockNo, size: u32, bytes: &[u8]) -> bool {
     let end = 4096 * u64::from(block.0) + bytes.len() as u64;
     if !store.has(*file) || end > u64::from(store.limit()) || size > store.limit() {
-        return Ok(false);
+        return false;
     }
-    store.put_block(*file, block, size, bytes)?;
-    Ok(true)
+    store.put_block(*file, block, size, bytes).is_ok()
 }
 
 fn truncate(store: &mut Store, file: &FileId) -> bool {
@@ -140,19 +130,15 @@ fn forget(store: &mut Store, file: &FileId) -> bool {
     true
 }
 
-fn reads(
-    store: &Store,
-    file: &FileId,
-    from: u32,
-    length: u32,
-    wanted: &[u8],
-) -> Result<bool, NoMemory> {
+fn reads(store: &Store, file: &FileId, from: u32, length: u32, wanted: &[u8]) -> bool {
     let end = u64::from(from) + u64::from(length);
     if !store.has(*file) || end > u64::from(store.limit()) {
-        return Ok(false);
+        return false;
     }
-    let bytes = store.read_at(*file, from, length)?;
-    Ok(bytes.as_slice() == wanted)
+    let Ok(bytes) = store.read_at(*file, from, length) else {
+        return false;
+    };
+    bytes.as_slice() == wanted
 }
 
 fn size(store: &Store, file: &FileId) -> Option<u32> {

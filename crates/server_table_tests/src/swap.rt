@@ -1,6 +1,5 @@
-use sprite_ids::{Kernel, NoMemory, Pid};
+use sprite_ids::{Kernel, Pid};
 use std::alloc::Global;
-use std::test::Fail;
 use swap_pages::Swap;
 
 // A call: the birth of the process at kernel 2, the page, and the one byte that is put, or that is found.
@@ -25,43 +24,55 @@ static ACTS: [Act; 11] = [
 ];
 
 #[test]
-fn a_page_is_taken_once(rt: HostRuntime) -> Result<(), Fail> {
-    assert_eq!(rt; first_wrong(rt.alloc(), &ACTS)?, None);
-    Ok(())
+fn a_page_is_taken_once(rt: HostRuntime) {
+    assert!(rt; swap_shows(rt.alloc(), &ACTS));
 }
 
-// The place of the first call that shows something else.
-fn first_wrong(alloc: Global, acts: &[Act]) -> Result<Option<usize>, NoMemory> {
+// Whether a swap shows after all calls what they tell.
+fn swap_shows(alloc: Global, acts: &[Act]) -> bool {
     let mut swap = Swap::new(alloc);
-    judged(alloc, &mut swap, acts)
+    let right = shows_all(alloc, &mut swap, acts);
+    std::mem::drop(swap);
+    right
 }
 
-fn judged(alloc: Global, swap: &mut Swap, acts: &[Act]) -> Result<Option<usize>, NoMemory> {
-    for place in 0..acts.len() {
-        if !shows(alloc, swap, acts[place])? {
-            return Ok(Some(place));
+fn shows_all(alloc: Global, swap: &mut Swap, acts: &[Act]) -> bool {
+    for act in acts {
+        if !shows(alloc, swap, act) {
+            return false;
         }
     }
-    Ok(None)
+    true
 }
 
 // Makes the call; false where it shows something else.
-fn shows(alloc: Global, swap: &mut Swap, act: Act) -> Result<bool, NoMemory> {
-    match act {
-        Act::Put(birth, page, byte) => put(alloc, swap, process(birth)?, page, byte),
-        Act::Take(birth, page, wanted) => Ok(take(swap, process(birth)?, page) == wanted),
+fn shows(alloc: Global, swap: &mut Swap, act: &Act) -> bool {
+    match *act {
+        Act::Put(birth, page, byte) => put(alloc, swap, birth, page, byte),
+        Act::Take(birth, page, wanted) => takes(swap, birth, page, wanted),
     }
 }
 
 // The process of that birth.
-fn process(birth: u8) -> Result<Pid, NoMemory> {
-    let home = Kernel::new(2).ok_or(NoMemory)?;
-    Pid::new(home, u32::from(birth)).ok_or(NoMemory)
+fn process(birth: u8) -> Option<Pid> {
+    Pid::new(Kernel::new(2)?, u32::from(birth))
 }
 
-fn put(alloc: Global, swap: &mut Swap, pid: Pid, page: u8, byte: u8) -> Result<bool, NoMemory> {
-    swap.put(pid, page, Vec::from_slice(alloc, &[byte])?)?;
-    Ok(true)
+fn put(alloc: Global, swap: &mut Swap, birth: u8, page: u8, byte: u8) -> bool {
+    let Some(pid) = process(birth) else {
+        return false;
+    };
+    let Ok(bytes) = Vec::from_slice(alloc, &[byte]) else {
+        return false;
+    };
+    swap.put(pid, page, bytes).is_ok()
+}
+
+fn takes(swap: &mut Swap, birth: u8, page: u8, wanted: Option<u8>) -> bool {
+    let Some(pid) = process(birth) else {
+        return false;
+    };
+    take(swap, pid, page) == wanted
 }
 
 // The one byte of the page, where it is kept.

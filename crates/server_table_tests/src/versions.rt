@@ -1,6 +1,5 @@
 use sprite_ids::{CallKind, FileId, Grant, Kernel, Mode, StreamNo};
 use std::alloc::Global;
-use std::test::Fail;
 use version_table::{Action, Decision, Versions};
 
 // What is done to one file. Kernels and streams go by their numbers; a stream is named by the kernel that opened it first.
@@ -102,21 +101,10 @@ static WITHOUT: [(Act, Seen); 1] = [(
     Seen::Grant(1, 1, 2, false, false),
 )];
 
-fn kernel(number: u8) -> Result<Kernel, Fail> {
-    Ok(Kernel::new(number).ok_or("a kernel")?)
-}
-
-fn stream(name: (u8, u32)) -> Result<StreamNo, Fail> {
-    Ok(StreamNo {
-        kernel: kernel(name.0)?,
+fn stream(name: (u8, u32)) -> Option<StreamNo> {
+    Some(StreamNo {
+        kernel: Kernel::new(name.0)?,
         number: name.1,
-    })
-}
-
-fn the_file() -> Result<FileId, Fail> {
-    Ok(FileId {
-        server: kernel(3)?,
-        number: 1,
     })
 }
 
@@ -124,138 +112,157 @@ fn granted(grant: &Grant) -> Seen {
     Seen::Grant(grant.stamp, grant.old, grant.new, grant.on, grant.holder)
 }
 
+// Decides; None where the file is busy, there is no room or no memory, or a callback is wanted and none is sent.
+fn decide(versions: &mut Versions, file: &FileId, action: &Action) -> Option<Seen> {
+    if !versions.room(*file) || versions.busy(*file) {
+        return None;
+    }
+    let Ok(decision) = versions.decide(*file, *action) else {
+        return None;
+    };
+    let seen = decided(&decision);
+    std::mem::drop(decision);
+    seen
+}
+
+fn decided(decision: &Decision) -> Option<Seen> {
+    match decision {
+        Decision::Grant(grant) => Some(granted(grant)),
+        Decision::CallFirst(calls) => {
+            let call = calls.as_slice().first()?;
+            Some(Seen::Calls(call.to.number(), call.stamp, call.kind, calls.len()))
+        }
+    }
+}
+
 fn open(
     versions: &mut Versions,
+    file: &FileId,
     number: u8,
     name: (u8, u32),
     mode: Mode,
     truncate: bool,
-) -> Result<Seen, Fail> {
-    let file = the_file()?;
-    if !versions.room(file) || versions.busy(file) {
-        return Err("the file is busy")?;
-    }
-    let decision = versions.decide(
-        file,
-        Action::Opening {
-            kernel: kernel(number)?,
-            stream: stream(name)?,
-            mode,
-            truncate,
-        },
-    )?;
-    decided(&decision)
+) -> Option<Seen> {
+    let action = Action::Opening {
+        kernel: Kernel::new(number)?,
+        stream: stream(name)?,
+        mode,
+        truncate,
+    };
+    decide(versions, file, &action)
 }
 
 fn migrate(
     versions: &mut Versions,
+    file: &FileId,
     name: (u8, u32),
     from: u8,
     to: u8,
     kept: bool,
-) -> Result<Seen, Fail> {
-    let file = the_file()?;
-    if !versions.room(file) || versions.busy(file) {
-        return Err("the file is busy")?;
+) -> Option<Seen> {
+    let action = Action::Moving {
+        stream: stream(name)?,
+        from: Kernel::new(from)?,
+        to: Kernel::new(to)?,
+        kept,
+        grants: 1,
+    };
+    decide(versions, file, &action)
+}
+
+fn answer(versions: &mut Versions, file: &FileId, number: u8) -> Option<Seen> {
+    let from = Kernel::new(number)?;
+    if !versions.busy(*file) {
+        return None;
     }
-    let decision = versions.decide(
-        file,
-        Action::Moving {
-            stream: stream(name)?,
-            from: kernel(from)?,
-            to: kernel(to)?,
-            kept,
-            grants: 1,
-        },
-    )?;
-    decided(&decision)
+    Some(Seen::Last(versions.answered(*file, from)))
 }
 
-fn decided(decision: &Decision) -> Result<Seen, Fail> {
-    match decision {
-        Decision::Grant(grant) => Ok(granted(grant)),
-        Decision::CallFirst(calls) => match calls.as_slice().first() {
-            Some(call) => Ok(Seen::Calls(call.to.number(), call.stamp, call.kind, calls.len())),
-            None => Err("no callback")?,
-        },
+fn settle(versions: &mut Versions, file: &FileId, number: u8) -> Option<Seen> {
+    let from = Kernel::new(number)?;
+    if !versions.busy(*file) || !versions.answered(*file, from) || !versions.is_ready(*file) {
+        return None;
     }
+    Some(granted(&versions.settle(*file)))
 }
 
-fn answer(versions: &mut Versions, number: u8) -> Result<Seen, Fail> {
-    let file = the_file()?;
-    if !versions.busy(file) {
-        return Err("nothing waits")?;
+fn close(versions: &mut Versions, file: &FileId, number: u8, name: (u8, u32)) -> Option<Seen> {
+    let kernel = Kernel::new(number)?;
+    let stream = stream(name)?;
+    if versions.busy(*file) {
+        return None;
     }
-    Ok(Seen::Last(versions.answered(file, kernel(number)?)))
+    Some(Seen::Last(versions.close(*file, kernel, stream, 1)))
 }
 
-fn settle(versions: &mut Versions, number: u8) -> Result<Seen, Fail> {
-    let file = the_file()?;
-    if !versions.busy(file)
-        || !versions.answered(file, kernel(number)?)
-        || !versions.is_ready(file)
-    {
-        return Err("a callback is out")?;
-    }
-    Ok(granted(&versions.settle(file)))
+fn current(versions: &Versions, file: &FileId, number: u8) -> Option<Seen> {
+    let kernel = Kernel::new(number)?;
+    Some(granted(&versions.current(*file, kernel)))
 }
 
-fn close(versions: &mut Versions, number: u8, name: (u8, u32)) -> Result<Seen, Fail> {
-    let file = the_file()?;
-    if versions.busy(file) {
-        return Err("the file is busy")?;
-    }
-    Ok(Seen::Last(versions.close(file, kernel(number)?, stream(name)?, 1)))
+fn count(versions: &Versions, file: &FileId, name: (u8, u32), number: u8) -> Option<Seen> {
+    let stream = stream(name)?;
+    let kernel = Kernel::new(number)?;
+    Some(Seen::Grants(versions.count(*file, stream, kernel)))
 }
 
-fn count(versions: &Versions, name: (u8, u32), number: u8) -> Result<Seen, Fail> {
-    Ok(Seen::Grants(versions.count(the_file()?, stream(name)?, kernel(number)?)))
+fn mode_of(versions: &Versions, file: &FileId, name: (u8, u32)) -> Option<Seen> {
+    let stream = stream(name)?;
+    Some(Seen::Mode(versions.mode(*file, stream)))
 }
 
-fn forget(versions: &mut Versions) -> Result<Seen, Fail> {
-    versions.forget(the_file()?);
-    Ok(Seen::Open(versions.is_open(the_file()?)))
-}
-
-// Does one thing.
-fn perform(versions: &mut Versions, act: Act) -> Result<Seen, Fail> {
-    match act {
-        Act::Open(number, name, mode, truncate) => open(versions, number, name, mode, truncate),
-        Act::Move(name, from, to, kept) => migrate(versions, name, from, to, kept),
-        Act::Answer(number) => answer(versions, number),
-        Act::Settle(number) => settle(versions, number),
-        Act::Close(number, name) => close(versions, number, name),
-        Act::Current(number) => Ok(granted(&versions.current(the_file()?, kernel(number)?))),
-        Act::IsOpen => Ok(Seen::Open(versions.is_open(the_file()?))),
-        Act::Count(name, number) => count(versions, name, number),
-        Act::ModeOf(name) => Ok(Seen::Mode(versions.mode(the_file()?, stream(name)?))),
-        Act::Forget => forget(versions),
-    }
-}
-
-// The place of the first act after which something else is seen.
-fn first_wrong(alloc: Global, cached: bool, steps: &[(Act, Seen)]) -> Result<Option<usize>, Fail> {
-    let mut versions = Versions::new(alloc, cached);
-    judged(&mut versions, steps)
-}
-
-fn judged(versions: &mut Versions, steps: &[(Act, Seen)]) -> Result<Option<usize>, Fail> {
-    for (at, step) in steps.iter().enumerate() {
-        if perform(versions, step.0)? != step.1 {
-            return Ok(Some(at));
+// Does one thing; None where a condition of it doesn't hold.
+fn perform(versions: &mut Versions, file: &FileId, act: &Act) -> Option<Seen> {
+    match *act {
+        Act::Open(number, name, mode, truncate) => {
+            open(versions, file, number, name, mode, truncate)
+        }
+        Act::Move(name, from, to, kept) => migrate(versions, file, name, from, to, kept),
+        Act::Answer(number) => answer(versions, file, number),
+        Act::Settle(number) => settle(versions, file, number),
+        Act::Close(number, name) => close(versions, file, number, name),
+        Act::Current(number) => current(versions, file, number),
+        Act::IsOpen => Some(Seen::Open(versions.is_open(*file))),
+        Act::Count(name, number) => count(versions, file, name, number),
+        Act::ModeOf(name) => mode_of(versions, file, name),
+        Act::Forget => {
+            versions.forget(*file);
+            Some(Seen::Open(versions.is_open(*file)))
         }
     }
-    Ok(None)
+}
+
+// Whether after each act that is seen which it tells.
+fn shows_all(versions: &mut Versions, file: &FileId, steps: &[(Act, Seen)]) -> bool {
+    for step in steps {
+        let Some(seen) = perform(versions, file, &step.0) else {
+            return false;
+        };
+        if seen != step.1 {
+            return false;
+        }
+    }
+    true
+}
+
+// The same of new versions, where clients have a cache or not.
+fn versions_show(alloc: Global, cached: bool, steps: &[(Act, Seen)]) -> bool {
+    let Some(server) = Kernel::new(3) else {
+        return false;
+    };
+    let file = FileId { server, number: 1 };
+    let mut versions = Versions::new(alloc, cached);
+    let right = shows_all(&mut versions, &file, steps);
+    std::mem::drop(versions);
+    right
 }
 
 #[test]
-fn opens_and_moves_are_decided(rt: HostRuntime) -> Result<(), Fail> {
-    assert_eq!(rt; first_wrong(rt.alloc(), true, &STEPS)?, None);
-    Ok(())
+fn opens_and_moves_are_decided(rt: HostRuntime) {
+    assert!(rt; versions_show(rt.alloc(), true, &STEPS));
 }
 
 #[test]
-fn clients_without_a_cache_are_granted_off(rt: HostRuntime) -> Result<(), Fail> {
-    assert_eq!(rt; first_wrong(rt.alloc(), false, &WITHOUT)?, None);
-    Ok(())
+fn clients_without_a_cache_are_granted_off(rt: HostRuntime) {
+    assert!(rt; versions_show(rt.alloc(), false, &WITHOUT));
 }

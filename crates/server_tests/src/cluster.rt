@@ -1,6 +1,5 @@
 use link_plan::Plan;
-use server_kernel::Server;
-use sprite_ids::{Bytes, Items, Kernel, NoMemory};
+use sprite_ids::{Bytes, Items, NoMemory};
 use sprite_paths::Path;
 use std::alloc::Global;
 use unix_calls::{Description, FileLine, KernelLine};
@@ -8,11 +7,6 @@ use unix_calls::{Description, FileLine, KernelLine};
 /// The path of that text.
 pub(crate) fn path(alloc: Global, text: &[u8]) -> Result<Path, NoMemory> {
     Path::clean(alloc, &Path::root(alloc), text).or(Err(NoMemory))
-}
-
-/// The kernel of that number.
-pub(crate) fn kernel(number: u8) -> Result<Kernel, NoMemory> {
-    Kernel::new(number).ok_or(NoMemory)
 }
 
 fn paths(alloc: Global, texts: &[&'static [u8]]) -> Result<Items<Path>, NoMemory> {
@@ -31,7 +25,7 @@ fn line(alloc: Global, texts: &[&'static [u8]]) -> Result<KernelLine, NoMemory> 
 }
 
 // What the kernels serve: 1 to 14 are clients, 15 serves `/m`, and 16 serves `/` and `/d`.
-const SERVED: [&[&[u8]]; 16] = [
+static SERVED: [&[&[u8]]; 16] = [
     &[],
     &[],
     &[],
@@ -52,13 +46,14 @@ const SERVED: [&[&[u8]]; 16] = [
 
 fn kernels(alloc: Global) -> Result<Items<KernelLine>, NoMemory> {
     let mut lines = Items::new(alloc);
-    for texts in SERVED {
-        lines.push(line(alloc, texts)?)?;
+    for texts in SERVED.iter() {
+        lines.push(line(alloc, *texts)?)?;
     }
     Ok(lines)
 }
 
-fn described(alloc: Global, files: Items<FileLine>) -> Result<Description, NoMemory> {
+/// A cluster of these kernels that begins with these files.
+pub(crate) fn described(alloc: Global, files: Items<FileLine>) -> Result<Description, NoMemory> {
     Ok(Description {
         version: 1,
         budget: 100,
@@ -88,21 +83,4 @@ pub(crate) fn file_line(
         bytes,
         append,
     })
-}
-
-fn booted(server: Result<Option<Server>, NoMemory>) -> Result<Server, NoMemory> {
-    match server {
-        Ok(Some(server)) => Ok(server),
-        _ => Err(NoMemory),
-    }
-}
-
-/// That kernel, which is 16, when the cluster begins with these files.
-pub(crate) fn server(
-    alloc: Global,
-    kernel: Kernel,
-    files: Items<FileLine>,
-) -> Result<Server, NoMemory> {
-    let description = described(alloc, files)?;
-    booted(Server::boot(alloc, &description, kernel))
 }

@@ -1,6 +1,7 @@
-use crate::cluster::{file_line, kernel, path, server};
+use crate::cluster::{described, file_line, path};
 use crate::rows::{Counts, Told, is_said};
-use kernel_steps::{Input, Out};
+use Client::{First, Second};
+use kernel_steps::Input;
 use packet_bodies::{
     CloseRequest, Descriptor, FetchRequest, FileOp, MakeRequest, MoveRequest, NameOp, NameRequest,
     OpRequest, OpeningRequest, PageOutRequest, ReplyBody, Request, Target, WriteBackRequest,
@@ -11,39 +12,48 @@ use sprite_ids::{
 };
 use sprite_paths::Path;
 use std::alloc::Global;
-use std::test::Fail;
-use unix_calls::FileLine;
+use unix_calls::{Description, FileLine};
 
-// What comes to the server from the kernel of the first number. A stream's number has that of the kernel that opened it before
-// its last two digits.
+#[derive(Clone, Copy)]
+enum Client {
+    First,
+    Second,
+}
+
+// What comes to the server, where the first word tells from whom, else from the first client. A stream is named by the client
+// that opened it and its number there.
 #[derive(Clone, Copy)]
 enum Step {
     Echo,
     Prefix(&'static [u8]),
     // The stream, the path and the flags.
-    Open(u8, u32, &'static [u8], u8),
+    Open(Client, (Client, u32), &'static [u8], u8),
     Name(NameOp, &'static [u8]),
     Rename(&'static [u8], &'static [u8]),
     Make(&'static [u8]),
     // The stream, the file and the grants.
-    Close(u8, u32, u32, u32),
+    Close(Client, (Client, u32), u32, u32),
     // What is done, the stream, the file, the stamp, the offset, and the bytes; a read asks for as many.
-    Op(u8, FileOp, u32, u32, u32, Option<u32>, &'static [u8]),
+    Op(Client, FileOp, (Client, u32), u32, u32, Option<u32>, &'static [u8]),
     // The file, the stamp and the block.
-    Fetch(u8, u32, u32, u16),
+    Fetch(Client, u32, u32, u16),
     // The file, the stamp and the bytes of block 0.
-    WriteBack(u8, u32, u32, &'static [u8]),
+    WriteBack(Client, u32, u32, &'static [u8]),
     // The stream, the file, the target, whether references stay, and the grants.
-    Move(u8, u32, u32, u8, bool, u32),
+    Move(Client, (Client, u32), u32, Client, bool, u32),
     // The remote call, the file's size, and the bytes of block 0; none where there is no byte.
     Flushed(u32, u32, &'static [u8]),
     PageOut,
     PageIn,
 }
 
-// The remote calls of the step at a place, counted over all the following tables, are numbered from 100 and ten times that place on.
-// Names, an open, a redirect and a fetch.
-static NAMES: [(Step, Counts, Told); 10] = [
+// What comes, and what the server says to it.
+type Row = (Step, Counts, Told);
+
+// What comes to a server that begins without files, and what it says. The remote calls of the row at a place are numbered from
+// 100 and ten times that place on.
+static SCRIPT: [Row; 61] = [
+    // Names, an open, a redirect and a fetch.
     (Step::Echo, (0, 0, 1), Told::Done),
     (Step::Prefix(b"/d"), (0, 0, 1), Told::Here),
     (Step::Prefix(b"/m"), (0, 0, 0), Told::Nothing),
@@ -63,38 +73,47 @@ static NAMES: [(Step, Counts, Told); 10] = [
         Told::Refused(Errno::Exists),
     ),
     (
-        Step::Open(1, 101, b"/x/f", 1),
+        Step::Open(First, (First, 1), b"/x/f", 1),
         (0, 1, 1),
         Told::Refused(Errno::NoEntry),
     ),
     (
-        Step::Open(1, 101, b"/x/f", 7),
+        Step::Open(First, (First, 1), b"/x/f", 7),
         (0, 3, 1),
         Told::Opened(true, 0),
     ),
     (
-        Step::Open(1, 102, b"/x/f", 0),
+        Step::Open(First, (First, 2), b"/x/f", 0),
         (0, 1, 1),
         Told::Refused(Errno::Invalid),
     ),
     (
-        Step::Open(1, 102, b"/x", 1),
+        Step::Open(First, (First, 2), b"/x", 1),
         (0, 1, 1),
         Told::Refused(Errno::IsDir),
     ),
-];
-
-// A file that is cached, and whose callbacks are out.
-static BUSY: [(Step, Counts, Told); 10] = [
-    (Step::Open(1, 102, b"/m/f", 1), (0, 0, 1), Told::Redirect),
-    (Step::Fetch(1, 1, 1, 0), (0, 0, 1), Told::Block(0)),
-    (Step::WriteBack(1, 1, 1, b"hello"), (0, 0, 1), Told::Done),
-    (Step::Fetch(1, 1, 1, 0), (0, 0, 1), Told::Block(5)),
+    // A file that is cached, and whose callbacks are out.
+    (
+        Step::Open(First, (First, 2), b"/m/f", 1),
+        (0, 0, 1),
+        Told::Redirect,
+    ),
+    (Step::Fetch(First, 1, 1, 0), (0, 0, 1), Told::Block(0)),
+    (
+        Step::WriteBack(First, 1, 1, b"hello"),
+        (0, 0, 1),
+        Told::Done,
+    ),
+    (Step::Fetch(First, 1, 1, 0), (0, 0, 1), Told::Block(5)),
     // A stamp that isn't the current one.
-    (Step::Fetch(1, 1, 9, 0), (0, 0, 1), Told::Again(1, true)),
+    (Step::Fetch(First, 1, 9, 0), (0, 0, 1), Told::Again(1, true)),
     // The writer is stopped first; meanwhile the file is busy.
-    (Step::Open(2, 201, b"/x/f", 1), (1, 2, 0), Told::Nothing),
-    (Step::Fetch(1, 1, 1, 0), (0, 0, 0), Told::Nothing),
+    (
+        Step::Open(Second, (Second, 1), b"/x/f", 1),
+        (1, 2, 0),
+        Told::Nothing,
+    ),
+    (Step::Fetch(First, 1, 1, 0), (0, 0, 0), Told::Nothing),
     (
         Step::Name(NameOp::Unlink, b"/x/f"),
         (0, 0, 0),
@@ -110,81 +129,80 @@ static BUSY: [(Step, Counts, Told); 10] = [
         (0, 1, 1),
         Told::Refused(Errno::NoEntry),
     ),
-];
-
-// A file that isn't cached, and a stream that becomes shared.
-static UNCACHED: [(Step, Counts, Told); 11] = [
+    // A file that isn't cached, and a stream that becomes shared.
     (
-        Step::Op(2, FileOp::Read, 201, 1, 3, Some(1), b"1234"),
+        Step::Op(Second, FileOp::Read, (Second, 1), 1, 3, Some(1), b"1234"),
         (0, 1, 1),
         Told::Value(4, 0, 4),
     ),
     (
-        Step::Op(1, FileOp::Write, 101, 1, 2, Some(6), b"??"),
+        Step::Op(First, FileOp::Write, (First, 1), 1, 2, Some(6), b"??"),
         (0, 1, 1),
         Told::Value(2, 0, 0),
     ),
     (
-        Step::Op(1, FileOp::Size, 101, 1, 2, None, b""),
+        Step::Op(First, FileOp::Size, (First, 1), 1, 2, None, b""),
         (0, 1, 1),
         Told::Value(8, 0, 0),
     ),
     (
-        Step::Op(1, FileOp::Append, 101, 1, 2, None, b"!"),
+        Step::Op(First, FileOp::Append, (First, 1), 1, 2, None, b"!"),
         (0, 1, 1),
         Told::Value(1, 9, 0),
     ),
     (
-        Step::Op(1, FileOp::Write, 101, 1, 2, Some(262_144), b"x"),
+        Step::Op(First, FileOp::Write, (First, 1), 1, 2, Some(262_144), b"x"),
         (0, 1, 1),
         Told::Refused(Errno::TooBig),
     ),
     // The stream becomes shared: its offset, 3, is the server's.
     (
-        Step::Move(1, 101, 1, 2, true, 0),
+        Step::Move(First, (First, 1), 1, Second, true, 0),
         (0, 3, 1),
         Told::Moved(true),
     ),
     (
-        Step::Op(2, FileOp::Read, 101, 1, 4, None, b"12"),
+        Step::Op(Second, FileOp::Read, (First, 1), 1, 4, None, b"12"),
         (0, 1, 1),
         Told::Value(2, 0, 2),
     ),
     (
-        Step::Op(1, FileOp::Read, 101, 1, 2, None, b"123456"),
+        Step::Op(First, FileOp::Read, (First, 1), 1, 2, None, b"123456"),
         (0, 1, 1),
         Told::Value(4, 0, 4),
     ),
     (
-        Step::Op(1, FileOp::Seek, 101, 1, 2, Some(8), b""),
+        Step::Op(First, FileOp::Seek, (First, 1), 1, 2, Some(8), b""),
         (0, 1, 1),
         Told::Value(8, 0, 0),
     ),
     (
-        Step::Op(2, FileOp::Read, 101, 1, 4, None, b"12"),
+        Step::Op(Second, FileOp::Read, (First, 1), 1, 4, None, b"12"),
         (0, 1, 1),
         Told::Value(1, 0, 1),
     ),
     (
-        Step::Op(1, FileOp::Append, 101, 1, 2, None, b"z"),
+        Step::Op(First, FileOp::Append, (First, 1), 1, 2, None, b"z"),
         (0, 1, 1),
         Told::Value(1, 10, 0),
     ),
-];
-
-// A shared stream, until it is closed by all.
-static SHARED: [(Step, Counts, Told); 4] = [
-    (Step::Close(1, 101, 1, 1), (0, 1, 1), Told::Done),
-    (Step::Close(2, 201, 1, 1), (0, 1, 1), Told::Done),
-    (Step::Close(2, 101, 1, 1), (0, 1, 1), Told::Done),
+    // A shared stream, until it is closed by all.
+    (Step::Close(First, (First, 1), 1, 1), (0, 1, 1), Told::Done),
+    (
+        Step::Close(Second, (Second, 1), 1, 1),
+        (0, 1, 1),
+        Told::Done,
+    ),
+    (Step::Close(Second, (First, 1), 1, 1), (0, 1, 1), Told::Done),
     // The file had no name: it is forgotten.
-    (Step::WriteBack(1, 1, 2, b"late"), (0, 0, 1), Told::Done),
-];
-
-// A forgotten file, and a pseudo-device.
-static FORGOTTEN: [(Step, Counts, Told); 9] = [
+    (Step::WriteBack(First, 1, 2, b"late"), (0, 0, 1), Told::Done),
+    // A forgotten file, and a pseudo-device.
     (Step::Make(b"/x/v"), (0, 1, 1), Told::Value(3, 0, 0)),
-    (Step::Open(2, 202, b"/x/v", 3), (0, 1, 1), Told::Device),
+    (
+        Step::Open(Second, (Second, 2), b"/x/v", 3),
+        (0, 1, 1),
+        Told::Device,
+    ),
     (
         Step::Name(NameOp::Unlink, b"/x/v"),
         (0, 1, 1),
@@ -202,7 +220,7 @@ static FORGOTTEN: [(Step, Counts, Told); 9] = [
     ),
     (Step::Rename(b"/m/a", b"/x/a"), (0, 0, 1), Told::Redirect),
     (
-        Step::Open(1, 102, b"/d/g", 7),
+        Step::Open(First, (First, 2), b"/d/g", 7),
         (0, 3, 1),
         Told::Opened(true, 0),
     ),
@@ -216,10 +234,7 @@ static FORGOTTEN: [(Step, Counts, Told); 9] = [
         (0, 1, 1),
         Told::Value(2, 0, 2),
     ),
-];
-
-// Renames, lists, working directories.
-static TREE: [(Step, Counts, Told); 7] = [
+    // Renames, lists, working directories.
     (
         Step::Name(NameOp::List, b"/"),
         (0, 1, 1),
@@ -247,21 +262,26 @@ static TREE: [(Step, Counts, Told); 7] = [
     ),
     (Step::PageOut, (0, 0, 1), Told::Done),
     (Step::PageIn, (0, 0, 1), Told::Page(4)),
-];
-
-// Pages, and recalls and truncations.
-static PAGES: [(Step, Counts, Told); 10] = [
+    // Pages, and recalls and truncations.
     (Step::PageIn, (0, 0, 0), Told::Nothing),
-    (Step::Close(1, 102, 2, 1), (0, 1, 1), Told::Done),
+    (Step::Close(First, (First, 2), 2, 1), (0, 1, 1), Told::Done),
     // The dirty blocks are recalled from the last writer.
-    (Step::Open(2, 203, b"/d/h", 1), (1, 2, 0), Told::Nothing),
+    (
+        Step::Open(Second, (Second, 3), b"/d/h", 1),
+        (1, 2, 0),
+        Told::Nothing,
+    ),
     (
         Step::Flushed(630, 3, b"abc"),
         (0, 3, 1),
         Told::Opened(true, 3),
     ),
     // A truncation stops both, in ascending order.
-    (Step::Open(1, 103, b"/d/h", 10), (2, 4, 0), Told::Nothing),
+    (
+        Step::Open(First, (First, 3), b"/d/h", 10),
+        (2, 4, 0),
+        Told::Nothing,
+    ),
     (Step::Flushed(651, 3, b""), (0, 0, 0), Told::Nothing),
     (Step::Flushed(9_999, 3, b"abc"), (0, 0, 0), Told::Nothing),
     (
@@ -270,69 +290,87 @@ static PAGES: [(Step, Counts, Told); 10] = [
         Told::Opened(false, 0),
     ),
     (
-        Step::Move(2, 203, 2, 1, false, 1),
+        Step::Move(Second, (Second, 3), 2, First, false, 1),
         (0, 3, 1),
         Told::Moved(true),
     ),
     (Step::Name(NameOp::Walk, b"/d"), (0, 0, 0), Told::Nothing),
 ];
 
-// The process that asks.
-fn pid() -> Result<Pid, NoMemory> {
-    Pid::new(kernel(1)?, 1).ok_or(NoMemory)
+// Those who take part: the clients, the server, the process that asks and the descriptor that it asks for.
+#[derive(Clone, Copy)]
+struct Cast {
+    alloc: Global,
+    first: Kernel,
+    second: Kernel,
+    server: Kernel,
+    pid: Pid,
+    fd: Descriptor,
 }
 
-fn fd() -> Result<Descriptor, NoMemory> {
-    Descriptor::new(3).ok_or(NoMemory)
-}
-
-fn file(number: u32) -> Result<FileId, NoMemory> {
-    let server = kernel(16)?;
-    Ok(FileId { server, number })
-}
-
-fn stream(number: u32) -> Result<StreamNo, NoMemory> {
-    let opener = u8::try_from(number / 100).or(Err(NoMemory))?;
-    let kernel = kernel(opener)?;
-    Ok(StreamNo {
-        kernel,
-        number: number % 100,
+fn whole_cast(alloc: Global) -> Option<Cast> {
+    let first = Kernel::new(1)?;
+    Some(Cast {
+        alloc,
+        first,
+        second: Kernel::new(2)?,
+        server: Kernel::new(16)?,
+        pid: Pid::new(first, 1)?,
+        fd: Descriptor::new(3)?,
     })
 }
 
+fn kernel(cast: &Cast, client: Client) -> Kernel {
+    match client {
+        First => cast.first,
+        Second => cast.second,
+    }
+}
+
+fn file(cast: &Cast, number: u32) -> FileId {
+    FileId {
+        server: cast.server,
+        number,
+    }
+}
+
+fn stream(cast: &Cast, name: (Client, u32)) -> StreamNo {
+    StreamNo {
+        kernel: kernel(cast, name.0),
+        number: name.1,
+    }
+}
+
 // How many bytes these are.
-fn length(bytes: &[u8]) -> Result<u32, NoMemory> {
-    u32::try_from(bytes.len()).or(Err(NoMemory))
+fn length(bytes: &[u8]) -> u32 {
+    u32::try_from(bytes.len()).unwrap_or(0)
 }
 
 // A path, and its text.
-fn named(alloc: Global, text: &[u8]) -> Result<(Path, Bytes), NoMemory> {
-    let bytes = Bytes::of_slice(alloc, text)?;
-    Ok((path(alloc, text)?, bytes))
+fn named(alloc: Global, text: &[u8]) -> Option<(Path, Bytes)> {
+    let path = path(alloc, text).ok()?;
+    let bytes = Bytes::of_slice(alloc, text).ok()?;
+    Some((path, bytes))
 }
 
-fn opening(alloc: Global, number: u32, text: &[u8], flags: u8) -> Result<Request, NoMemory> {
-    let pid = pid()?;
-    let fd = fd()?;
-    let stream = stream(number)?;
-    let (path, text) = named(alloc, text)?;
-    Ok(Request::Opening(OpeningRequest {
-        pid,
+fn opening(cast: &Cast, name: (Client, u32), text: &[u8], flags: u8) -> Option<Request> {
+    let (path, text) = named(cast.alloc, text)?;
+    Some(Request::Opening(OpeningRequest {
+        pid: cast.pid,
         number: 1,
-        stream,
+        stream: stream(cast, name),
         path,
         flags,
-        fd,
+        fd: cast.fd,
         text,
     }))
 }
 
-fn name(alloc: Global, op: NameOp, text: &[u8], new: &[u8]) -> Result<Request, NoMemory> {
-    let pid = pid()?;
-    let (path, text) = named(alloc, text)?;
-    let (second, second_text) = named(alloc, new)?;
-    Ok(Request::Name(NameRequest {
-        pid,
+fn name(cast: &Cast, op: NameOp, text: &[u8], new: &[u8]) -> Option<Request> {
+    let (path, text) = named(cast.alloc, text)?;
+    let (second, second_text) = named(cast.alloc, new)?;
+    Some(Request::Name(NameRequest {
+        pid: cast.pid,
         number: 1,
         op,
         path,
@@ -343,199 +381,177 @@ fn name(alloc: Global, op: NameOp, text: &[u8], new: &[u8]) -> Result<Request, N
     }))
 }
 
-fn make(alloc: Global, text: &[u8]) -> Result<Request, NoMemory> {
-    let pid = pid()?;
-    let fd = fd()?;
-    let stream = stream(109)?;
-    let kernel = kernel(1)?;
-    let device = DeviceId { kernel, number: 1 };
-    let (path, text) = named(alloc, text)?;
-    Ok(Request::Make(MakeRequest {
-        pid,
+fn make(cast: &Cast, text: &[u8]) -> Option<Request> {
+    let (path, text) = named(cast.alloc, text)?;
+    Some(Request::Make(MakeRequest {
+        pid: cast.pid,
         number: 1,
-        stream,
+        stream: stream(cast, (First, 9)),
         path,
-        device,
-        fd,
+        device: DeviceId {
+            kernel: cast.first,
+            number: 1,
+        },
+        fd: cast.fd,
         text,
     }))
 }
 
-fn write_back(alloc: Global, number: u32, stamp: u32, bytes: &[u8]) -> Result<Request, NoMemory> {
-    let file = file(number)?;
-    let size = length(bytes)?;
-    let bytes = Bytes::of_slice(alloc, bytes)?;
-    Ok(Request::WriteBack(WriteBackRequest {
-        file,
+fn write_back(cast: &Cast, number: u32, stamp: u32, bytes: &[u8]) -> Option<Request> {
+    Some(Request::WriteBack(WriteBackRequest {
+        file: file(cast, number),
         stamp,
         block: BlockNo(0),
-        size,
-        bytes,
+        size: length(bytes),
+        bytes: Bytes::of_slice(cast.alloc, bytes).ok()?,
     }))
 }
 
-fn page_out(alloc: Global) -> Result<Request, NoMemory> {
-    let pid = pid()?;
-    let bytes = Bytes::of_slice(alloc, b"page")?;
-    Ok(Request::PageOut(PageOutRequest {
-        pid,
+fn page_out(cast: &Cast) -> Option<Request> {
+    Some(Request::PageOut(PageOutRequest {
+        pid: cast.pid,
         page: 2,
-        bytes,
+        bytes: Bytes::of_slice(cast.alloc, b"page").ok()?,
     }))
 }
 
-fn page_in() -> Result<Request, NoMemory> {
-    let pid = pid()?;
-    Ok(Request::PageIn { pid, page: 2 })
-}
-
-fn fetch(number: u32, stamp: u32, block: u16) -> Result<Request, NoMemory> {
-    let file = file(number)?;
-    Ok(Request::Fetch(FetchRequest {
-        file,
-        stamp,
-        block: BlockNo(block),
-    }))
-}
-
-fn close(number: u32, of: u32, grants: u32) -> Result<Request, NoMemory> {
-    let file = file(of)?;
-    let stream = stream(number)?;
-    Ok(Request::Close(CloseRequest {
-        object: Target::File(file),
-        stream,
-        grants,
-    }))
-}
-
-fn moving(number: u32, of: u32, to: u8, kept: bool, grants: u32) -> Result<Request, NoMemory> {
-    let stream = stream(number)?;
-    let file = file(of)?;
-    let to = kernel(to)?;
-    Ok(Request::Move(MoveRequest {
-        stream,
-        object: Target::File(file),
-        to,
+fn moving(
+    cast: &Cast,
+    name: (Client, u32),
+    of: u32,
+    to: Client,
+    kept: bool,
+    grants: u32,
+) -> Request {
+    Request::Move(MoveRequest {
+        stream: stream(cast, name),
+        object: Target::File(file(cast, of)),
+        to: kernel(cast, to),
         kept,
         offset: Some(3),
         grants,
-    }))
+    })
 }
 
 fn op(
-    alloc: Global,
+    cast: &Cast,
     op: FileOp,
-    number: u32,
+    name: (Client, u32),
     of: u32,
     stamp: u32,
     offset: Option<u32>,
     bytes: &[u8],
-) -> Result<Request, NoMemory> {
-    let pid = pid()?;
-    let fd = fd()?;
-    let file = file(of)?;
-    let stream = stream(number)?;
-    let length = length(bytes)?;
-    let bytes = Bytes::of_slice(alloc, bytes)?;
-    Ok(Request::Op(OpRequest {
-        pid,
+) -> Option<Request> {
+    Some(Request::Op(OpRequest {
+        pid: cast.pid,
         number: 1,
-        file,
+        file: file(cast, of),
         stamp,
-        stream,
+        stream: stream(cast, name),
         op,
         offset,
-        length,
-        bytes,
-        fd,
+        length: length(bytes),
+        bytes: Bytes::of_slice(cast.alloc, bytes).ok()?,
+        fd: cast.fd,
     }))
 }
 
-fn prefix(alloc: Global, text: &[u8]) -> Result<Request, NoMemory> {
-    let path = path(alloc, text)?;
-    Ok(Request::Prefix { path })
+fn prefix(cast: &Cast, text: &[u8]) -> Option<Request> {
+    let path = path(cast.alloc, text).ok()?;
+    Some(Request::Prefix { path })
+}
+
+fn close(cast: &Cast, name: (Client, u32), of: u32, grants: u32) -> Request {
+    Request::Close(CloseRequest {
+        object: Target::File(file(cast, of)),
+        stream: stream(cast, name),
+        grants,
+    })
+}
+
+fn fetch(cast: &Cast, number: u32, stamp: u32, block: u16) -> Request {
+    Request::Fetch(FetchRequest {
+        file: file(cast, number),
+        stamp,
+        block: BlockNo(block),
+    })
+}
+
+fn page_in(cast: &Cast) -> Request {
+    Request::PageIn {
+        pid: cast.pid,
+        page: 2,
+    }
 }
 
 // A request about names.
-fn name_request(alloc: Global, step: Step) -> Result<Request, NoMemory> {
-    match step {
-        Step::Prefix(text) => prefix(alloc, text),
-        Step::Open(_, number, text, flags) => opening(alloc, number, text, flags),
-        Step::Name(op, text) => name(alloc, op, text, b"/"),
-        Step::Rename(text, new) => name(alloc, NameOp::Rename, text, new),
-        Step::Make(text) => make(alloc, text),
-        Step::Op(_, what, number, of, stamp, offset, bytes) => {
-            op(alloc, what, number, of, stamp, offset, bytes)
-        }
-        _ => Ok(Request::Echo),
+fn name_request(cast: &Cast, step: &Step) -> Option<Request> {
+    match *step {
+        Step::Prefix(text) => prefix(cast, text),
+        Step::Open(_, stream, text, flags) => opening(cast, stream, text, flags),
+        Step::Name(op, text) => name(cast, op, text, b"/"),
+        Step::Rename(text, new) => name(cast, NameOp::Rename, text, new),
+        Step::Make(text) => make(cast, text),
+        _ => Some(Request::Echo),
     }
 }
 
 // The request that the step is.
-fn request(alloc: Global, step: Step) -> Result<Request, NoMemory> {
-    match step {
-        Step::Close(_, number, of, grants) => close(number, of, grants),
-        Step::Fetch(_, number, stamp, block) => fetch(number, stamp, block),
-        Step::WriteBack(_, number, stamp, bytes) => write_back(alloc, number, stamp, bytes),
-        Step::Move(_, number, of, to, kept, grants) => moving(number, of, to, kept, grants),
-        Step::PageOut => page_out(alloc),
-        Step::PageIn => page_in(),
-        _ => name_request(alloc, step),
+fn request(cast: &Cast, step: &Step) -> Option<Request> {
+    match *step {
+        Step::Close(_, stream, of, grants) => Some(close(cast, stream, of, grants)),
+        Step::Op(_, what, stream, of, stamp, offset, bytes) => {
+            op(cast, what, stream, of, stamp, offset, bytes)
+        }
+        Step::Fetch(_, number, stamp, block) => Some(fetch(cast, number, stamp, block)),
+        Step::WriteBack(_, number, stamp, bytes) => write_back(cast, number, stamp, bytes),
+        Step::Move(_, stream, of, to, kept, grants) => {
+            Some(moving(cast, stream, of, to, kept, grants))
+        }
+        Step::PageOut => page_out(cast),
+        Step::PageIn => Some(page_in(cast)),
+        _ => name_request(cast, step),
     }
 }
 
-// The kernel that the step comes from.
-fn sender(step: Step) -> Result<Kernel, NoMemory> {
-    match step {
-        Step::Open(from, ..) => kernel(from),
-        Step::Close(from, ..) => kernel(from),
-        Step::Op(from, ..) => kernel(from),
-        Step::Fetch(from, ..) => kernel(from),
-        Step::WriteBack(from, ..) => kernel(from),
-        Step::Move(from, ..) => kernel(from),
-        _ => kernel(1),
+// The client that the step comes from.
+fn sender(step: &Step) -> Client {
+    match *step {
+        Step::Open(from, ..) => from,
+        Step::Close(from, ..) => from,
+        Step::Op(from, ..) => from,
+        Step::Fetch(from, ..) => from,
+        Step::WriteBack(from, ..) => from,
+        Step::Move(from, ..) => from,
+        _ => First,
     }
 }
 
-// Block 0 with these bytes; none where there is no byte.
-fn first_block(alloc: Global, bytes: &[u8]) -> Result<Items<(BlockNo, Bytes)>, NoMemory> {
-    if bytes.is_empty() {
-        return Ok(Items::new(alloc));
+// An answer to a callback: block 0 with these bytes, and no block where there is no byte.
+fn flushed(alloc: Global, size: u32, bytes: &[u8]) -> Option<Flushed> {
+    let mut blocks = Vec::with_capacity(alloc, 1).ok()?;
+    if !bytes.is_empty() {
+        blocks.push_reserved((BlockNo(0), Bytes::of_slice(alloc, bytes).ok()?));
     }
-    let bytes = Bytes::of_slice(alloc, bytes)?;
-    one_block(alloc, bytes)
-}
-
-fn one_block(alloc: Global, bytes: Bytes) -> Result<Items<(BlockNo, Bytes)>, NoMemory> {
-    Ok(Items::of_vec(Vec::from_array(alloc, [(BlockNo(0), bytes)])?))
-}
-
-// An answer to a callback.
-fn flushed(alloc: Global, tx: u32, size: u32, bytes: &[u8]) -> Result<Input, NoMemory> {
-    let from = kernel(1)?;
-    let blocks = first_block(alloc, bytes)?;
-    Ok(Input::Replied {
-        tx: TxNo(tx),
-        from,
-        body: ReplyBody::Flushed(Flushed { size, blocks }),
+    Some(Flushed {
+        size,
+        blocks: Items::of_vec(blocks),
     })
 }
 
-// A request.
-fn asked(alloc: Global, step: Step) -> Result<Input, NoMemory> {
-    let from = sender(step)?;
-    let body = request(alloc, step)?;
-    Ok(Input::Request {
-        tx: TxNo(1),
-        from,
-        body,
-    })
-}
-
-fn input(alloc: Global, step: Step) -> Result<Input, NoMemory> {
-    match step {
-        Step::Flushed(tx, size, bytes) => flushed(alloc, tx, size, bytes),
-        _ => asked(alloc, step),
+fn input(cast: &Cast, step: &Step) -> Option<Input> {
+    let from = kernel(cast, sender(step));
+    match *step {
+        Step::Flushed(tx, size, bytes) => Some(Input::Replied {
+            tx: TxNo(tx),
+            from,
+            body: ReplyBody::Flushed(flushed(cast.alloc, size, bytes)?),
+        }),
+        _ => Some(Input::Request {
+            tx: TxNo(1),
+            from,
+            body: request(cast, step)?,
+        }),
     }
 }
 
@@ -545,124 +561,69 @@ fn first_call(place: usize) -> TxNo {
     TxNo(place.wrapping_mul(10).wrapping_add(100))
 }
 
-// Makes the step; false where the server says something else.
-fn says(
-    alloc: Global,
-    server: &mut Server,
-    place: usize,
-    row: &(Step, Counts, Told),
-) -> Result<bool, NoMemory> {
-    let (step, counts, told) = *row;
-    let input = input(alloc, step)?;
-    tells(server.take(alloc, &input, first_call(place)), counts, told)
+// Makes the step with that input; whether the server says to it what it is to say.
+fn tells(alloc: Global, server: &mut Server, input: &Input, place: usize, row: &Row) -> bool {
+    let Ok(out) = server.take(alloc, input, first_call(place)) else {
+        return false;
+    };
+    let said = is_said(&out, row.1, row.2);
+    std::mem::drop(out);
+    said
 }
 
-// Whether the step said so.
-fn tells(out: Result<Out, NoMemory>, counts: Counts, told: Told) -> Result<bool, NoMemory> {
-    let out = out?;
-    Ok(is_said(&out, counts, told))
+// Whether the server says to the row of that place what it is to say.
+fn says(cast: &Cast, server: &mut Server, place: usize, row: &Row) -> bool {
+    let Some(input) = input(cast, &row.0) else {
+        return false;
+    };
+    let said = tells(cast.alloc, server, &input, place, row);
+    std::mem::drop(input);
+    said
 }
 
-// The place of the first row to which the server says something else; the first one is the script's step of that number.
-fn first_other(
-    alloc: Global,
-    server: &mut Server,
-    first: usize,
-    rows: &[(Step, Counts, Told)],
-) -> Result<Option<usize>, NoMemory> {
-    for (count, row) in rows.iter().enumerate() {
-        if !says(alloc, server, first.wrapping_add(count), row)? {
-            return Ok(Some(count));
+// Whether the server says to all rows, one after another, what it is to say.
+fn says_all(cast: &Cast, server: &mut Server, rows: &[Row]) -> bool {
+    for (place, row) in rows.iter().enumerate() {
+        if !says(cast, server, place, row) {
+            return false;
         }
     }
-    Ok(None)
-}
-
-// Whether the server says to all rows of a table what it is to say.
-fn says_all(
-    alloc: Global,
-    server: &mut Server,
-    first: usize,
-    rows: &[(Step, Counts, Told)],
-) -> Result<bool, NoMemory> {
-    Ok(first_other(alloc, server, first, rows)?.is_none())
-}
-
-fn says_names(alloc: Global, server: &mut Server) -> Result<bool, NoMemory> {
-    says_all(alloc, server, 0, &NAMES)
-}
-
-fn says_busy(alloc: Global, server: &mut Server) -> Result<bool, NoMemory> {
-    says_all(alloc, server, 10, &BUSY)
-}
-
-fn says_uncached(alloc: Global, server: &mut Server) -> Result<bool, NoMemory> {
-    says_all(alloc, server, 20, &UNCACHED)
-}
-
-fn says_shared(alloc: Global, server: &mut Server) -> Result<bool, NoMemory> {
-    says_all(alloc, server, 31, &SHARED)
-}
-
-fn says_forgotten(alloc: Global, server: &mut Server) -> Result<bool, NoMemory> {
-    says_all(alloc, server, 35, &FORGOTTEN)
-}
-
-fn says_tree(alloc: Global, server: &mut Server) -> Result<bool, NoMemory> {
-    says_all(alloc, server, 44, &TREE)
-}
-
-fn says_pages(alloc: Global, server: &mut Server) -> Result<bool, NoMemory> {
-    says_all(alloc, server, 51, &PAGES)
-}
-
-// Whether the server says to the tables' rows, one table after another, what it is to say.
-fn says_tables(alloc: Global, server: &mut Server) -> Result<bool, NoMemory> {
-    Ok(
-        says_names(alloc, server)?
-            && says_busy(alloc, server)?
-            && says_uncached(alloc, server)?
-            && says_shared(alloc, server)?
-            && says_forgotten(alloc, server)?
-            && says_tree(alloc, server)?
-            && says_pages(alloc, server)?,
-    )
+    true
 }
 
 // The first file is there with the bytes of both its lines, the second line's file is another server's, and the next file has
 // number 4.
-static BOOTED: [(Step, Counts, Told); 6] = [
+static BOOTED: [Row; 6] = [
     (
         Step::Name(NameOp::Stat, b"/d"),
         (0, 1, 1),
         Told::Value(2, 1, 0),
     ),
     (
-        Step::Open(1, 101, b"/d/e/b", 1),
+        Step::Open(First, (First, 1), b"/d/e/b", 1),
         (0, 3, 1),
         Told::Opened(true, 3),
     ),
-    (Step::Fetch(1, 1, 1, 0), (0, 0, 1), Told::Block(3)),
+    (Step::Fetch(First, 1, 1, 0), (0, 0, 1), Told::Block(3)),
     (Step::Name(NameOp::Stat, b"/m/q"), (0, 0, 1), Told::Redirect),
     (
-        Step::Open(1, 102, b"/n", 7),
+        Step::Open(First, (First, 2), b"/n", 7),
         (0, 3, 1),
         Told::Opened(true, 0),
     ),
-    (Step::Close(1, 102, 4, 1), (0, 1, 1), Told::Done),
+    (Step::Close(First, (First, 2), 4, 1), (0, 1, 1), Told::Done),
 ];
 
-// The lines of these files: the path, the bytes, and whether they go behind the file's bytes so far.
-const FILES: [(&[u8], &[u8], bool); 3] = [
+// The line of a file: the path, the bytes, and whether they go behind the file's bytes so far.
+type FileRow = (&'static [u8], &'static [u8], bool);
+
+static FILES: [FileRow; 3] = [
     (b"/d/e/b", b"hi", false),
     (b"/m/q", b"other", false),
     (b"/d/e/b", b"!", true),
 ];
 
-fn file_lines(
-    alloc: Global,
-    rows: &[(&'static [u8], &'static [u8], bool)],
-) -> Result<Items<FileLine>, NoMemory> {
+fn file_lines(alloc: Global, rows: &[FileRow]) -> Result<Items<FileLine>, NoMemory> {
     let mut lines = Items::new(alloc);
     for row in rows {
         lines.push(file_line(alloc, row.0, row.1, row.2)?)?;
@@ -670,51 +631,39 @@ fn file_lines(
     Ok(lines)
 }
 
-fn says_booted(alloc: Global, server: &mut Server) -> Result<bool, NoMemory> {
-    says_all(alloc, server, 0, &BOOTED)
+// Whether the server of that cluster says to all rows what it is to say.
+fn server_says(cast: &Cast, cluster: &Description, rows: &[Row]) -> bool {
+    let Ok(Some(mut server)) = Server::boot(cast.alloc, cluster, cast.server) else {
+        return false;
+    };
+    let said = says_all(cast, &mut server, rows);
+    std::mem::drop(server);
+    said
 }
 
-// What a server is asked: all tables where it begins without files, and the rows about its files where it begins with these.
-#[derive(Clone, Copy)]
-enum Script {
-    Tables,
-    Booted,
+fn cluster_with(alloc: Global, files: &[FileRow]) -> Result<Description, NoMemory> {
+    described(alloc, file_lines(alloc, files)?)
 }
 
-fn says_script(alloc: Global, server: &mut Server, script: Script) -> Result<bool, NoMemory> {
-    match script {
-        Script::Tables => says_tables(alloc, server),
-        Script::Booted => says_booted(alloc, server),
-    }
-}
-
-fn server_with(
-    alloc: Global,
-    files: &[(&'static [u8], &'static [u8], bool)],
-) -> Result<Server, NoMemory> {
-    let kernel = kernel(16)?;
-    let files = file_lines(alloc, files)?;
-    server(alloc, kernel, files)
-}
-
-// Whether a server that begins with these files says to the script what it is to say.
-fn server_says(
-    alloc: Global,
-    files: &[(&'static [u8], &'static [u8], bool)],
-    script: Script,
-) -> Result<bool, NoMemory> {
-    let mut server = server_with(alloc, files)?;
-    says_script(alloc, &mut server, script)
+// The same of a cluster that begins with these files.
+fn says_with(alloc: Global, files: &[FileRow], rows: &[Row]) -> bool {
+    let Some(cast) = whole_cast(alloc) else {
+        return false;
+    };
+    let Ok(cluster) = cluster_with(alloc, files) else {
+        return false;
+    };
+    let said = server_says(&cast, &cluster, rows);
+    std::mem::drop(cluster);
+    said
 }
 
 #[test]
-fn steps_say_as_worked_out(rt: HostRuntime) -> Result<(), Fail> {
-    assert!(rt; server_says(rt.alloc(), &[], Script::Tables)?);
-    Ok(())
+fn steps_say_as_worked_out(rt: HostRuntime) {
+    assert!(rt; says_with(rt.alloc(), &[], &SCRIPT));
 }
 
 #[test]
-fn files_are_there_at_boot(rt: HostRuntime) -> Result<(), Fail> {
-    assert!(rt; server_says(rt.alloc(), &FILES, Script::Booted)?);
-    Ok(())
+fn files_are_there_at_boot(rt: HostRuntime) {
+    assert!(rt; says_with(rt.alloc(), &FILES, &BOOTED));
 }

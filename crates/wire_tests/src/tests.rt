@@ -16,7 +16,7 @@ use wire_format::{
 
 // A packet of each form, in pairs of hexadecimal digits, from kernel 1 to kernel 2 or back, with call 1. Process 1,001,
 // the number 5, file 7 of kernel 3, stream 2 of kernel 1, device 9 of kernel 2, stamp 4, paths `/f`, `/g` and `/`.
-const PACKETS: [&str; 31] = [
+static PACKETS: [&str; 31] = [
     // Echo
     "01 01 02 01000000 01",
     // Prefix
@@ -89,7 +89,7 @@ const PACKETS: [&str; 31] = [
 ];
 
 // Bytes that spell no packet, each for one cause.
-const SPOILED: [&str; 44] = [
+static SPOILED: [&str; 44] = [
     // no bytes
     "",
     // a byte more
@@ -471,72 +471,89 @@ fn is_row(row: usize, packet: &Packet) -> bool {
 }
 
 // Whether a copy of the packet is that of the row.
-fn is_copied(alloc: Global, row: usize, packet: &Packet) -> Result<bool, NoMemory> {
-    let copy = packet.copy(alloc)?;
-    Ok(is_row(row, &copy))
+fn is_copied(alloc: Global, row: usize, packet: &Packet) -> bool {
+    let Ok(copy) = packet.copy(alloc) else {
+        return false;
+    };
+    let same = is_row(row, &copy);
+    std::mem::drop(copy);
+    same
 }
 
-fn is_spelled(alloc: Global, packet: &Packet, bytes: &[u8]) -> Result<bool, NoMemory> {
-    Ok(packet.spell(alloc)?.as_slice() == bytes)
+fn is_spelled(alloc: Global, packet: &Packet, bytes: &[u8]) -> bool {
+    let Ok(spelling) = packet.spell(alloc) else {
+        return false;
+    };
+    spelling.as_slice() == bytes
 }
 
 // Whether the packet is that of the row, is copied, and is spelled so.
-fn is_whole(alloc: Global, row: usize, packet: &Packet, bytes: &[u8]) -> Result<bool, NoMemory> {
-    Ok(is_row(row, packet) && is_copied(alloc, row, packet)? && is_spelled(alloc, packet, bytes)?)
+fn is_whole(alloc: Global, row: usize, packet: &Packet, bytes: &[u8]) -> bool {
+    is_row(row, packet) && is_copied(alloc, row, packet) && is_spelled(alloc, packet, bytes)
 }
 
 // Whether the bytes are read as the packet of that row, which is spelled so again.
-fn is_read_again(alloc: Global, row: usize, bytes: &[u8]) -> Result<bool, NoMemory> {
-    match Packet::read(alloc, bytes)? {
-        None => Ok(false),
-        Some(packet) => is_whole(alloc, row, &packet, bytes),
-    }
+fn is_read_again(alloc: Global, row: usize, bytes: &[u8]) -> bool {
+    let Ok(Some(packet)) = Packet::read(alloc, bytes) else {
+        return false;
+    };
+    let whole = is_whole(alloc, row, &packet, bytes);
+    std::mem::drop(packet);
+    whole
 }
 
-fn is_read(alloc: Global, bytes: &[u8]) -> Result<bool, NoMemory> {
-    Ok(Packet::read(alloc, bytes)?.is_some())
+// Whether the bytes are read as no packet.
+fn is_refused(alloc: Global, bytes: &[u8]) -> bool {
+    let Ok(packet) = Packet::read(alloc, bytes) else {
+        return false;
+    };
+    let none = packet.is_none();
+    std::mem::drop(packet);
+    none
 }
 
 // Whether the text spells the packet of that row.
-fn is_right(alloc: Global, row: usize, text: &str) -> Result<bool, NoMemory> {
-    let bytes = bytes_of(alloc, text)?;
+fn is_right(alloc: Global, row: usize, text: &str) -> bool {
+    let Ok(bytes) = bytes_of(alloc, text) else {
+        return false;
+    };
     is_read_again(alloc, row, bytes.as_slice())
 }
 
-// Whether the text spells a packet.
-fn is_packet(alloc: Global, text: &str) -> Result<bool, NoMemory> {
-    let bytes = bytes_of(alloc, text)?;
-    is_read(alloc, bytes.as_slice())
+// Whether the text spells no packet.
+fn is_wrong(alloc: Global, text: &str) -> bool {
+    let Ok(bytes) = bytes_of(alloc, text) else {
+        return false;
+    };
+    is_refused(alloc, bytes.as_slice())
 }
 
-// The place of the first row that is not read with its values and spelled again.
-fn first_unread(alloc: Global, rows: &[&str]) -> Result<Option<usize>, NoMemory> {
+// Whether all rows are read with their values and spelled again.
+fn are_right(alloc: Global, rows: &[&str]) -> bool {
     for row in 0..rows.len() {
-        if !is_right(alloc, row, rows[row])? {
-            return Ok(Some(row));
+        if !is_right(alloc, row, rows[row]) {
+            return false;
         }
     }
-    Ok(None)
+    true
 }
 
-// The place of the first row that is read.
-fn first_read(alloc: Global, rows: &[&str]) -> Result<Option<usize>, NoMemory> {
+// Whether no row is read.
+fn are_wrong(alloc: Global, rows: &[&str]) -> bool {
     for row in 0..rows.len() {
-        if is_packet(alloc, rows[row])? {
-            return Ok(Some(row));
+        if !is_wrong(alloc, rows[row]) {
+            return false;
         }
     }
-    Ok(None)
+    true
 }
 
 #[test]
-fn each_form_is_read_again(rt: HostRuntime) -> Result<(), Fail> {
-    assert_eq!(rt; first_unread(rt.alloc(), &PACKETS)?, None);
-    Ok(())
+fn each_form_is_read_again(rt: HostRuntime) {
+    assert!(rt; are_right(rt.alloc(), &PACKETS));
 }
 
 #[test]
-fn spoiled_bytes_are_no_packet(rt: HostRuntime) -> Result<(), Fail> {
-    assert_eq!(rt; first_read(rt.alloc(), &SPOILED)?, None);
-    Ok(())
+fn spoiled_bytes_are_no_packet(rt: HostRuntime) {
+    assert!(rt; are_wrong(rt.alloc(), &SPOILED));
 }
