@@ -30,8 +30,12 @@ fn bytes(alloc: Global, text: &[u8]) -> Result<Bytes, NoMemory> {
 
 // A program without texts.
 fn coded(alloc: Global, code: &[Instruction]) -> Result<Program, NoMemory> {
-    let pages = PageCount::new(1).ok_or(NoMemory)?;
-    let code = Code::of_vec(Vec::from_slice(alloc, code)?).ok_or(NoMemory)?;
+    let Some(pages) = PageCount::new(1) else {
+        return Err(NoMemory);
+    };
+    let Some(code) = Code::of_vec(Vec::from_slice(alloc, code)?) else {
+        return Err(NoMemory);
+    };
     Ok(Program {
         number: 1,
         pages,

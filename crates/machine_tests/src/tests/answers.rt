@@ -22,7 +22,7 @@ fn value(alloc: Global) -> Result<Reply, NoMemory> {
     })
 }
 
-// A call with those arguments, to which the answer is a value.
+// A call with those arguments, to which the answer is a value, and what a copy of it is.
 #[derive(Clone, Copy)]
 struct Given(SyscallName, [u64; 4]);
 
@@ -33,10 +33,12 @@ impl Row for Given {
 
     fn goes(&self, alloc: Global, machine: &mut Machine) -> bool {
         match value(alloc) {
-            Ok(reply) => give(&machine.program, &mut machine.image, &reply),
-            Err(_) => return false,
+            Ok(reply) => {
+                give(&machine.program, &mut machine.image, &reply);
+                has_the_answer(&machine.image) && is_copied(alloc, &reply)
+            }
+            Err(_) => false,
         }
-        has_the_answer(&machine.image)
     }
 }
 
@@ -55,17 +57,9 @@ fn is_copied(alloc: Global, reply: &Reply) -> bool {
     }
 }
 
-fn value_is_copied(alloc: Global) -> bool {
-    match value(alloc) {
-        Ok(reply) => is_copied(alloc, &reply),
-        Err(_) => false,
-    }
-}
-
 #[test]
 fn answers_are_put_in(rt: HostRuntime) {
     all_hold(&rt, rt.alloc(), &CALLS);
-    assert!(rt; value_is_copied(rt.alloc()));
 }
 
 fn has_the_number(image: &Image, number: u64) -> bool {
