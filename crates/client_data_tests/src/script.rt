@@ -1,9 +1,10 @@
 use crate::told::{Told, is_told};
 use crate::world::{boot, file, go_on, open_all, pid, replied};
+use block_cache::Cache;
 use client_data::{callback, take_grant, write_back_due};
 use client_tables::{ClientFiles, DataCall, DataKind, DataState, Pending, SyncCall, SyncState};
 use packet_bodies::{CallbackRequest, Descriptor, ReplyBody, ValueReply};
-use sprite_ids::{BlockNo, Bytes, CallKind, Errno, FileId, Grant, Items, NoMemory, TxNo};
+use sprite_ids::{BlockNo, Bytes, CallKind, Errno, FileId, Grant, Items, NoMemory, StreamNo, TxNo};
 use std::alloc::Global;
 
 /// What a process comes to: a read or a write of so many bytes, a seek, a size.
@@ -68,40 +69,34 @@ fn kind_of(alloc: Global, does: Does) -> Result<DataKind, NoMemory> {
     }
 }
 
-fn start(
-    files: &mut ClientFiles,
+fn data_call(
     alloc: Global,
     file: &FileId,
-    birth: u32,
+    stream: StreamNo,
     does: Does,
-) -> Result<(), NoMemory> {
-    let pid = pid(files, birth)?;
-    let stream = files.streams.get(pid, 0).ok_or(NoMemory)?;
+) -> Result<Pending, NoMemory> {
     let fd = Descriptor::new(0).ok_or(NoMemory)?;
     let kind = kind_of(alloc, does)?;
-    let call = DataCall {
+    Ok(Pending::Data(DataCall {
         number: 1,
         fd,
         kind,
         stream,
         file: *file,
         state: DataState::WaitLock,
-    };
-    files.start(pid, Pending::Data(call))
+    }))
 }
 
-fn sync(files: &mut ClientFiles, file: &FileId, birth: u32) -> Result<(), NoMemory> {
-    let pid = pid(files, birth)?;
+fn sync_call(cache: &Cache, file: &FileId) -> Result<Pending, NoMemory> {
     let fd = Descriptor::new(0).ok_or(NoMemory)?;
-    let dirty = files.cache.dirty_blocks(*file)?;
-    let call = SyncCall {
+    let dirty = cache.dirty_blocks(*file)?;
+    Ok(Pending::Sync(SyncCall {
         number: 1,
         fd,
         file: *file,
         todo: Items::of_vec(dirty),
         state: SyncState::Looking,
-    };
-    files.start(pid, Pending::Sync(call))
+    }))
 }
 
 fn grant_of(file: &FileId, stamp: u32, size: u32, on: bool, version: u32) -> Grant {
@@ -135,18 +130,6 @@ fn body_of(alloc: Global, file: &FileId, says: Says) -> Result<ReplyBody, NoMemo
     }
 }
 
-fn answer(
-    files: &mut ClientFiles,
-    alloc: Global,
-    file: &FileId,
-    back: u32,
-    says: Says,
-) -> Result<(), NoMemory> {
-    let tx = files.out.next.0.saturating_sub(back).saturating_sub(1);
-    let body = body_of(alloc, file, says)?;
-    replied(files, alloc, TxNo(tx), &body)
-}
-
 fn happens(
     files: &mut ClientFiles,
     alloc: Global,
@@ -154,8 +137,17 @@ fn happens(
     step: Step,
 ) -> Result<(), NoMemory> {
     match step {
-        Step::Starts(birth, does) => start(files, alloc, file, birth, does),
-        Step::Syncs(birth) => sync(files, file, birth),
+        Step::Starts(birth, does) => {
+            let pid = pid(files.kernel, birth)?;
+            let stream = files.streams.get(pid, 0).ok_or(NoMemory)?;
+            let call = data_call(alloc, file, stream, does)?;
+            files.start(pid, call)
+        }
+        Step::Syncs(birth) => {
+            let pid = pid(files.kernel, birth)?;
+            let call = sync_call(&files.cache, file)?;
+            files.start(pid, call)
+        }
         Step::Cached(stamp, size) => take_grant(files, &grant_of(file, stamp, size, true, 0)),
         Step::Uncached(stamp, size) => take_grant(files, &grant_of(file, stamp, size, false, 0)),
         Step::Newer(stamp, size) => take_grant(files, &grant_of(file, stamp, size, true, 1)),
@@ -168,21 +160,17 @@ fn happens(
             callback(files, TxNo(1), &request)
         }
         Step::Due(block) => write_back_due(files, alloc, file, BlockNo(block)),
-        Step::Answer(back, says) => answer(files, alloc, file, back, says),
+        Step::Answer(back, says) => {
+            let tx = files.out.next.0.saturating_sub(back).saturating_sub(1);
+            let body = body_of(alloc, file, says)?;
+            let done = replied(files, alloc, TxNo(tx), &body);
+            drop(body);
+            done
+        }
     }
 }
 
-fn counts(files: &ClientFiles) -> [usize; 6] {
-    [
-        files.out.sends.len(),
-        files.out.answers.len(),
-        files.out.replies.len(),
-        files.out.events.len(),
-        files.pending.len(),
-        files.delay.len(),
-    ]
-}
-
+// Whether the step says what the row says.
 fn is_so(
     files: &mut ClientFiles,
     alloc: Global,
@@ -194,28 +182,41 @@ fn is_so(
     files.begin(alloc, next, step);
     happens(files, alloc, file, row.0)?;
     go_on(files, alloc)?;
-    Ok(counts(files).as_slice() == row.1.as_slice() && is_told(&files.out, row.2))
+    let counts = [
+        files.out.sends.len(),
+        files.out.answers.len(),
+        files.out.replies.len(),
+        files.out.events.len(),
+        files.pending.len(),
+        files.delay.len(),
+    ];
+    Ok(counts.as_slice() == row.1.as_slice() && is_told(&files.out, row.2))
 }
 
-fn first_wrong(
-    files: &mut ClientFiles,
-    alloc: Global,
-    file: &FileId,
-    rows: &[Row],
-) -> Result<Option<usize>, NoMemory> {
+fn are_so(files: &mut ClientFiles, alloc: Global, file: &FileId, rows: &[Row]) -> bool {
     files.begin(alloc, TxNo(1), 0);
-    open_all(files, file)?;
-    for (place, row) in rows.iter().enumerate() {
-        if !is_so(files, alloc, file, row)? {
-            return Ok(Some(place));
+    if open_all(files, file).is_err() {
+        return false;
+    }
+    for row in rows {
+        if !matches!(is_so(files, alloc, file, row), Ok(true)) {
+            return false;
         }
     }
-    Ok(None)
+    true
 }
 
-/// The place of the first row that says something else, at a kernel of its own.
-pub(crate) fn first_other(alloc: Global, rows: &[Row]) -> Result<Option<usize>, NoMemory> {
-    let file = file()?;
-    let mut files = boot(alloc)?;
-    first_wrong(&mut files, alloc, &file, rows)
+/// Whether each step says what its row says, at a kernel of its own.
+pub(crate) fn all_say(alloc: Global, rows: &[Row]) -> bool {
+    let Ok(file) = file() else {
+        return false;
+    };
+    match boot(alloc) {
+        Ok(mut files) => {
+            let so = are_so(&mut files, alloc, &file, rows);
+            drop(files);
+            so
+        }
+        Err(_) => false,
+    }
 }

@@ -1,16 +1,15 @@
 use crate::script::Does::{Read, Seek, Size, Write};
 use crate::script::Says::{Again, Block, Done, Refused, Value};
 use crate::script::Step::{Answer, Cached, Callback, Due, Newer, Starts, Syncs, Uncached};
-use crate::script::{Row, first_other};
+use crate::script::{Row, all_say};
 use crate::told::Asked::{Back, Fetch, Op};
 use crate::told::Told::{Asks, Fails, Flushes, Gives, Nothing};
 use packet_bodies::FileOp;
-use sprite_ids::{CallKind, Errno, NoMemory};
-use std::alloc::Global;
+use sprite_ids::{CallKind, Errno};
 
 // A block is fetched; meanwhile one process waits for the stream's lock and another for its turn. Then a stop comes to a
 // fetch that is out: what waited goes to the server.
-const READINGS: [Row; 12] = [
+static READINGS: [Row; 12] = [
     (Cached(1, 10_000), [0, 0, 0, 1, 0, 0], Nothing),
     (Starts(1, Read(10)), [1, 0, 0, 1, 1, 0], Asks(Fetch(1, 0))),
     (Starts(3, Read(10)), [0, 0, 0, 0, 2, 0], Nothing),
@@ -43,7 +42,7 @@ const READINGS: [Row; 12] = [
 
 // A file that isn't cached: all but a seek goes to the server, and the offset that is kept here moves at the reply. At last
 // a grant comes in the place of an answer, and the reading is done here.
-const UNCACHED: [Row; 16] = [
+static UNCACHED: [Row; 16] = [
     (Uncached(1, 300), [0, 0, 0, 1, 0, 0], Nothing),
     (
         Starts(1, Read(10)),
@@ -99,7 +98,7 @@ const UNCACHED: [Row; 16] = [
 ];
 
 // The offset is kept at the server: all four go there, though the file is cached.
-const SHARED: [Row; 9] = [
+static SHARED: [Row; 9] = [
     (Cached(1, 300), [0, 0, 0, 1, 0, 0], Nothing),
     (
         Starts(4, Read(10)),
@@ -136,7 +135,7 @@ const SHARED: [Row; 9] = [
 ];
 
 // Writes in the cache, a sync, a write-back of a block that is written once more while it is out, a recall, and the limit.
-const WRITINGS: [Row; 16] = [
+static WRITINGS: [Row; 16] = [
     (Cached(1, 100), [0, 0, 0, 1, 0, 0], Nothing),
     (Starts(1, Write(5)), [1, 0, 0, 1, 1, 0], Asks(Fetch(1, 0))),
     (Answer(0, Block(1, 100)), [0, 0, 1, 3, 0, 1], Gives(5, 0)),
@@ -169,7 +168,7 @@ const WRITINGS: [Row; 16] = [
 
 // A newer grant comes to a write-back and to a fetch that are out; a recall and then a grant in the place of an answer; a
 // grant that is older; and one of a newer version.
-const CROSSINGS: [Row; 16] = [
+static CROSSINGS: [Row; 16] = [
     (Cached(1, 10_000), [0, 0, 0, 1, 0, 0], Nothing),
     (Starts(1, Write(5)), [1, 0, 0, 1, 1, 0], Asks(Fetch(1, 0))),
     (Answer(0, Block(1, 4096)), [0, 0, 1, 3, 0, 1], Gives(5, 0)),
@@ -209,7 +208,7 @@ const CROSSINGS: [Row; 16] = [
 ];
 
 // A stop comes before the first grant, which is older then; a grant of a newer version drops what is held.
-const VERSIONS: [Row; 9] = [
+static VERSIONS: [Row; 9] = [
     (
         Callback(2, CallKind::Stop),
         [0, 1, 0, 1, 0, 0],
@@ -234,7 +233,7 @@ const VERSIONS: [Row; 9] = [
 ];
 
 // The cache is full of dirty blocks: for each block that is new, the least recently used one is written back and dropped.
-const ROOMS: [Row; 9] = [
+static ROOMS: [Row; 9] = [
     (Cached(1, 0), [0, 0, 0, 1, 0, 0], Nothing),
     (
         Starts(1, Write(16_384)),
@@ -272,7 +271,7 @@ const ROOMS: [Row; 9] = [
 
 // A write waits for a write-back that is out already, and a reading for its turn behind it, as a stop comes: both go to the
 // server.
-const FULL: [Row; 9] = [
+static FULL: [Row; 9] = [
     (Cached(1, 0), [0, 0, 0, 1, 0, 0], Nothing),
     (
         Starts(1, Write(16_384)),
@@ -306,7 +305,7 @@ const FULL: [Row; 9] = [
 
 // Two syncs: the second one waits for the first one's write-back, whose block was written once more meanwhile, and then the
 // first one for the second one's.
-const SYNCS: [Row; 12] = [
+static SYNCS: [Row; 12] = [
     (Cached(1, 0), [0, 0, 0, 1, 0, 0], Nothing),
     (Starts(1, Write(5000)), [0, 0, 1, 5, 0, 2], Gives(5000, 0)),
     (Syncs(1), [1, 0, 0, 1, 1, 1], Asks(Back(1, 0, 5000))),
@@ -329,23 +328,16 @@ const SYNCS: [Row; 12] = [
     (Syncs(1), [0, 0, 1, 1, 0, 0], Gives(0, 0)),
 ];
 
-// All scripts, each for a kernel of its own.
-const SCRIPTS: [&[Row]; 9] = [
-    &READINGS, &UNCACHED, &SHARED, &WRITINGS, &CROSSINGS, &VERSIONS, &ROOMS, &FULL, &SYNCS,
-];
-
-// The place of the first row that says something else, behind its script's.
-fn first_place(alloc: Global) -> Result<Option<(usize, usize)>, NoMemory> {
-    for (place, script) in SCRIPTS.iter().enumerate() {
-        if let Some(row) = first_other(alloc, script)? {
-            return Ok(Some((place, row)));
-        }
-    }
-    Ok(None)
-}
-
 #[test]
-fn steps_say_what_the_scripts_say(rt: HostRuntime) -> Result<(), NoMemory> {
-    assert_eq!(rt; first_place(rt.alloc())?, None);
-    Ok(())
+fn steps_say_what_the_scripts_say(rt: HostRuntime) {
+    let alloc = rt.alloc();
+    assert!(rt; all_say(alloc, &READINGS));
+    assert!(rt; all_say(alloc, &UNCACHED));
+    assert!(rt; all_say(alloc, &SHARED));
+    assert!(rt; all_say(alloc, &WRITINGS));
+    assert!(rt; all_say(alloc, &CROSSINGS));
+    assert!(rt; all_say(alloc, &VERSIONS));
+    assert!(rt; all_say(alloc, &ROOMS));
+    assert!(rt; all_say(alloc, &FULL));
+    assert!(rt; all_say(alloc, &SYNCS));
 }

@@ -33,47 +33,43 @@ fn cluster(alloc: Global) -> Description {
 /// A client kernel, number 2, before a file is open.
 pub(crate) fn boot(alloc: Global) -> Result<ClientFiles, NoMemory> {
     let client = Kernel::new(2).ok_or(NoMemory)?;
-    ClientFiles::boot(alloc, &cluster(alloc), client)
+    let cluster = cluster(alloc);
+    let files = ClientFiles::boot(alloc, &cluster, client);
+    drop(cluster);
+    files
 }
 
-/// The process of that birth number.
-pub(crate) fn pid(files: &ClientFiles, birth: u32) -> Result<Pid, NoMemory> {
-    Pid::new(files.kernel, birth).ok_or(NoMemory)
+/// The process of that birth number at that kernel.
+pub(crate) fn pid(kernel: Kernel, birth: u32) -> Result<Pid, NoMemory> {
+    Pid::new(kernel, birth).ok_or(NoMemory)
 }
 
-// The process has a stream of the file, whose number is its own.
-fn open(
-    files: &mut ClientFiles,
-    file: &FileId,
-    birth: u32,
-    place: Place,
-    append: bool,
-) -> Result<(), NoMemory> {
-    let pid = pid(files, birth)?;
-    let number = StreamNo {
-        kernel: files.kernel,
-        number: birth,
-    };
-    let stream = Stream {
-        object: Object::File(*file),
-        mode: Mode::Both,
-        place,
-        grants: 1,
-        append,
-    };
-    let _fd = files.add_stream(pid, &number, &stream)?;
-    Ok(())
-}
+// The processes that open the file themselves; where the offset is kept, and whether the stream appends.
+static OPENS: [(u32, Place, bool); 3] = [
+    (1, Place::Local(0), false),
+    (2, Place::Local(0), true),
+    (4, Place::Shared, false),
+];
 
-/// Four processes have the file open at descriptor 0: the first and the third share a stream, the second one's appends, and
-/// the offset of the fourth one's is kept at the server.
+/// Four processes have the file open at descriptor 0, each opened stream having the process's number: the first and the third
+/// share a stream, the second one's appends, and the offset of the fourth one's is kept at the server.
 pub(crate) fn open_all(files: &mut ClientFiles, file: &FileId) -> Result<(), NoMemory> {
-    open(files, file, 1, Place::Local(0), false)?;
-    open(files, file, 2, Place::Local(0), true)?;
-    open(files, file, 4, Place::Shared, false)?;
-    let parent = pid(files, 1)?;
-    let child = pid(files, 3)?;
-    files.streams.fork(parent, child)
+    let kernel = files.kernel;
+    for (birth, place, append) in OPENS.iter() {
+        let number = StreamNo {
+            kernel,
+            number: *birth,
+        };
+        let stream = Stream {
+            object: Object::File(*file),
+            mode: Mode::Both,
+            place: *place,
+            grants: 1,
+            append: *append,
+        };
+        let _fd = files.add_stream(pid(kernel, *birth)?, &number, &stream)?;
+    }
+    files.streams.fork(pid(kernel, 1)?, pid(kernel, 3)?)
 }
 
 /// The answer to a remote call comes.
@@ -86,24 +82,12 @@ pub(crate) fn replied(
     if files.write_backs.has(&tx) {
         return write_back_answered(files, alloc, tx, body);
     }
-    match files.txs.take(&tx) {
-        Some(pid) => replied_to(files, alloc, pid, body),
-        None => Ok(()),
-    }
-}
-
-fn replied_to(
-    files: &mut ClientFiles,
-    alloc: Global,
-    pid: Pid,
-    body: &ReplyBody,
-) -> Result<(), NoMemory> {
+    let Some(pid) = files.txs.take(&tx) else {
+        return Ok(());
+    };
     match files.pending.take(&pid) {
         Some(Pending::Data(call)) => data_replied(files, alloc, pid, call, body),
-        Some(Pending::Name(call)) => files.keep(pid, Pending::Name(call)),
-        Some(Pending::Sync(call)) => files.keep(pid, Pending::Sync(call)),
-        Some(Pending::Close(work)) => files.keep(pid, Pending::Close(work)),
-        Some(Pending::Move(work)) => files.keep(pid, Pending::Move(work)),
+        Some(other) => files.keep(pid, other),
         None => Ok(()),
     }
 }
@@ -111,26 +95,20 @@ fn replied_to(
 /// What was woken looks at everything anew.
 pub(crate) fn go_on(files: &mut ClientFiles, alloc: Global) -> Result<(), NoMemory> {
     for _done in 0..16 {
-        turn(files, alloc)?;
+        if files.ready.is_empty() {
+            return Ok(());
+        }
+        let pid = files.ready.remove(0);
+        run(files, alloc, pid)?;
     }
     Ok(())
-}
-
-fn turn(files: &mut ClientFiles, alloc: Global) -> Result<(), NoMemory> {
-    if files.ready.is_empty() {
-        return Ok(());
-    }
-    let pid = files.ready.remove(0);
-    run(files, alloc, pid)
 }
 
 fn run(files: &mut ClientFiles, alloc: Global, pid: Pid) -> Result<(), NoMemory> {
     match files.pending.take(&pid) {
         Some(Pending::Data(call)) => look(files, alloc, pid, call),
         Some(Pending::Sync(call)) => run_sync(files, alloc, pid, call),
-        Some(Pending::Name(call)) => files.keep(pid, Pending::Name(call)),
-        Some(Pending::Close(work)) => files.keep(pid, Pending::Close(work)),
-        Some(Pending::Move(work)) => files.keep(pid, Pending::Move(work)),
+        Some(other) => files.keep(pid, other),
         None => Ok(()),
     }
 }

@@ -1,4 +1,4 @@
-use crate::calls::{Text, bytes};
+use crate::calls::{Name, bytes, text};
 use packet_bodies::{OpenedReply, ReplyBody, Target, ValueReply};
 use sprite_ids::{DeviceId, Errno, FileId, Grant, Kernel, NoMemory};
 use sprite_paths::Path;
@@ -19,9 +19,9 @@ pub(crate) struct Terms {
 #[derive(Clone, Copy)]
 pub(crate) enum Says {
     Done,
-    Here(Text),
+    Here(Name),
     Refused(Errno),
-    Redirect(Text),
+    Redirect(Name),
     /// The file, under a grant of that stamp.
     Opened(u32),
     /// The file, under that grant.
@@ -69,8 +69,8 @@ pub(crate) fn some_grant(file: &FileId, stamp: Option<u32>) -> Option<Grant> {
     }
 }
 
-fn path(alloc: Global, text: Text) -> Result<Path, NoMemory> {
-    Path::clean(alloc, &Path::root(alloc), text).or(Err(NoMemory))
+fn path(alloc: Global, name: Name) -> Result<Path, NoMemory> {
+    Path::clean(alloc, &Path::root(alloc), text(name)).or(Err(NoMemory))
 }
 
 fn opened(file: &FileId, terms: &Terms) -> ReplyBody {
@@ -93,12 +93,12 @@ fn opened_device(kernel: Kernel) -> ReplyBody {
 pub(crate) fn body_of(alloc: Global, file: &FileId, says: Says) -> Result<ReplyBody, NoMemory> {
     match says {
         Says::Done => Ok(ReplyBody::Done),
-        Says::Here(text) => Ok(ReplyBody::Here {
-            path: path(alloc, text)?,
+        Says::Here(name) => Ok(ReplyBody::Here {
+            path: path(alloc, name)?,
         }),
         Says::Refused(errno) => Ok(ReplyBody::Refused { errno }),
-        Says::Redirect(text) => Ok(ReplyBody::Redirect {
-            path: path(alloc, text)?,
+        Says::Redirect(name) => Ok(ReplyBody::Redirect {
+            path: path(alloc, name)?,
         }),
         Says::Opened(stamp) => Ok(opened(file, &plain(stamp))),
         Says::Granted(terms) => Ok(opened(file, &terms)),

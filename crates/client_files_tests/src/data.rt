@@ -1,25 +1,26 @@
 use crate::bodies::Says::{Again, Block, Done, Granted, Here, Opened, Value};
 use crate::bodies::Terms;
 use crate::calls::Does::{Open, Read, Seek, Size, Sync, Write};
+use crate::calls::Name::{File, Root};
 use crate::script::Inside::Arrives;
 use crate::script::Step::{Answer, Due, Inside, Issue, Recall, Stop};
-use crate::script::{Row, first_other};
+use crate::script::{Row, all_say};
 use crate::told::Asked;
 use crate::told::Told::{Asks, Fails, Flushes, Gives, Nothing};
 use crate::world::Comes;
-use sprite_ids::{Errno, NoMemory};
+use sprite_ids::Errno;
 use stream_table::Place;
 
 // An append waits for its block while a grant of a larger file comes, and for room while another process writes behind the end:
 // it begins at the end that the file has when it goes on.
 static APPENDS: [Row; 16] = [
     (
-        Issue(2, Open(b"/b", 19)),
+        Issue(2, Open(File, 19)),
         [1, 0, 0, 2, 1, 0],
         Asks(Asked::Prefix, 3),
     ),
     (
-        Answer(0, 1, Here(b"/")),
+        Answer(0, 1, Here(Root)),
         [1, 0, 0, 2, 1, 0],
         Asks(Asked::Echo, 1),
     ),
@@ -90,9 +91,8 @@ static APPENDS: [Row; 16] = [
 ];
 
 #[test]
-fn appends_that_wait(rt: HostRuntime) -> Result<(), NoMemory> {
-    assert_eq!(rt; first_other(rt.alloc(), 1, &APPENDS)?, None);
-    Ok(())
+fn appends_that_wait(rt: HostRuntime) {
+    assert!(rt; all_say(rt.alloc(), 1, &APPENDS));
 }
 
 // A sync waits for its own write-back, and another one for that; a recall comes meanwhile, so that the server has the block
@@ -161,9 +161,8 @@ static SYNCS: [Row; 15] = [
 ];
 
 #[test]
-fn syncs(rt: HostRuntime) -> Result<(), NoMemory> {
-    assert_eq!(rt; first_other(rt.alloc(), 1, &SYNCS)?, None);
-    Ok(())
+fn syncs(rt: HostRuntime) {
+    assert!(rt; all_say(rt.alloc(), 1, &SYNCS));
 }
 
 // A grant for the holder, whose version is the file's, leaves its own size and its dirty block; one that isn't for the holder
@@ -189,12 +188,12 @@ static HOLDERS: [Row; 17] = [
     ),
     (Answer(0, 1, Block(1, 100)), [0, 0, 1, 3, 0, 0], Gives(5, 0)),
     (
-        Issue(2, Open(b"/b", 3)),
+        Issue(2, Open(File, 3)),
         [1, 0, 0, 2, 1, 0],
         Asks(Asked::Prefix, 3),
     ),
     (
-        Answer(0, 1, Here(b"/")),
+        Answer(0, 1, Here(Root)),
         [1, 0, 0, 2, 1, 0],
         Asks(Asked::Echo, 1),
     ),
@@ -222,7 +221,7 @@ static HOLDERS: [Row; 17] = [
     (Answer(0, 1, Done), [0, 0, 0, 1, 0, 0], Nothing),
     (Stop(3), [0, 1, 0, 2, 0, 0], Flushes(105, 0)),
     (
-        Issue(1, Open(b"/b", 1)),
+        Issue(1, Open(File, 1)),
         [1, 0, 0, 1, 1, 0],
         Asks(Asked::Echo, 1),
     ),
@@ -268,9 +267,8 @@ static HOLDERS: [Row; 17] = [
 ];
 
 #[test]
-fn grants_for_the_holder(rt: HostRuntime) -> Result<(), NoMemory> {
-    assert_eq!(rt; first_other(rt.alloc(), 1, &HOLDERS)?, None);
-    Ok(())
+fn grants_for_the_holder(rt: HostRuntime) {
+    assert!(rt; all_say(rt.alloc(), 1, &HOLDERS));
 }
 
 // The most bytes that a file may have: 262,144. The grant is the holder's, whose size is that already.
@@ -317,12 +315,12 @@ static LIMITS: [Row; 16] = [
     ),
     (Issue(1, Write(0, 0)), [0, 0, 1, 1, 0, 0], Gives(0, 0)),
     (
-        Issue(2, Open(b"/b", 18)),
+        Issue(2, Open(File, 18)),
         [1, 0, 0, 2, 1, 0],
         Asks(Asked::Prefix, 3),
     ),
     (
-        Answer(0, 1, Here(b"/")),
+        Answer(0, 1, Here(Root)),
         [1, 0, 0, 2, 1, 0],
         Asks(Asked::Echo, 1),
     ),
@@ -359,9 +357,8 @@ static LIMITS: [Row; 16] = [
 ];
 
 #[test]
-fn the_limit(rt: HostRuntime) -> Result<(), NoMemory> {
-    assert_eq!(rt; first_other(rt.alloc(), 1, &LIMITS)?, None);
-    Ok(())
+fn the_limit(rt: HostRuntime) {
+    assert!(rt; all_say(rt.alloc(), 1, &LIMITS));
 }
 
 // In a cluster of version 2 it is 4,194,304, for what is done at the server too.
@@ -418,7 +415,6 @@ static LONG: [Row; 13] = [
 ];
 
 #[test]
-fn the_limit_of_version_2(rt: HostRuntime) -> Result<(), NoMemory> {
-    assert_eq!(rt; first_other(rt.alloc(), 2, &LONG)?, None);
-    Ok(())
+fn the_limit_of_version_2(rt: HostRuntime) {
+    assert!(rt; all_say(rt.alloc(), 2, &LONG));
 }

@@ -1,11 +1,11 @@
 use crate::bodies::{Says, body_of};
-use crate::calls::{Does, Text, call_of, make_of};
+use crate::calls::{Does, Name, call_of, make_of};
 use crate::told::{Told, told_of};
-use crate::world::{Comes, add_servers, arrive, boot, fill, kernel, pid, stream};
+use crate::world::{Comes, add_servers, arrive, boot, fill, kernel, pid};
 use client_files::{ClientFiles, go_on, issue, move_stream, take};
 use kernel_steps::{Input, Out};
 use packet_bodies::{CallbackRequest, Request};
-use sprite_ids::{BlockNo, CallKind, DeviceId, FileId, NoMemory, Pid, TxNo};
+use sprite_ids::{BlockNo, CallKind, DeviceId, FileId, Kernel, NoMemory, Pid, StreamNo, TxNo};
 use std::alloc::Global;
 use unix_calls::About;
 
@@ -32,7 +32,7 @@ pub(crate) enum Step {
 #[derive(Clone, Copy)]
 pub(crate) enum Inside {
     /// It makes a pseudo-device.
-    Makes(Text),
+    Makes(Name),
     /// It arrives with a stream.
     Arrives(Comes),
     /// It is frozen, and its stream of that number moves.
@@ -43,9 +43,10 @@ pub(crate) enum Inside {
     Fills,
 }
 
-/// The one file, and the number of the next remote call.
+/// The client kernel, the one file, and the number of the next remote call.
 #[derive(Clone, Copy)]
 pub(crate) struct Cluster {
+    pub client: Kernel,
     pub file: FileId,
     pub next: u32,
 }
@@ -53,38 +54,6 @@ pub(crate) struct Cluster {
 /// A step; how many remote calls, answers, replies and records it says, how many operations wait behind it, and how many
 /// reports it makes; and what it says last.
 pub(crate) type Row = (Step, [usize; 6], Told);
-
-fn counts(files: &ClientFiles, out: &Out) -> [usize; 6] {
-    [
-        out.sends.len(),
-        out.answers.len(),
-        out.replies.len(),
-        out.events.len(),
-        files.pending.len(),
-        files.results.len(),
-    ]
-}
-
-// Whether the step said so.
-fn is_said(files: &mut ClientFiles, at: &mut Cluster, out: &Out, row: &Row) -> bool {
-    at.next = out.next.0;
-    let so = counts(files, out).as_slice() == row.1.as_slice()
-        && told_of(out, files.results.as_slice()) == row.2;
-    files.results.truncate(0);
-    so
-}
-
-fn stepped(
-    files: &mut ClientFiles,
-    at: &mut Cluster,
-    alloc: Global,
-    input: &Input,
-    row: &Row,
-) -> Result<bool, NoMemory> {
-    let step = files.step.saturating_add(1);
-    let out = take(files, alloc, input, TxNo(at.next), step)?;
-    Ok(is_said(files, at, &out, row))
-}
 
 fn issued(alloc: Global, pid: Pid, does: Does) -> Result<Input, NoMemory> {
     let number = 1;
@@ -123,14 +92,9 @@ fn called(file: &FileId, stamp: u32, kind: CallKind) -> Input {
 }
 
 // What comes to the kernel.
-fn input_of(
-    files: &ClientFiles,
-    at: &Cluster,
-    alloc: Global,
-    step: Step,
-) -> Result<Input, NoMemory> {
+fn input_of(at: &Cluster, alloc: Global, step: Step) -> Result<Input, NoMemory> {
     match step {
-        Step::Issue(birth, does) => issued(alloc, pid(files, birth)?, does),
+        Step::Issue(birth, does) => issued(alloc, pid(at.client, birth)?, does),
         Step::Answer(back, from, says) => answered(alloc, at, back, from, says),
         Step::GiveUp(back) => Ok(Input::GaveUp {
             tx: tx_at(at, back),
@@ -147,99 +111,111 @@ fn input_of(
 
 fn taken(
     files: &mut ClientFiles,
-    at: &mut Cluster,
+    at: &Cluster,
     alloc: Global,
-    row: &Row,
-) -> Result<bool, NoMemory> {
-    let input = input_of(files, at, alloc, row.0)?;
-    stepped(files, at, alloc, &input, row)
+    step: Step,
+) -> Result<Out, NoMemory> {
+    let input = input_of(at, alloc, step)?;
+    let number = files.step.saturating_add(1);
+    let out = take(files, alloc, &input, TxNo(at.next), number);
+    drop(input);
+    out
 }
 
-fn make(files: &mut ClientFiles, alloc: Global, pid: Pid, path: Text) -> Result<(), NoMemory> {
+fn make(files: &mut ClientFiles, alloc: Global, pid: Pid, path: Name) -> Result<(), NoMemory> {
     let about = About { pid, number: 1 };
     let device = Some(DeviceId {
         kernel: files.kernel,
         number: 1,
     });
     let call = make_of(alloc, path)?;
-    issue(files, alloc, &about, &call, &device)
+    let made = issue(files, alloc, &about, &call, &device);
+    drop(call);
+    made
 }
 
 // What comes from the processes' side of the kernel.
-fn begins(
-    files: &mut ClientFiles,
-    alloc: Global,
-    file: &FileId,
-    pid: Pid,
-    does: Inside,
-) -> Result<(), NoMemory> {
-    match does {
-        Inside::Makes(path) => make(files, alloc, pid, path),
-        Inside::Arrives(comes) => arrive(files, alloc, pid, file, &comes),
-        Inside::Moves(number) => {
-            let stream = stream(files, number);
-            move_stream(files, pid, &stream, file.server, &None)
-        }
-        Inside::Ends => files.close_all(alloc, pid, &None),
-        Inside::Fills => fill(files, pid),
-    }
-}
-
 fn from_inside(
     files: &mut ClientFiles,
-    at: &mut Cluster,
+    at: &Cluster,
     alloc: Global,
-    birth: u32,
+    pid: Pid,
     does: Inside,
-    row: &Row,
-) -> Result<bool, NoMemory> {
-    let pid = pid(files, birth)?;
+) -> Result<Out, NoMemory> {
     let step = files.step.saturating_add(1);
     files.begin(alloc, TxNo(at.next), step);
-    begins(files, alloc, &at.file, pid, does)?;
+    let begun = match does {
+        Inside::Makes(path) => make(files, alloc, pid, path),
+        Inside::Arrives(comes) => arrive(files, alloc, pid, &at.file, &comes),
+        Inside::Moves(number) => {
+            let kernel = files.kernel;
+            let stream = StreamNo { kernel, number };
+            move_stream(files, pid, &stream, at.file.server, &None)
+        }
+        Inside::Ends => files.close_all(alloc, pid, &None),
+        Inside::Fills => fill(&mut files.streams, pid),
+    };
+    begun?;
     go_on(files, alloc)?;
-    let out = files.end(alloc);
-    Ok(is_said(files, at, &out, row))
+    Ok(files.end(alloc))
 }
 
+// Whether the step says what the row says.
 fn is_so(
     files: &mut ClientFiles,
     at: &mut Cluster,
     alloc: Global,
     row: &Row,
 ) -> Result<bool, NoMemory> {
-    match row.0 {
-        Step::Inside(birth, does) => from_inside(files, at, alloc, birth, does, row),
-        _ => taken(files, at, alloc, row),
-    }
+    let out = match row.0 {
+        Step::Inside(birth, does) => from_inside(files, at, alloc, pid(at.client, birth)?, does)?,
+        _ => taken(files, at, alloc, row.0)?,
+    };
+    at.next = out.next.0;
+    let counts = [
+        out.sends.len(),
+        out.answers.len(),
+        out.replies.len(),
+        out.events.len(),
+        files.pending.len(),
+        files.results.len(),
+    ];
+    let so = counts.as_slice() == row.1.as_slice()
+        && told_of(&out, files.results.as_slice()) == row.2;
+    files.results.truncate(0);
+    drop(out);
+    Ok(so)
 }
 
-fn first_wrong(
-    files: &mut ClientFiles,
-    at: &mut Cluster,
-    alloc: Global,
-    rows: &[Row],
-) -> Result<Option<usize>, NoMemory> {
-    add_servers(files)?;
-    for (place, row) in rows.iter().enumerate() {
-        if !is_so(files, at, alloc, row)? {
-            return Ok(Some(place));
+fn are_so(files: &mut ClientFiles, at: &mut Cluster, alloc: Global, rows: &[Row]) -> bool {
+    if add_servers(&mut files.servers).is_err() {
+        return false;
+    }
+    for row in rows {
+        if !matches!(is_so(files, at, alloc, row), Ok(true)) {
+            return false;
         }
     }
-    Ok(None)
+    true
 }
 
-/// The place of the first row that says something else, at a kernel of its own, of a cluster of that version.
-pub(crate) fn first_other(
-    alloc: Global,
-    version: u8,
-    rows: &[Row],
-) -> Result<Option<usize>, NoMemory> {
-    let server = kernel(1)?;
+/// Whether each step says what its row says, at a kernel of its own, of a cluster of that version.
+pub(crate) fn all_say(alloc: Global, version: u8, rows: &[Row]) -> bool {
+    let (Ok(server), Ok(client)) = (kernel(1), kernel(2)) else {
+        return false;
+    };
+    let file = FileId { server, number: 1 };
     let mut at = Cluster {
-        file: FileId { server, number: 1 },
+        client,
+        file,
         next: 1,
     };
-    let mut files = boot(alloc, version)?;
-    first_wrong(&mut files, &mut at, alloc, rows)
+    match boot(alloc, version, client) {
+        Ok(mut files) => {
+            let so = are_so(&mut files, &mut at, alloc, rows);
+            drop(files);
+            so
+        }
+        Err(_) => false,
+    }
 }

@@ -5,36 +5,39 @@ use crate::calls::Does::{
     Chdir, Close, Dup, List, Mkdir, Open, Read, Rename, Rmdir, Seek, Size, Stat, Sync, Unlink,
     Write,
 };
+use crate::calls::Name::{
+    Device, Domain, DomainDevice, DomainFile, Empty, File, Folder, OtherFolder, Relative, Root,
+};
 use crate::script::Inside::{Arrives, Ends, Fills, Makes, Moves};
 use crate::script::Step::{Answer, Due, GiveUp, Inside, Issue, Stop};
-use crate::script::{Row, first_other};
+use crate::script::{Row, all_say};
 use crate::told::Told::{AllClosed, Asks, Fails, Flushes, Gives, MasterClosed, Nothing};
 use crate::told::{Asked, Told};
 use crate::world::Comes;
 use packet_bodies::NameOp;
-use sprite_ids::{Errno, NoMemory};
+use sprite_ids::Errno;
 use stream_table::Place;
 
 // Two processes meet one prefix: each asks for itself, and it is learned once. The second one's file comes first, and the
 // first one's grant is older then. Then data go through the same steps: a fetch, a write-back, a stop.
 static OPENS: [Row; 17] = [
     (
-        Issue(1, Open(b"/b", 3)),
+        Issue(1, Open(File, 3)),
         [1, 0, 0, 2, 1, 0],
         Asks(Asked::Prefix, 3),
     ),
     (
-        Issue(2, Open(b"/b", 1)),
+        Issue(2, Open(File, 1)),
         [1, 0, 0, 2, 2, 0],
         Asks(Asked::Prefix, 3),
     ),
     (
-        Answer(1, 1, Here(b"/")),
+        Answer(1, 1, Here(Root)),
         [1, 0, 0, 2, 2, 0],
         Asks(Asked::Echo, 1),
     ),
     (
-        Answer(1, 1, Here(b"/")),
+        Answer(1, 1, Here(Root)),
         [1, 0, 0, 1, 2, 0],
         Asks(Asked::Echo, 1),
     ),
@@ -74,32 +77,31 @@ static OPENS: [Row; 17] = [
 ];
 
 #[test]
-fn opens(rt: HostRuntime) -> Result<(), NoMemory> {
-    assert_eq!(rt; first_other(rt.alloc(), 1, &OPENS)?, None);
-    Ok(())
+fn opens(rt: HostRuntime) {
+    assert!(rt; all_say(rt.alloc(), 1, &OPENS));
 }
 
 // A broadcast and an echo are given up, and a request is refused.
 static UNREACHED: [Row; 9] = [
     (
-        Issue(1, Stat(b"/b")),
+        Issue(1, Stat(File)),
         [1, 0, 0, 2, 1, 0],
         Asks(Asked::Prefix, 3),
     ),
     (GiveUp(0), [0, 0, 1, 1, 0, 0], Fails(Errno::Unreachable)),
     (
-        Issue(1, Stat(b"/b")),
+        Issue(1, Stat(File)),
         [1, 0, 0, 2, 1, 0],
         Asks(Asked::Prefix, 3),
     ),
     (
-        Answer(0, 1, Here(b"/")),
+        Answer(0, 1, Here(Root)),
         [1, 0, 0, 2, 1, 0],
         Asks(Asked::Echo, 1),
     ),
     (GiveUp(0), [0, 0, 1, 1, 0, 0], Fails(Errno::Unreachable)),
     (
-        Issue(1, Stat(b"/b")),
+        Issue(1, Stat(File)),
         [1, 0, 0, 1, 1, 0],
         Asks(Asked::Echo, 1),
     ),
@@ -117,21 +119,20 @@ static UNREACHED: [Row; 9] = [
 ];
 
 #[test]
-fn servers_that_are_not_reached(rt: HostRuntime) -> Result<(), NoMemory> {
-    assert_eq!(rt; first_other(rt.alloc(), 1, &UNREACHED)?, None);
-    Ok(())
+fn servers_that_are_not_reached(rt: HostRuntime) {
+    assert!(rt; all_say(rt.alloc(), 1, &UNREACHED));
 }
 
 // Two paths lead on into one domain: the first call asks who serves it, the second one knows by then. The second process's
 // working directory is in that domain from then on.
 static DOMAINS: [Row; 15] = [
     (
-        Issue(1, Open(b"/a/b", 3)),
+        Issue(1, Open(DomainFile, 3)),
         [1, 0, 0, 2, 1, 0],
         Asks(Asked::Prefix, 3),
     ),
     (
-        Answer(0, 1, Here(b"/")),
+        Answer(0, 1, Here(Root)),
         [1, 0, 0, 2, 1, 0],
         Asks(Asked::Echo, 1),
     ),
@@ -141,7 +142,7 @@ static DOMAINS: [Row; 15] = [
         Asks(Asked::Opening(3, 0), 1),
     ),
     (
-        Issue(2, Chdir(b"/a/b")),
+        Issue(2, Chdir(DomainFile)),
         [1, 0, 0, 1, 2, 0],
         Asks(Asked::Echo, 1),
     ),
@@ -151,17 +152,17 @@ static DOMAINS: [Row; 15] = [
         Asks(Asked::Name(NameOp::Chdir), 1),
     ),
     (
-        Answer(2, 1, Redirect(b"/a")),
+        Answer(2, 1, Redirect(Domain)),
         [1, 0, 0, 2, 2, 0],
         Asks(Asked::Prefix, 3),
     ),
     (
-        Answer(0, 3, Here(b"/a")),
+        Answer(0, 3, Here(Domain)),
         [1, 0, 0, 2, 2, 0],
         Asks(Asked::Echo, 3),
     ),
     (
-        Answer(2, 1, Redirect(b"/a")),
+        Answer(2, 1, Redirect(Domain)),
         [1, 0, 0, 1, 2, 0],
         Asks(Asked::Echo, 3),
     ),
@@ -182,33 +183,32 @@ static DOMAINS: [Row; 15] = [
     ),
     (Answer(0, 3, Value(0, 0)), [0, 0, 1, 0, 0, 0], Gives(0, 0)),
     (
-        Issue(2, Stat(b"x")),
+        Issue(2, Stat(Relative)),
         [1, 0, 0, 1, 1, 0],
         Asks(Asked::Echo, 3),
     ),
     (GiveUp(0), [0, 0, 1, 1, 0, 0], Fails(Errno::Unreachable)),
     (
-        Issue(1, Stat(b"x")),
+        Issue(1, Stat(Relative)),
         [1, 0, 0, 1, 1, 0],
         Asks(Asked::Echo, 1),
     ),
 ];
 
 #[test]
-fn domains(rt: HostRuntime) -> Result<(), NoMemory> {
-    assert_eq!(rt; first_other(rt.alloc(), 1, &DOMAINS)?, None);
-    Ok(())
+fn domains(rt: HostRuntime) {
+    assert!(rt; all_say(rt.alloc(), 1, &DOMAINS));
 }
 
 // The other name calls.
 static NAMES: [Row; 16] = [
     (
-        Issue(1, Rmdir(b"/d")),
+        Issue(1, Rmdir(Folder)),
         [1, 0, 0, 2, 1, 0],
         Asks(Asked::Prefix, 3),
     ),
     (
-        Answer(0, 1, Here(b"/")),
+        Answer(0, 1, Here(Root)),
         [1, 0, 0, 2, 1, 0],
         Asks(Asked::Echo, 1),
     ),
@@ -223,7 +223,7 @@ static NAMES: [Row; 16] = [
         Fails(Errno::NotEmpty),
     ),
     (
-        Issue(1, Unlink(b"/d")),
+        Issue(1, Unlink(Folder)),
         [1, 0, 0, 1, 1, 0],
         Asks(Asked::Echo, 1),
     ),
@@ -234,7 +234,7 @@ static NAMES: [Row; 16] = [
     ),
     (Answer(0, 1, Value(0, 0)), [0, 0, 1, 0, 0, 0], Gives(0, 0)),
     (
-        Issue(1, Rename(b"/d", b"/e")),
+        Issue(1, Rename(Folder, OtherFolder)),
         [1, 0, 0, 1, 1, 0],
         Asks(Asked::Echo, 1),
     ),
@@ -245,7 +245,7 @@ static NAMES: [Row; 16] = [
     ),
     (Answer(0, 1, Value(0, 0)), [0, 0, 1, 0, 0, 0], Gives(0, 0)),
     (
-        Issue(1, List(b"/d", 100)),
+        Issue(1, List(Folder, 100)),
         [1, 0, 0, 1, 1, 0],
         Asks(Asked::Echo, 1),
     ),
@@ -256,7 +256,7 @@ static NAMES: [Row; 16] = [
     ),
     (Answer(0, 1, Value(4, 4)), [0, 0, 1, 0, 0, 0], Gives(4, 4)),
     (
-        Issue(1, Mkdir(b"/d")),
+        Issue(1, Mkdir(Folder)),
         [1, 0, 0, 1, 1, 0],
         Asks(Asked::Echo, 1),
     ),
@@ -269,55 +269,54 @@ static NAMES: [Row; 16] = [
 ];
 
 #[test]
-fn names(rt: HostRuntime) -> Result<(), NoMemory> {
-    assert_eq!(rt; first_other(rt.alloc(), 1, &NAMES)?, None);
-    Ok(())
+fn names(rt: HostRuntime) {
+    assert!(rt; all_say(rt.alloc(), 1, &NAMES));
 }
 
 // What is refused here: no lawful flags, no name, no descriptor, too much.
 static REFUSALS: [Row; 16] = [
     (
-        Issue(1, Open(b"/b", 0)),
+        Issue(1, Open(File, 0)),
         [0, 0, 1, 1, 0, 0],
         Fails(Errno::Invalid),
     ),
     (
-        Issue(1, Open(b"/b", 9)),
+        Issue(1, Open(File, 9)),
         [0, 0, 1, 1, 0, 0],
         Fails(Errno::Invalid),
     ),
     (
-        Issue(1, Open(b"/b", 17)),
+        Issue(1, Open(File, 17)),
         [0, 0, 1, 1, 0, 0],
         Fails(Errno::Invalid),
     ),
     (
-        Issue(1, Open(b"/b", 32)),
+        Issue(1, Open(File, 32)),
         [0, 0, 1, 1, 0, 0],
         Fails(Errno::Invalid),
     ),
     (
-        Issue(1, Open(b"", 1)),
+        Issue(1, Open(Empty, 1)),
         [0, 0, 1, 1, 0, 0],
         Fails(Errno::BadName),
     ),
     (
-        Issue(1, Stat(b"")),
+        Issue(1, Stat(Empty)),
         [0, 0, 1, 1, 0, 0],
         Fails(Errno::BadName),
     ),
     (
-        Issue(1, Rename(b"", b"/e")),
+        Issue(1, Rename(Empty, OtherFolder)),
         [0, 0, 1, 1, 0, 0],
         Fails(Errno::BadName),
     ),
     (
-        Issue(1, Rename(b"/d", b"")),
+        Issue(1, Rename(Folder, Empty)),
         [0, 0, 1, 1, 0, 0],
         Fails(Errno::BadName),
     ),
     (
-        Inside(1, Makes(b"")),
+        Inside(1, Makes(Empty)),
         [0, 0, 1, 1, 0, 0],
         Fails(Errno::BadName),
     ),
@@ -343,9 +342,8 @@ static REFUSALS: [Row; 16] = [
 ];
 
 #[test]
-fn refusals(rt: HostRuntime) -> Result<(), NoMemory> {
-    assert_eq!(rt; first_other(rt.alloc(), 1, &REFUSALS)?, None);
-    Ok(())
+fn refusals(rt: HostRuntime) {
+    assert!(rt; all_say(rt.alloc(), 1, &REFUSALS));
 }
 
 // All 16 descriptors are in use; a seek past the limit.
@@ -371,12 +369,12 @@ static FULL: [Row; 7] = [
     (Inside(1, Fills), [0, 0, 0, 0, 0, 0], Nothing),
     (Issue(1, Dup(0)), [0, 0, 1, 1, 0, 0], Fails(Errno::TooMany)),
     (
-        Issue(1, Open(b"", 1)),
+        Issue(1, Open(Empty, 1)),
         [0, 0, 1, 1, 0, 0],
         Fails(Errno::TooMany),
     ),
     (
-        Inside(1, Makes(b"")),
+        Inside(1, Makes(Empty)),
         [0, 0, 1, 1, 0, 0],
         Fails(Errno::TooMany),
     ),
@@ -388,20 +386,19 @@ static FULL: [Row; 7] = [
 ];
 
 #[test]
-fn descriptors_in_use(rt: HostRuntime) -> Result<(), NoMemory> {
-    assert_eq!(rt; first_other(rt.alloc(), 1, &FULL)?, None);
-    Ok(())
+fn descriptors_in_use(rt: HostRuntime) {
+    assert!(rt; all_say(rt.alloc(), 1, &FULL));
 }
 
 // A pseudo-device is made and opened; its ends are closed, and a client's end moves at once.
 static DEVICES: [Row; 16] = [
     (
-        Inside(1, Makes(b"/v")),
+        Inside(1, Makes(Device)),
         [1, 0, 0, 2, 1, 0],
         Asks(Asked::Prefix, 3),
     ),
     (
-        Answer(0, 1, Here(b"/")),
+        Answer(0, 1, Here(Root)),
         [1, 0, 0, 2, 1, 0],
         Asks(Asked::Echo, 1),
     ),
@@ -423,7 +420,7 @@ static DEVICES: [Row; 16] = [
     ),
     (Issue(1, Sync(0)), [0, 0, 1, 1, 0, 0], Fails(Errno::Invalid)),
     (
-        Issue(2, Open(b"/v", 3)),
+        Issue(2, Open(Device, 3)),
         [1, 0, 0, 1, 1, 0],
         Asks(Asked::Echo, 1),
     ),
@@ -446,20 +443,19 @@ static DEVICES: [Row; 16] = [
 ];
 
 #[test]
-fn devices(rt: HostRuntime) -> Result<(), NoMemory> {
-    assert_eq!(rt; first_other(rt.alloc(), 1, &DEVICES)?, None);
-    Ok(())
+fn devices(rt: HostRuntime) {
+    assert!(rt; all_say(rt.alloc(), 1, &DEVICES));
 }
 
 // The making of a pseudo-device is refused, and leads on.
 static MAKES: [Row; 8] = [
     (
-        Inside(1, Makes(b"/v")),
+        Inside(1, Makes(Device)),
         [1, 0, 0, 2, 1, 0],
         Asks(Asked::Prefix, 3),
     ),
     (
-        Answer(0, 1, Here(b"/")),
+        Answer(0, 1, Here(Root)),
         [1, 0, 0, 2, 1, 0],
         Asks(Asked::Echo, 1),
     ),
@@ -474,7 +470,7 @@ static MAKES: [Row; 8] = [
         Fails(Errno::Exists),
     ),
     (
-        Inside(1, Makes(b"/a/v")),
+        Inside(1, Makes(DomainDevice)),
         [1, 0, 0, 1, 1, 0],
         Asks(Asked::Echo, 1),
     ),
@@ -484,7 +480,7 @@ static MAKES: [Row; 8] = [
         Asks(Asked::Make(0), 1),
     ),
     (
-        Answer(0, 1, Redirect(b"/a")),
+        Answer(0, 1, Redirect(Domain)),
         [1, 0, 0, 2, 1, 0],
         Asks(Asked::Prefix, 3),
     ),
@@ -492,9 +488,8 @@ static MAKES: [Row; 8] = [
 ];
 
 #[test]
-fn devices_that_are_not_made(rt: HostRuntime) -> Result<(), NoMemory> {
-    assert_eq!(rt; first_other(rt.alloc(), 1, &MAKES)?, None);
-    Ok(())
+fn devices_that_are_not_made(rt: HostRuntime) {
+    assert!(rt; all_say(rt.alloc(), 1, &MAKES));
 }
 
 // A close waits for the lock that a reading has; at the end of a process its last reference is closed at the server, and the
@@ -566,9 +561,8 @@ static CLOSES: [Row; 15] = [
 ];
 
 #[test]
-fn closes(rt: HostRuntime) -> Result<(), NoMemory> {
-    assert_eq!(rt; first_other(rt.alloc(), 1, &CLOSES)?, None);
-    Ok(())
+fn closes(rt: HostRuntime) {
+    assert!(rt; all_say(rt.alloc(), 1, &CLOSES));
 }
 
 // A stream of two processes moves with the first one: the close of the second one waits, and is the last reference here. A
@@ -639,9 +633,8 @@ static MOVES: [Row; 10] = [
 ];
 
 #[test]
-fn moves(rt: HostRuntime) -> Result<(), NoMemory> {
-    assert_eq!(rt; first_other(rt.alloc(), 1, &MOVES)?, None);
-    Ok(())
+fn moves(rt: HostRuntime) {
+    assert!(rt; all_say(rt.alloc(), 1, &MOVES));
 }
 
 // A move waits for the lock that a reading has; the first process's makes the stream shared, the second one's moves a shared
@@ -750,7 +743,6 @@ static SHARED: [Row; 16] = [
 ];
 
 #[test]
-fn shared_streams(rt: HostRuntime) -> Result<(), NoMemory> {
-    assert_eq!(rt; first_other(rt.alloc(), 1, &SHARED)?, None);
-    Ok(())
+fn shared_streams(rt: HostRuntime) {
+    assert!(rt; all_say(rt.alloc(), 1, &SHARED));
 }

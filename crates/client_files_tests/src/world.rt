@@ -5,7 +5,7 @@ use packet_bodies::{CarriedMode, CarriedStream, Target};
 use sprite_ids::{FileId, Items, Kernel, Mode, NoMemory, Object, Pid, StreamNo};
 use sprite_paths::Path;
 use std::alloc::Global;
-use stream_table::{Carried, Place, Stream};
+use stream_table::{Carried, Place, Stream, Streams};
 use unix_calls::Description;
 
 /// How a stream arrives: its number, the descriptor, the stamp of its grant, where there is one, and its offset.
@@ -39,36 +39,33 @@ pub(crate) fn kernel(number: u8) -> Result<Kernel, NoMemory> {
     Kernel::new(number).ok_or(NoMemory)
 }
 
-/// A client kernel, number 2, of a cluster of that version; nothing is learned or open there.
-pub(crate) fn boot(alloc: Global, version: u8) -> Result<ClientFiles, NoMemory> {
-    let client = kernel(2)?;
-    ClientFiles::boot(alloc, &cluster(alloc, version), client)
+/// A client kernel of that number, of a cluster of that version; nothing is learned or open there.
+pub(crate) fn boot(alloc: Global, version: u8, client: Kernel) -> Result<ClientFiles, NoMemory> {
+    let cluster = cluster(alloc, version);
+    let files = ClientFiles::boot(alloc, &cluster, client);
+    drop(cluster);
+    files
 }
 
 /// The servers are known to the client: 1 serves `/` and has the one file, 3 serves `/a`.
-pub(crate) fn add_servers(files: &mut ClientFiles) -> Result<(), NoMemory> {
-    let first = kernel(1)?;
-    let second = kernel(3)?;
-    files.servers.push(first)?;
-    files.servers.push(second)
+pub(crate) fn add_servers(servers: &mut Items<Kernel>) -> Result<(), NoMemory> {
+    servers.push(kernel(1)?)?;
+    servers.push(kernel(3)?)
 }
 
-/// The process of that birth number.
-pub(crate) fn pid(files: &ClientFiles, birth: u32) -> Result<Pid, NoMemory> {
-    Pid::new(files.kernel, birth).ok_or(NoMemory)
+/// The process of that birth number at that kernel.
+pub(crate) fn pid(kernel: Kernel, birth: u32) -> Result<Pid, NoMemory> {
+    Pid::new(kernel, birth).ok_or(NoMemory)
 }
 
-/// The stream of that number, which was opened here.
-pub(crate) fn stream(files: &ClientFiles, number: u32) -> StreamNo {
-    StreamNo {
-        kernel: files.kernel,
-        number,
-    }
+// The stream of that number, which was opened at that kernel.
+fn stream(kernel: Kernel, number: u32) -> StreamNo {
+    StreamNo { kernel, number }
 }
 
-fn carried_stream(files: &ClientFiles, comes: &Comes, file: &FileId) -> CarriedStream {
+fn carried_stream(kernel: Kernel, comes: &Comes, file: &FileId) -> CarriedStream {
     CarriedStream {
-        stream: stream(files, comes.number),
+        stream: stream(kernel, comes.number),
         object: Target::File(*file),
         mode: CarriedMode::Both,
         offset: match comes.place {
@@ -80,10 +77,10 @@ fn carried_stream(files: &ClientFiles, comes: &Comes, file: &FileId) -> CarriedS
     }
 }
 
-fn carried(files: &ClientFiles, comes: &Comes, file: &FileId) -> Carried {
+fn carried(kernel: Kernel, comes: &Comes, file: &FileId) -> Carried {
     Carried {
         fd: comes.fd,
-        number: stream(files, comes.number),
+        number: stream(kernel, comes.number),
         stream: Stream {
             object: Object::File(*file),
             mode: Mode::Both,
@@ -102,16 +99,16 @@ pub(crate) fn arrive(
     file: &FileId,
     comes: &Comes,
 ) -> Result<(), NoMemory> {
-    let streams = [carried_stream(files, comes, file)];
-    let carried = [carried(files, comes, file)];
+    let streams = [carried_stream(files.kernel, comes, file)];
+    let carried = [carried(files.kernel, comes, file)];
     let root = Path::root(alloc);
     install(files, pid, root, streams.as_slice(), carried.as_slice())
 }
 
 /// The process's first descriptor is doubled until all 16 are in use.
-pub(crate) fn fill(files: &mut ClientFiles, pid: Pid) -> Result<(), NoMemory> {
+pub(crate) fn fill(streams: &mut Streams, pid: Pid) -> Result<(), NoMemory> {
     for _done in 0..15 {
-        files.streams.dup(pid, 0).or(Err(NoMemory))?;
+        streams.dup(pid, 0).or(Err(NoMemory))?;
     }
     Ok(())
 }

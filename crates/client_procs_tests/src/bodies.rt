@@ -1,4 +1,4 @@
-use crate::words::{Text, Word, bytes, home_call, pid};
+use crate::words::{Name, Word, bytes, home_call, pid, text};
 use crate::world::{image_away, kernel};
 use packet_bodies::{
     AskRequest, CarriedMode, CarriedStream, Descriptor, HomeRequest, LaunchRequest, OpenedReply,
@@ -34,7 +34,7 @@ pub(crate) enum Wants {
 pub(crate) enum Says {
     Done,
     Gone,
-    Here(Text),
+    Here(Name),
     Refused(Errno),
     /// The two values.
     Value(u64, u64),
@@ -88,8 +88,8 @@ fn device(kernel: Kernel) -> DeviceId {
     DeviceId { kernel, number: 1 }
 }
 
-fn here(alloc: Global, text: Text) -> Result<ReplyBody, NoMemory> {
-    let path = Path::clean(alloc, &Path::root(alloc), text).or(Err(NoMemory))?;
+fn here(alloc: Global, name: Name) -> Result<ReplyBody, NoMemory> {
+    let path = Path::clean(alloc, &Path::root(alloc), text(name)).or(Err(NoMemory))?;
     Ok(ReplyBody::Here { path })
 }
 
@@ -98,7 +98,7 @@ pub(crate) fn answer_of(alloc: Global, says: Says) -> Result<ReplyBody, NoMemory
     match says {
         Says::Done => Ok(ReplyBody::Done),
         Says::Gone => Ok(ReplyBody::Gone),
-        Says::Here(text) => here(alloc, text),
+        Says::Here(name) => here(alloc, name),
         Says::Refused(errno) => Ok(ReplyBody::Refused { errno }),
         Says::Value(first, second) => Ok(ReplyBody::Value(ValueReply {
             first,
@@ -128,14 +128,17 @@ fn ask(
     kind: AskKind,
     length: u32,
 ) -> Result<Request, NoMemory> {
+    let device = device(kernel(2)?);
+    let fd = Descriptor::new(0).ok_or(NoMemory)?;
+    let bytes = bytes(alloc, 8)?;
     Ok(Request::Ask(AskRequest {
         pid,
         number,
-        device: device(kernel(2)?),
+        device,
         kind,
         length,
-        bytes: bytes(alloc, 8)?,
-        fd: Descriptor::new(0).ok_or(NoMemory)?,
+        bytes,
+        fd,
     }))
 }
 
@@ -173,37 +176,27 @@ fn stream(file: &FileId, grant: Grant, home: Kernel) -> CarriedStream {
     }
 }
 
-fn fds(alloc: Global, home: Kernel) -> Result<Items<(Descriptor, StreamNo)>, NoMemory> {
+fn add_stream(request: &mut TransferRequest, home: Kernel) -> Result<(), NoMemory> {
     let fd = Descriptor::new(0).ok_or(NoMemory)?;
     let number = StreamNo {
         kernel: home,
         number: 1,
     };
-    let mut fds = Items::new(alloc);
-    fds.push((fd, number))?;
-    Ok(fds)
-}
-
-fn streams(alloc: Global, home: Kernel) -> Result<Items<CarriedStream>, NoMemory> {
+    request.fds.push((fd, number))?;
     let file = file()?;
     let grant = grant(1)?;
-    let mut streams = Items::new(alloc);
-    streams.append(&[stream(&file, grant, home)])?;
-    Ok(streams)
+    request.streams.append(&[stream(&file, grant, home)])
 }
 
 fn transfer_with_stream(alloc: Global, pid: Pid, number: u32) -> Result<Request, NoMemory> {
-    let home = pid.home();
-    Ok(Request::Transfer(TransferRequest {
-        pid,
-        number,
-        image: image_away(alloc, 1)?,
-        cwd: Path::root(alloc),
-        fds: fds(alloc, home)?,
-        streams: streams(alloc, home)?,
-        killed: false,
-        moving: false,
-    }))
+    let mut request = transfer(alloc, pid, number, 1, false)?;
+    match add_stream(&mut request, pid.home()) {
+        Ok(()) => Ok(Request::Transfer(request)),
+        Err(error) => {
+            drop(request);
+            Err(error)
+        }
+    }
 }
 
 fn launch(alloc: Global, pid: Pid, number: u32, program: u8) -> Request {

@@ -1,5 +1,5 @@
 use crate::bodies::{Says, Wants, answer_of, request_of};
-use crate::told::{Told, told_of};
+use crate::told::{Said, says};
 use crate::words::{Does, call_of, pid};
 use crate::world::{client, image_away, kernel};
 use client_procs::{ClientProcs, number, pids, set_image, take};
@@ -24,28 +24,21 @@ pub(crate) enum Step {
 
 /// A step; how many records it makes, and how many processes are kept behind it, how many leave, and how many remote calls for
 /// processes have no answer; and what it says.
-pub(crate) type Row = (Step, [usize; 4], &'static [Told]);
+pub(crate) type Row = (Step, [usize; 4], Said);
 
-fn counts(client: &ClientProcs, alloc: Global, out: &Out) -> Result<[usize; 4], NoMemory> {
+// Whether the step said so.
+fn is_said(client: &ClientProcs, alloc: Global, out: &Out, row: &Row) -> Result<bool, NoMemory> {
     let kept = pids(client, alloc)?;
-    Ok([
+    let counts = [
         out.events.len(),
         kept.len(),
         client.leaving.len(),
         client.unfinished.len(),
-    ])
+    ];
+    Ok(counts.as_slice() == row.1.as_slice() && says(alloc, out, row.2)?)
 }
 
-// Whether the step said so.
-fn is_said(client: &ClientProcs, alloc: Global, out: &Out, row: &Row) -> Result<bool, NoMemory> {
-    let counts = counts(client, alloc, out)?;
-    let told = told_of(alloc, out)?;
-    Ok(counts.as_slice() == row.1.as_slice() && told.as_slice() == row.2)
-}
-
-fn issued(client: &ClientProcs, alloc: Global, pid: Pid, does: Does) -> Result<Input, NoMemory> {
-    let last = number(client, pid).ok_or(NoMemory)?;
-    let number = last.saturating_add(1);
+fn issued(alloc: Global, pid: Pid, number: u32, does: Does) -> Result<Input, NoMemory> {
     let call = call_of(alloc, does)?;
     Ok(Input::Issued { pid, number, call })
 }
@@ -64,33 +57,23 @@ fn answered(alloc: Global, tx: u32, from: u8, says: Says) -> Result<Input, NoMem
     Ok(Input::Replied { tx, from, body })
 }
 
-fn needs(client: &mut ClientProcs, alloc: Global, pid: Pid) -> Result<Input, NoMemory> {
-    set_image(client, pid, image_away(alloc, 1)?);
-    Ok(Input::PageNeeded { pid, page: 0 })
-}
-
 // What comes to the kernel.
 fn input_of(client: &mut ClientProcs, alloc: Global, step: Step) -> Result<Input, NoMemory> {
     match step {
-        Step::Issue(who, does) => issued(client, alloc, pid(who)?, does),
+        Step::Issue(who, does) => {
+            let pid = pid(who)?;
+            let last = number(client, pid).ok_or(NoMemory)?;
+            issued(alloc, pid, last.saturating_add(1), does)
+        }
         Step::Asked(tx, wants) => asked(alloc, tx, wants),
         Step::Answer(tx, from, says) => answered(alloc, tx, from, says),
         Step::GiveUp(tx) => Ok(Input::GaveUp { tx: TxNo(tx) }),
-        Step::Needs(who) => needs(client, alloc, pid(who)?),
+        Step::Needs(who) => {
+            let pid = pid(who)?;
+            set_image(client, pid, image_away(alloc, 1)?);
+            Ok(Input::PageNeeded { pid, page: 0 })
+        }
     }
-}
-
-fn stepped(
-    client: &mut ClientProcs,
-    next: &mut TxNo,
-    alloc: Global,
-    input: &Input,
-    row: &Row,
-) -> Result<bool, NoMemory> {
-    let step = client.files.step.saturating_add(1);
-    let out = take(client, alloc, input, *next, step)?;
-    *next = out.next;
-    is_said(client, alloc, &out, row)
 }
 
 // Whether the step says what the row says; the next remote call has that number.
@@ -101,30 +84,39 @@ fn is_so(
     row: &Row,
 ) -> Result<bool, NoMemory> {
     let input = input_of(client, alloc, row.0)?;
-    stepped(client, next, alloc, &input, row)
+    let step = client.files.step.saturating_add(1);
+    let stepped = take(client, alloc, &input, *next, step);
+    drop(input);
+    match stepped {
+        Ok(out) => {
+            *next = out.next;
+            let so = is_said(client, alloc, &out, row);
+            drop(out);
+            so
+        }
+        Err(error) => Err(error),
+    }
 }
 
-fn first_wrong(
-    client: &mut ClientProcs,
-    alloc: Global,
-    rows: &[Row],
-) -> Result<Option<usize>, NoMemory> {
+fn are_so(client: &mut ClientProcs, alloc: Global, rows: &[Row]) -> bool {
     let mut next = TxNo(1);
-    for (place, row) in rows.iter().enumerate() {
-        if !is_so(client, &mut next, alloc, row)? {
-            return Ok(Some(place));
+    for row in rows {
+        if !matches!(is_so(client, &mut next, alloc, row), Ok(true)) {
+            return false;
         }
     }
-    Ok(None)
+    true
 }
 
-/// The place of the first row that says something else, at a client of its own, which foreign processes are to leave at the call
-/// of that number.
-pub(crate) fn first_other(
-    alloc: Global,
-    after: u32,
-    rows: &[Row],
-) -> Result<Option<usize>, NoMemory> {
-    let mut client = client(alloc, after)?;
-    first_wrong(&mut client, alloc, rows)
+/// Whether each step says what its row says, at a client of its own, which foreign processes are to leave at the call of that
+/// number.
+pub(crate) fn all_say(alloc: Global, after: u32, rows: &[Row]) -> bool {
+    match client(alloc, after) {
+        Ok(mut client) => {
+            let so = are_so(&mut client, alloc, rows);
+            drop(client);
+            so
+        }
+        Err(_) => false,
+    }
 }

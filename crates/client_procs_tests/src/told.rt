@@ -67,6 +67,15 @@ pub(crate) enum Told {
     Answers(u32, Given),
 }
 
+/// All that a step says.
+#[derive(Clone, Copy)]
+pub(crate) enum Said {
+    Silence,
+    One(Told),
+    Two(Told, Told),
+    Three(Told, Told, Told),
+}
+
 fn asked_of_process(body: &Request) -> Asked {
     match body {
         Request::Transfer(request) => Asked::Transfer(
@@ -171,11 +180,20 @@ fn add_answers(told: &mut Items<Told>, answers: &[(TxNo, ReplyBody)]) -> Result<
     Ok(())
 }
 
-/// What the step says.
-pub(crate) fn told_of(alloc: Global, out: &Out) -> Result<Items<Told>, NoMemory> {
+fn is_said(told: &[Told], said: Said) -> bool {
+    match said {
+        Said::Silence => told.is_empty(),
+        Said::One(first) => told == [first].as_slice(),
+        Said::Two(first, second) => told == [first, second].as_slice(),
+        Said::Three(first, second, third) => told == [first, second, third].as_slice(),
+    }
+}
+
+/// Whether the step says that.
+pub(crate) fn says(alloc: Global, out: &Out, said: Said) -> Result<bool, NoMemory> {
     let mut told = Items::new(alloc);
     add_calls(&mut told, out.sends.as_slice())?;
     add_events(&mut told, out.events.as_slice())?;
     add_answers(&mut told, out.answers.as_slice())?;
-    Ok(told)
+    Ok(is_said(told.as_slice(), said))
 }

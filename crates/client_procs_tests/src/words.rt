@@ -3,8 +3,39 @@ use process_machine::Call;
 use sprite_ids::{Bytes, NoMemory, Pid};
 use std::alloc::Global;
 
-/// A path's or a name's text.
-pub(crate) type Text = &'static [u8];
+/// What the tests name: paths, the program, kernels, and two that name nothing.
+#[derive(Clone, Copy)]
+pub(crate) enum Name {
+    Root,
+    File,
+    Device,
+    OtherDevice,
+    Program,
+    /// Kernels 1 to 4.
+    Server,
+    Client,
+    SecondClient,
+    ThirdClient,
+    Unknown,
+    AlsoUnknown,
+}
+
+/// The name's text.
+pub(crate) fn text(name: Name) -> &'static [u8] {
+    match name {
+        Name::Root => b"/",
+        Name::File => b"/f",
+        Name::Device => b"/d",
+        Name::OtherDevice => b"/e",
+        Name::Program => b"p",
+        Name::Server => b"s",
+        Name::Client => b"a",
+        Name::SecondClient => b"b",
+        Name::ThirdClient => b"c",
+        Name::Unknown => b"x",
+        Name::AlsoUnknown => b"y",
+    }
+}
 
 /// A call that is done at a home.
 #[derive(Clone, Copy, PartialEq, Eq)]
@@ -28,12 +59,12 @@ pub(crate) enum Word {
 pub(crate) enum Does {
     Home(Word),
     Getpid,
-    Exec(Text),
-    Migrate(Text),
-    Rexec(Text, Text),
+    Exec(Name),
+    Migrate(Name),
+    Rexec(Name, Name),
     /// An open for reading and writing.
-    Open(Text),
-    Make(Text),
+    Open(Name),
+    Make(Name),
     Get(u64, u64),
     /// The descriptor, how many bytes, and the number of the error.
     Put(u64, usize, u64),
@@ -132,9 +163,9 @@ fn data_call(alloc: Global, does: Does) -> Result<Call, NoMemory> {
     }
 }
 
-fn rexec(alloc: Global, name: Text, host: Text) -> Result<Call, NoMemory> {
-    let name = Bytes::of_slice(alloc, name)?;
-    let host = Bytes::of_slice(alloc, host)?;
+fn rexec(alloc: Global, name: Name, host: Name) -> Result<Call, NoMemory> {
+    let name = Bytes::of_slice(alloc, text(name))?;
+    let host = Bytes::of_slice(alloc, text(host))?;
     Ok(Call::Rexec { name, host })
 }
 
@@ -144,19 +175,19 @@ pub(crate) fn call_of(alloc: Global, does: Does) -> Result<Call, NoMemory> {
         Does::Home(word) => own_call(alloc, word),
         Does::Getpid => Ok(Call::Getpid),
         Does::Exec(name) => Ok(Call::Exec {
-            name: Bytes::of_slice(alloc, name)?,
+            name: Bytes::of_slice(alloc, text(name))?,
             arg: 5,
         }),
         Does::Migrate(name) => Ok(Call::Migrate {
-            name: Bytes::of_slice(alloc, name)?,
+            name: Bytes::of_slice(alloc, text(name))?,
         }),
         Does::Rexec(name, host) => rexec(alloc, name, host),
         Does::Open(path) => Ok(Call::OpenFile {
-            path: Bytes::of_slice(alloc, path)?,
+            path: Bytes::of_slice(alloc, text(path))?,
             flags: 3,
         }),
         Does::Make(path) => Ok(Call::PdMake {
-            path: Bytes::of_slice(alloc, path)?,
+            path: Bytes::of_slice(alloc, text(path))?,
         }),
         _ => data_call(alloc, does),
     }

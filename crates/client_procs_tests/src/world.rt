@@ -1,4 +1,4 @@
-use crate::words::Text;
+use crate::words::{Name, text};
 use client_procs::{ClientProcs, boot};
 use link_plan::Plan;
 use process_machine::{Code, Image, Instruction, Operand, PageCount, Program, SyscallName};
@@ -12,9 +12,16 @@ pub(crate) fn kernel(number: u8) -> Result<Kernel, NoMemory> {
     Kernel::new(number).ok_or(NoMemory)
 }
 
-// A kernel of that name: the server of `/`, or a client.
-fn line(alloc: Global, name: Text, serves_root: bool) -> Result<KernelLine, NoMemory> {
-    let name = Bytes::of_slice(alloc, name)?;
+// The kernels: their names, and whether they serve `/`.
+static KERNELS: [(Name, bool); 4] = [
+    (Name::Server, true),
+    (Name::Client, false),
+    (Name::SecondClient, false),
+    (Name::ThirdClient, false),
+];
+
+fn line(alloc: Global, name: Name, serves_root: bool) -> Result<KernelLine, NoMemory> {
+    let name = Bytes::of_slice(alloc, text(name))?;
     let mut serves = Items::new(alloc);
     if serves_root {
         serves.push(Path::root(alloc))?;
@@ -22,13 +29,11 @@ fn line(alloc: Global, name: Text, serves_root: bool) -> Result<KernelLine, NoMe
     Ok(KernelLine { name, serves })
 }
 
-fn kernels(alloc: Global) -> Result<Items<KernelLine>, NoMemory> {
-    let mut lines = Items::new(alloc);
-    lines.push(line(alloc, b"s", true)?)?;
-    lines.push(line(alloc, b"a", false)?)?;
-    lines.push(line(alloc, b"b", false)?)?;
-    lines.push(line(alloc, b"c", false)?)?;
-    Ok(lines)
+fn add_kernels(lines: &mut Items<KernelLine>, alloc: Global) -> Result<(), NoMemory> {
+    for (name, serves_root) in KERNELS.iter() {
+        lines.push(line(alloc, *name, *serves_root)?)?;
+    }
+    Ok(())
 }
 
 // The program's one instruction: a `migrate` whose name is in page 0.
@@ -46,17 +51,21 @@ fn code(alloc: Global) -> Result<Code, NoMemory> {
     Ok(code)
 }
 
-fn programs(alloc: Global) -> Result<Items<ProgramLine>, NoMemory> {
-    let name = Bytes::of_slice(alloc, b"p")?;
-    let program = Program {
+fn program(alloc: Global) -> Result<Program, NoMemory> {
+    let pages = PageCount::new(1).ok_or(NoMemory)?;
+    let code = code(alloc)?;
+    Ok(Program {
         number: 1,
-        pages: PageCount::new(1).ok_or(NoMemory)?,
+        pages,
         texts: Items::new(alloc),
-        code: code(alloc)?,
-    };
-    let mut lines = Items::new(alloc);
-    lines.push(ProgramLine { name, program })?;
-    Ok(lines)
+        code,
+    })
+}
+
+fn add_program(lines: &mut Items<ProgramLine>, alloc: Global) -> Result<(), NoMemory> {
+    let name = Bytes::of_slice(alloc, text(Name::Program))?;
+    let program = program(alloc)?;
+    lines.push(ProgramLine { name, program })
 }
 
 fn start(host: Kernel) -> StartLine {
@@ -67,41 +76,49 @@ fn start(host: Kernel) -> StartLine {
     }
 }
 
-// Two processes of the client.
-fn starts(alloc: Global, host: Kernel) -> Result<Items<StartLine>, NoMemory> {
-    let mut lines = Items::new(alloc);
-    lines.push(start(host))?;
-    lines.push(start(host))?;
-    Ok(lines)
-}
-
-fn evicts(alloc: Global, host: Kernel, after: u32) -> Result<Items<EvictLine>, NoMemory> {
-    let mut lines = Items::new(alloc);
-    lines.push(EvictLine { host, after })?;
-    Ok(lines)
-}
-
-fn cluster(alloc: Global, client: Kernel, after: u32) -> Result<Description, NoMemory> {
-    Ok(Description {
+// A cluster of no kernels.
+fn empty(alloc: Global) -> Description {
+    Description {
         version: 2,
         budget: 1_000_000,
         cache: 8,
-        kernels: kernels(alloc)?,
-        programs: programs(alloc)?,
-        starts: starts(alloc, client)?,
+        kernels: Items::new(alloc),
+        programs: Items::new(alloc),
+        starts: Items::new(alloc),
         files: Items::new(alloc),
         plan: Plan {
             entries: Items::new(alloc),
         },
-        evicts: evicts(alloc, client, after)?,
-    })
+        evicts: Items::new(alloc),
+    }
+}
+
+// The four kernels, two processes of the client, and an eviction there at the call of that number.
+fn fill(
+    cluster: &mut Description,
+    alloc: Global,
+    client: Kernel,
+    after: u32,
+) -> Result<(), NoMemory> {
+    add_kernels(&mut cluster.kernels, alloc)?;
+    add_program(&mut cluster.programs, alloc)?;
+    cluster.starts.push(start(client))?;
+    cluster.starts.push(start(client))?;
+    let host = client;
+    cluster.evicts.push(EvictLine { host, after })
 }
 
 /// The client: kernel 2 of four, of which 1 serves `/` and 3 and 4 are other clients. Two processes begin there, 2001 and 2002. At the
 /// call of that number the processes of other homes are to leave; at none, where it is 0.
 pub(crate) fn client(alloc: Global, after: u32) -> Result<ClientProcs, NoMemory> {
     let client = kernel(2)?;
-    boot(alloc, &cluster(alloc, client, after)?, client)
+    let mut cluster = empty(alloc);
+    let booted = match fill(&mut cluster, alloc, client, after) {
+        Ok(()) => boot(alloc, &cluster, client),
+        Err(error) => Err(error),
+    };
+    drop(cluster);
+    booted
 }
 
 /// An image of the program whose page is away.
