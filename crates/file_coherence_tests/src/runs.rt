@@ -3,7 +3,7 @@ use sprite_ids::Mode;
 
 /// A file is written in a cache and closed, and then opened with truncation: its client's blocks are recalled, and what it holds
 /// is out of date.
-pub const TRUNCATED: [Act; 16] = [
+pub static TRUNCATED: [Act; 16] = [
     Act::Open(1, 1, Mode::Both),
     Act::Comes(1),
     Act::Comes(1),
@@ -22,7 +22,7 @@ pub const TRUNCATED: [Act; 16] = [
     Act::Read(1, (1, 1), 0, 10),
 ];
 
-pub const TRUNCATED_EFFECTS: [Effect; 5] = [
+pub static TRUNCATED_EFFECTS: [Effect; 5] = [
     Effect::Opened(16),
     Effect::Wrote(1, 1),
     Effect::Opened(16),
@@ -31,7 +31,7 @@ pub const TRUNCATED_EFFECTS: [Effect; 5] = [
 ];
 
 /// A grant comes to its client after a newer callback that stopped its caching.
-pub const STOPPED: [Act; 16] = [
+pub static STOPPED: [Act; 16] = [
     Act::Open(1, 1, Mode::Read),
     Act::Comes(1),
     Act::Open(2, 1, Mode::Write),
@@ -50,7 +50,7 @@ pub const STOPPED: [Act; 16] = [
     Act::Comes(6),
 ];
 
-pub const STOPPED_EFFECTS: [Effect; 5] = [
+pub static STOPPED_EFFECTS: [Effect; 5] = [
     Effect::Opened(16),
     Effect::Opened(16),
     Effect::Read(16, b"x"),
@@ -59,7 +59,7 @@ pub const STOPPED_EFFECTS: [Effect; 5] = [
 ];
 
 /// Two opens of a kernel are granted, and the newer grant comes first.
-pub const CROSSED: [Act; 9] = [
+pub static CROSSED: [Act; 9] = [
     Act::Open(1, 1, Mode::Read),
     Act::Comes(1),
     Act::Open(1, 2, Mode::Read),
@@ -71,14 +71,14 @@ pub const CROSSED: [Act; 9] = [
     Act::Comes(3),
 ];
 
-pub const CROSSED_EFFECTS: [Effect; 3] = [
+pub static CROSSED_EFFECTS: [Effect; 3] = [
     Effect::Opened(16),
     Effect::Opened(16),
     Effect::Read(1, b"x"),
 ];
 
 /// The file of a write-back that is on its way is truncated by another client.
-pub const EMPTIED: [Act; 12] = [
+pub static EMPTIED: [Act; 12] = [
     Act::Empty(2, 1, Mode::Both),
     Act::Comes(1),
     Act::Comes(1),
@@ -93,18 +93,18 @@ pub const EMPTIED: [Act; 12] = [
     Act::Read(1, (1, 1), 0, 4),
 ];
 
-pub const EMPTIED_REST: [Act; 2] = [Act::Comes(5), Act::Comes(5)];
+pub static EMPTIED_REST: [Act; 2] = [Act::Comes(5), Act::Comes(5)];
 
-pub const EMPTIED_EFFECTS: [Effect; 3] = [
+pub static EMPTIED_EFFECTS: [Effect; 3] = [
     Effect::Opened(16),
     Effect::Wrote(2, 2),
     Effect::Opened(16),
 ];
 
-pub const EMPTIED_REST_EFFECTS: [Effect; 1] = [Effect::Read(16, b"")];
+pub static EMPTIED_REST_EFFECTS: [Effect; 1] = [Effect::Read(16, b"")];
 
 /// A second client opens the file for writing: the first one's block is collected before the open is granted.
-pub const CALLED: [Act; 14] = [
+pub static CALLED: [Act; 14] = [
     Act::Open(1, 1, Mode::Both),
     Act::Comes(1),
     Act::Comes(1),
@@ -121,7 +121,7 @@ pub const CALLED: [Act; 14] = [
     Act::Comes(5),
 ];
 
-pub const CALLED_EFFECTS: [Effect; 4] = [
+pub static CALLED_EFFECTS: [Effect; 4] = [
     Effect::Opened(16),
     Effect::Wrote(1, 1),
     Effect::Opened(16),
@@ -129,7 +129,7 @@ pub const CALLED_EFFECTS: [Effect; 4] = [
 ];
 
 /// The holder opens the file twice more for writing, and the newer grant comes first: its dirty block stays.
-pub const HELD: [Act; 11] = [
+pub static HELD: [Act; 11] = [
     Act::Empty(1, 1, Mode::Both),
     Act::Comes(1),
     Act::Comes(1),
@@ -143,7 +143,7 @@ pub const HELD: [Act; 11] = [
     Act::Read(1, (1, 2), 0, 4),
 ];
 
-pub const HELD_EFFECTS: [Effect; 5] = [
+pub static HELD_EFFECTS: [Effect; 5] = [
     Effect::Opened(16),
     Effect::Wrote(1, 2),
     Effect::Opened(16),
@@ -152,7 +152,7 @@ pub const HELD_EFFECTS: [Effect; 5] = [
 ];
 
 /// Part of a block is written and sent to the server, and another client reads the file there.
-pub const PARTIAL: [Act; 14] = [
+pub static PARTIAL: [Act; 14] = [
     Act::Empty(1, 1, Mode::Both),
     Act::Comes(1),
     Act::Comes(1),
@@ -169,7 +169,7 @@ pub const PARTIAL: [Act; 14] = [
     Act::Comes(5),
 ];
 
-pub const PARTIAL_EFFECTS: [Effect; 4] = [
+pub static PARTIAL_EFFECTS: [Effect; 4] = [
     Effect::Opened(16),
     Effect::Wrote(1, 1),
     Effect::Opened(16),
@@ -178,7 +178,7 @@ pub const PARTIAL_EFFECTS: [Effect; 4] = [
 
 /// A stream moves to another client and leaves references behind, so that its file is cached by nobody; then it is closed on
 /// both.
-pub const MOVED: [Act; 19] = [
+pub static MOVED: [Act; 19] = [
     Act::Open(1, 1, Mode::Both),
     Act::Comes(1),
     Act::Comes(1),
@@ -200,7 +200,7 @@ pub const MOVED: [Act; 19] = [
     Act::Expires(6),
 ];
 
-pub const MOVED_EFFECTS: [Effect; 4] = [
+pub static MOVED_EFFECTS: [Effect; 4] = [
     Effect::Opened(16),
     Effect::Wrote(1, 2),
     Effect::Wrote(16, 1),
@@ -208,7 +208,7 @@ pub const MOVED_EFFECTS: [Effect; 4] = [
 ];
 
 /// A stream moves with all its references, while its client's dirty block is on its way.
-pub const CARRIED: [Act; 15] = [
+pub static CARRIED: [Act; 15] = [
     Act::Empty(1, 1, Mode::Both),
     Act::Comes(1),
     Act::Comes(1),
@@ -226,14 +226,14 @@ pub const CARRIED: [Act; 15] = [
     Act::Comes(5),
 ];
 
-pub const CARRIED_REST: [Act; 1] = [Act::Comes(5)];
+pub static CARRIED_REST: [Act; 1] = [Act::Comes(5)];
 
-pub const CARRIED_EFFECTS: [Effect; 2] = [Effect::Opened(16), Effect::Wrote(1, 3)];
+pub static CARRIED_EFFECTS: [Effect; 2] = [Effect::Opened(16), Effect::Wrote(1, 3)];
 
-pub const CARRIED_REST_EFFECTS: [Effect; 1] = [Effect::Read(2, b"abc")];
+pub static CARRIED_REST_EFFECTS: [Effect; 1] = [Effect::Read(2, b"abc")];
 
 /// Appends up to the limit and past it, in a cache and at the server. The file has one byte less than it may have.
-pub const LIMIT: [Act; 14] = [
+pub static LIMIT: [Act; 14] = [
     Act::Open(1, 1, Mode::Write),
     Act::Comes(1),
     Act::Comes(1),
@@ -250,7 +250,7 @@ pub const LIMIT: [Act; 14] = [
     Act::Comes(5),
 ];
 
-pub const LIMIT_EFFECTS: [Effect; 5] = [
+pub static LIMIT_EFFECTS: [Effect; 5] = [
     Effect::Opened(16),
     Effect::TooBig(1),
     Effect::Wrote(1, 1),
@@ -259,7 +259,7 @@ pub const LIMIT_EFFECTS: [Effect; 5] = [
 ];
 
 /// Steps that aren't possible: of streams that nobody has, of calls that aren't there, of kernels that aren't clients.
-pub const IMPOSSIBLE: [Act; 9] = [
+pub static IMPOSSIBLE: [Act; 9] = [
     Act::Read(1, (1, 1), 0, 4),
     Act::Write(1, (1, 1), 0, b"a"),
     Act::Append(2, (1, 1), b"a"),
@@ -271,4 +271,4 @@ pub const IMPOSSIBLE: [Act; 9] = [
     Act::Empty(1, 1, Mode::Read),
 ];
 
-pub const NOTHING: [Effect; 0] = [];
+pub static NOTHING: [Effect; 0] = [];

@@ -208,15 +208,14 @@ fn are(entered: &[Entered], effects: &[Effect]) -> bool {
 }
 
 // Whether the steps, played, have these effects.
-fn has_effects(
-    alloc: Global,
-    file: &mut OneFile,
-    acts: &[Act],
-    effects: &[Effect],
-) -> Result<bool, NoMemory> {
-    let steps = steps_of(alloc, acts)?;
-    let entered = file.play(alloc, steps.as_slice())?;
-    Ok(are(entered.as_slice(), effects))
+fn has_effects(alloc: Global, file: &mut OneFile, acts: &[Act], effects: &[Effect]) -> bool {
+    let Ok(steps) = steps_of(alloc, acts) else {
+        return false;
+    };
+    match file.play(alloc, steps.as_slice()) {
+        Ok(entered) => are(entered.as_slice(), effects),
+        Err(_) => false,
+    }
 }
 
 // A new file of two clients.
@@ -228,14 +227,13 @@ fn file_of(alloc: Global, first: &[u8]) -> Result<OneFile, NoMemory> {
 }
 
 /// Whether the run on a new file of these bytes and two clients has these effects.
-pub fn plays(
-    alloc: Global,
-    first: &[u8],
-    acts: &[Act],
-    effects: &[Effect],
-) -> Result<bool, NoMemory> {
-    let mut file = file_of(alloc, first)?;
-    has_effects(alloc, &mut file, acts, effects)
+pub fn plays(alloc: Global, first: &[u8], acts: &[Act], effects: &[Effect]) -> bool {
+    let Ok(mut file) = file_of(alloc, first) else {
+        return false;
+    };
+    let plays = has_effects(alloc, &mut file, acts, effects);
+    std::mem::drop(file);
+    plays
 }
 
 /// Whether a second part of the run has its effects too, on the file of the view that the first part led to.
@@ -245,30 +243,47 @@ pub fn goes_on(
     acts: &[Act],
     rest: &[Act],
     effects: &[Effect],
-) -> Result<bool, NoMemory> {
-    let mut file = file_of(alloc, first)?;
-    let steps = steps_of(alloc, acts)?;
-    let _entered = file.play(alloc, steps.as_slice())?;
+) -> bool {
+    let Ok(mut file) = file_of(alloc, first) else {
+        return false;
+    };
+    if !plays_all(alloc, &mut file, acts) {
+        return false;
+    }
     let mut same = OneFile::of_view(file.into_view());
-    has_effects(alloc, &mut same, rest, effects)
+    let goes_on = has_effects(alloc, &mut same, rest, effects);
+    std::mem::drop(same);
+    goes_on
 }
 
 /// Whether the run on a file of that many zeros and two clients has these effects.
-pub fn plays_on_zeros(
-    alloc: Global,
-    count: usize,
-    acts: &[Act],
-    effects: &[Effect],
-) -> Result<bool, NoMemory> {
+pub fn plays_on_zeros(alloc: Global, count: usize, acts: &[Act], effects: &[Effect]) -> bool {
     let mut first = Vec::new(alloc);
-    first.resize(count, 0)?;
-    plays(alloc, first.as_slice(), acts, effects)
+    match first.resize(count, 0) {
+        Ok(()) => plays(alloc, first.as_slice(), acts, effects),
+        Err(_) => false,
+    }
 }
 
-/// The version of the file of one byte after the run.
-pub fn version_after(alloc: Global, acts: &[Act]) -> Result<u32, NoMemory> {
-    let mut file = file_of(alloc, b"x")?;
-    let steps = steps_of(alloc, acts)?;
-    let _entered = file.play(alloc, steps.as_slice())?;
-    Ok(file.view().version)
+// Plays the steps, whatever effects they have.
+fn plays_all(alloc: Global, file: &mut OneFile, acts: &[Act]) -> bool {
+    match steps_of(alloc, acts) {
+        Ok(steps) => file.play(alloc, steps.as_slice()).is_ok(),
+        Err(_) => false,
+    }
+}
+
+// Whether the file has that version.
+fn has_version(file: &OneFile, version: u32) -> bool {
+    file.view().version == version
+}
+
+/// Whether the file of one byte has that version after the run.
+pub fn leads_to_version(alloc: Global, acts: &[Act], version: u32) -> bool {
+    let Ok(mut file) = file_of(alloc, b"x") else {
+        return false;
+    };
+    let leads = plays_all(alloc, &mut file, acts) && has_version(&file, version);
+    std::mem::drop(file);
+    leads
 }

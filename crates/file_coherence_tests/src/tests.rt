@@ -1,30 +1,27 @@
 use crate::runs;
-use crate::script::{goes_on, plays, plays_on_zeros, version_after};
-use sprite_ids::NoMemory;
+use crate::script::{goes_on, leads_to_version, plays, plays_on_zeros};
 
 #[test]
-fn runs_have_their_effects(rt: HostRuntime) -> Result<(), NoMemory> {
-    assert!(rt; plays(rt.alloc(), b"x", &runs::TRUNCATED, &runs::TRUNCATED_EFFECTS)?);
-    assert!(rt; plays(rt.alloc(), b"x", &runs::STOPPED, &runs::STOPPED_EFFECTS)?);
-    assert!(rt; plays(rt.alloc(), b"x", &runs::CROSSED, &runs::CROSSED_EFFECTS)?);
-    assert!(rt; plays(rt.alloc(), b"", &runs::EMPTIED, &runs::EMPTIED_EFFECTS)?);
-    assert!(rt; plays(rt.alloc(), b"x", &runs::CALLED, &runs::CALLED_EFFECTS)?);
-    assert!(rt; plays(rt.alloc(), b"", &runs::HELD, &runs::HELD_EFFECTS)?);
-    Ok(())
+fn runs_have_their_effects(rt: HostRuntime) {
+    assert!(rt; plays(rt.alloc(), b"x", &runs::TRUNCATED, &runs::TRUNCATED_EFFECTS));
+    assert!(rt; plays(rt.alloc(), b"x", &runs::STOPPED, &runs::STOPPED_EFFECTS));
+    assert!(rt; plays(rt.alloc(), b"x", &runs::CROSSED, &runs::CROSSED_EFFECTS));
+    assert!(rt; plays(rt.alloc(), b"", &runs::EMPTIED, &runs::EMPTIED_EFFECTS));
+    assert!(rt; plays(rt.alloc(), b"x", &runs::CALLED, &runs::CALLED_EFFECTS));
+    assert!(rt; plays(rt.alloc(), b"", &runs::HELD, &runs::HELD_EFFECTS));
 }
 
 #[test]
-fn runs_of_blocks_and_moves_have_theirs(rt: HostRuntime) -> Result<(), NoMemory> {
-    assert!(rt; plays(rt.alloc(), b"", &runs::PARTIAL, &runs::PARTIAL_EFFECTS)?);
-    assert!(rt; plays(rt.alloc(), b"", &runs::MOVED, &runs::MOVED_EFFECTS)?);
-    assert!(rt; plays(rt.alloc(), b"", &runs::CARRIED, &runs::CARRIED_EFFECTS)?);
-    assert!(rt; plays_on_zeros(rt.alloc(), 262_143, &runs::LIMIT, &runs::LIMIT_EFFECTS)?);
-    assert!(rt; plays(rt.alloc(), b"x", &runs::IMPOSSIBLE, &runs::NOTHING)?);
-    Ok(())
+fn runs_of_blocks_and_moves_have_theirs(rt: HostRuntime) {
+    assert!(rt; plays(rt.alloc(), b"", &runs::PARTIAL, &runs::PARTIAL_EFFECTS));
+    assert!(rt; plays(rt.alloc(), b"", &runs::MOVED, &runs::MOVED_EFFECTS));
+    assert!(rt; plays(rt.alloc(), b"", &runs::CARRIED, &runs::CARRIED_EFFECTS));
+    assert!(rt; plays_on_zeros(rt.alloc(), 262_143, &runs::LIMIT, &runs::LIMIT_EFFECTS));
+    assert!(rt; plays(rt.alloc(), b"x", &runs::IMPOSSIBLE, &runs::NOTHING));
 }
 
 #[test]
-fn a_file_goes_on_from_its_view(rt: HostRuntime) -> Result<(), NoMemory> {
+fn a_file_goes_on_from_its_view(rt: HostRuntime) {
     assert!(rt;
         goes_on(
             rt.alloc(),
@@ -32,7 +29,7 @@ fn a_file_goes_on_from_its_view(rt: HostRuntime) -> Result<(), NoMemory> {
             &runs::EMPTIED,
             &runs::EMPTIED_REST,
             &runs::EMPTIED_REST_EFFECTS
-        )?
+        )
     );
     assert!(rt;
         goes_on(
@@ -41,15 +38,13 @@ fn a_file_goes_on_from_its_view(rt: HostRuntime) -> Result<(), NoMemory> {
             &runs::CARRIED,
             &runs::CARRIED_REST,
             &runs::CARRIED_REST_EFFECTS
-        )?
+        )
     );
-    Ok(())
 }
 
 #[test]
-fn versions_rise_at_truncations_and_new_writers(rt: HostRuntime) -> Result<(), NoMemory> {
-    assert!(rt; version_after(rt.alloc(), &runs::IMPOSSIBLE)? == 1);
-    assert!(rt; version_after(rt.alloc(), &runs::HELD)? == 2);
-    assert!(rt; version_after(rt.alloc(), &runs::TRUNCATED)? == 3);
-    Ok(())
+fn versions_rise_at_truncations_and_new_writers(rt: HostRuntime) {
+    assert!(rt; leads_to_version(rt.alloc(), &runs::IMPOSSIBLE, 1));
+    assert!(rt; leads_to_version(rt.alloc(), &runs::HELD, 2));
+    assert!(rt; leads_to_version(rt.alloc(), &runs::TRUNCATED, 3));
 }
