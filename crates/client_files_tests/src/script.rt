@@ -7,6 +7,7 @@ use kernel_steps::{Input, Out};
 use packet_bodies::{CallbackRequest, Request};
 use sprite_ids::{BlockNo, CallKind, DeviceId, FileId, Kernel, NoMemory, Pid, StreamNo, TxNo};
 use std::alloc::Global;
+use std::process::Abort;
 use unix_calls::About;
 
 /// What happens.
@@ -187,22 +188,28 @@ fn is_so(
     Ok(so)
 }
 
-fn are_so(files: &mut ClientFiles, at: &mut Cluster, alloc: Global, rows: &[Row]) -> bool {
+fn first_wrong(
+    files: &mut ClientFiles,
+    at: &mut Cluster,
+    alloc: Global,
+    rows: &[Row],
+) -> Option<usize> {
     if add_servers(&mut files.servers).is_err() {
-        return false;
+        return Some(0);
     }
-    for row in rows {
+    for (place, row) in rows.iter().enumerate() {
         if !matches!(is_so(files, at, alloc, row), Ok(true)) {
-            return false;
+            return Some(place);
         }
     }
-    true
+    None
 }
 
-/// Whether each step says what its row says, at a kernel of its own, of a cluster of that version.
-pub(crate) fn all_say(alloc: Global, version: u8, rows: &[Row]) -> bool {
+/// The place of the first row that says something else, at a kernel of its own, of a cluster of that version; the first place
+/// where there is no such kernel.
+pub(crate) fn first_other(alloc: Global, version: u8, rows: &[Row]) -> Option<usize> {
     let (Ok(server), Ok(client)) = (kernel(1), kernel(2)) else {
-        return false;
+        return Some(0);
     };
     let file = FileId { server, number: 1 };
     let mut at = Cluster {
@@ -212,10 +219,15 @@ pub(crate) fn all_say(alloc: Global, version: u8, rows: &[Row]) -> bool {
     };
     match boot(alloc, version, client) {
         Ok(mut files) => {
-            let so = are_so(&mut files, &mut at, alloc, rows);
+            let other = first_wrong(&mut files, &mut at, alloc, rows);
             drop(files);
-            so
+            other
         }
-        Err(_) => false,
+        Err(_) => Some(0),
     }
+}
+
+/// Asserts that no row is another, and tells the place of the one that is.
+pub(crate) fn is_none(rt: &impl Abort, other: Option<usize>) {
+    assert_eq!(rt; other, None);
 }

@@ -10,7 +10,7 @@ use crate::calls::Name::{
 };
 use crate::script::Inside::{Arrives, Ends, Fills, Makes, Moves};
 use crate::script::Step::{Answer, Due, GiveUp, Inside, Issue, Stop};
-use crate::script::{Row, all_say};
+use crate::script::{Row, first_other, is_none};
 use crate::told::Told::{AllClosed, Asks, Fails, Flushes, Gives, MasterClosed, Nothing};
 use crate::told::{Asked, Told};
 use crate::world::Comes;
@@ -78,7 +78,7 @@ static OPENS: [Row; 17] = [
 
 #[test]
 fn opens(rt: HostRuntime) {
-    assert!(rt; all_say(rt.alloc(), 1, &OPENS));
+    is_none(&rt, first_other(rt.alloc(), 1, &OPENS));
 }
 
 // A broadcast and an echo are given up, and a request is refused.
@@ -120,7 +120,7 @@ static UNREACHED: [Row; 9] = [
 
 #[test]
 fn servers_that_are_not_reached(rt: HostRuntime) {
-    assert!(rt; all_say(rt.alloc(), 1, &UNREACHED));
+    is_none(&rt, first_other(rt.alloc(), 1, &UNREACHED));
 }
 
 // Two paths lead on into one domain: the first call asks who serves it, the second one knows by then. The second process's
@@ -197,7 +197,7 @@ static DOMAINS: [Row; 15] = [
 
 #[test]
 fn domains(rt: HostRuntime) {
-    assert!(rt; all_say(rt.alloc(), 1, &DOMAINS));
+    is_none(&rt, first_other(rt.alloc(), 1, &DOMAINS));
 }
 
 // The other name calls.
@@ -270,7 +270,7 @@ static NAMES: [Row; 16] = [
 
 #[test]
 fn names(rt: HostRuntime) {
-    assert!(rt; all_say(rt.alloc(), 1, &NAMES));
+    is_none(&rt, first_other(rt.alloc(), 1, &NAMES));
 }
 
 // What is refused here: no lawful flags, no name, no descriptor, too much.
@@ -343,7 +343,7 @@ static REFUSALS: [Row; 16] = [
 
 #[test]
 fn refusals(rt: HostRuntime) {
-    assert!(rt; all_say(rt.alloc(), 1, &REFUSALS));
+    is_none(&rt, first_other(rt.alloc(), 1, &REFUSALS));
 }
 
 // All 16 descriptors are in use; a seek past the limit.
@@ -387,7 +387,7 @@ static FULL: [Row; 7] = [
 
 #[test]
 fn descriptors_in_use(rt: HostRuntime) {
-    assert!(rt; all_say(rt.alloc(), 1, &FULL));
+    is_none(&rt, first_other(rt.alloc(), 1, &FULL));
 }
 
 // A pseudo-device is made and opened; its ends are closed, and a client's end moves at once.
@@ -444,7 +444,7 @@ static DEVICES: [Row; 16] = [
 
 #[test]
 fn devices(rt: HostRuntime) {
-    assert!(rt; all_say(rt.alloc(), 1, &DEVICES));
+    is_none(&rt, first_other(rt.alloc(), 1, &DEVICES));
 }
 
 // The making of a pseudo-device is refused, and leads on.
@@ -489,7 +489,7 @@ static MAKES: [Row; 8] = [
 
 #[test]
 fn devices_that_are_not_made(rt: HostRuntime) {
-    assert!(rt; all_say(rt.alloc(), 1, &MAKES));
+    is_none(&rt, first_other(rt.alloc(), 1, &MAKES));
 }
 
 // A close waits for the lock that a reading has; at the end of a process its last reference is closed at the server, and the
@@ -562,7 +562,7 @@ static CLOSES: [Row; 15] = [
 
 #[test]
 fn closes(rt: HostRuntime) {
-    assert!(rt; all_say(rt.alloc(), 1, &CLOSES));
+    is_none(&rt, first_other(rt.alloc(), 1, &CLOSES));
 }
 
 // A stream of two processes moves with the first one: the close of the second one waits, and is the last reference here. A
@@ -634,7 +634,7 @@ static MOVES: [Row; 10] = [
 
 #[test]
 fn moves(rt: HostRuntime) {
-    assert!(rt; all_say(rt.alloc(), 1, &MOVES));
+    is_none(&rt, first_other(rt.alloc(), 1, &MOVES));
 }
 
 // A move waits for the lock that a reading has; the first process's makes the stream shared, the second one's moves a shared
@@ -744,5 +744,5 @@ static SHARED: [Row; 16] = [
 
 #[test]
 fn shared_streams(rt: HostRuntime) {
-    assert!(rt; all_say(rt.alloc(), 1, &SHARED));
+    is_none(&rt, first_other(rt.alloc(), 1, &SHARED));
 }

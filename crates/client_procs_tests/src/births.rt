@@ -2,7 +2,7 @@ use crate::bodies::Says::{Done, Here, Opened, Page, Refused, Value};
 use crate::bodies::Wants;
 use crate::bodies::Wants::{Comes, Migrates};
 use crate::script::Step::{Answer, Asked, Issue};
-use crate::script::{Row, all_say};
+use crate::script::{Row, first_other, is_none};
 use crate::told::Said::{One, Silence, Three, Two};
 use crate::told::Told::{Answers, Calls, Dies, Fails, Freezes, Gives, Thaws};
 use crate::told::{Asked as Ask, Given};
@@ -76,7 +76,7 @@ static FORKS: [Row; 11] = [
 
 #[test]
 fn forks(rt: HostRuntime) {
-    assert!(rt; all_say(rt.alloc(), 0, &FORKS));
+    is_none(&rt, first_other(rt.alloc(), 0, &FORKS));
 }
 
 // Waits: of a process that has no child, before its child's end and behind it.
@@ -117,7 +117,7 @@ static WAITS: [Row; 8] = [
 
 #[test]
 fn waits(rt: HostRuntime) {
-    assert!(rt; all_say(rt.alloc(), 0, &WAITS));
+    is_none(&rt, first_other(rt.alloc(), 0, &WAITS));
 }
 
 // Calls that are done at the home, of a process that is there and of one that has gone to another kernel, and of that one's child.
@@ -201,7 +201,7 @@ static HOMES: [Row; 16] = [
 
 #[test]
 fn calls_of_a_home(rt: HostRuntime) {
-    assert!(rt; all_say(rt.alloc(), 0, &HOMES));
+    is_none(&rt, first_other(rt.alloc(), 0, &HOMES));
 }
 
 // A foreign process's calls go to its home, and a kill to the home of the one that is killed, which is this one once; it is killed
@@ -289,7 +289,7 @@ static ABROAD: [Row; 17] = [
 
 #[test]
 fn calls_of_a_foreign_process(rt: HostRuntime) {
-    assert!(rt; all_say(rt.alloc(), 0, &ABROAD));
+    is_none(&rt, first_other(rt.alloc(), 0, &ABROAD));
 }
 
 // Ends with a file open: an exit that leaves the stream to the child, one with the last reference, which is closed for its sake; and
@@ -356,5 +356,5 @@ static ENDS: [Row; 13] = [
 
 #[test]
 fn ends_with_a_file_open(rt: HostRuntime) {
-    assert!(rt; all_say(rt.alloc(), 0, &ENDS));
+    is_none(&rt, first_other(rt.alloc(), 0, &ENDS));
 }

@@ -2,7 +2,7 @@ use crate::bodies::Says::{Done, Here, OpenedDevice, Refused, Value};
 use crate::bodies::Wants;
 use crate::bodies::Wants::Comes;
 use crate::script::Step::{Answer, Asked, GiveUp, Issue};
-use crate::script::{Row, all_say};
+use crate::script::{Row, first_other, is_none};
 use crate::told::Said::{One, Silence, Three, Two};
 use crate::told::Told::{Answers, Calls, Dies, Fails, Gives, Thaws};
 use crate::told::{Asked as Ask, Given};
@@ -116,7 +116,7 @@ static ASKED: [Row; 19] = [
 
 #[test]
 fn asks_from_elsewhere(rt: HostRuntime) {
-    assert!(rt; all_say(rt.alloc(), 0, &ASKED));
+    is_none(&rt, first_other(rt.alloc(), 0, &ASKED));
 }
 
 // Two masters wait for one ask: the first takes it, and the other is refused. A kill breaks off the wait for an ask, and one of a
@@ -220,7 +220,7 @@ static MASTERS: [Row; 22] = [
 
 #[test]
 fn masters_that_wait(rt: HostRuntime) {
-    assert!(rt; all_say(rt.alloc(), 0, &MASTERS));
+    is_none(&rt, first_other(rt.alloc(), 0, &MASTERS));
 }
 
 // A process asks a pseudo-device of another kernel: it is answered, refused, and killed before its ask is answered. The making of
@@ -320,7 +320,7 @@ static ASKS: [Row; 18] = [
 
 #[test]
 fn asks_to_elsewhere(rt: HostRuntime) {
-    assert!(rt; all_say(rt.alloc(), 0, &ASKS));
+    is_none(&rt, first_other(rt.alloc(), 0, &ASKS));
 }
 
 // At the third call the foreign processes leave, but one that holds a master's end stays, and is not asked again; asks that come
@@ -384,7 +384,7 @@ static FOREIGN: [Row; 11] = [
 
 #[test]
 fn a_foreign_master(rt: HostRuntime) {
-    assert!(rt; all_say(rt.alloc(), 3, &FOREIGN));
+    is_none(&rt, first_other(rt.alloc(), 3, &FOREIGN));
 }
 
 // The making of a device is refused, and no ask of that device is taken.
@@ -423,5 +423,5 @@ static UNMADE: [Row; 6] = [
 
 #[test]
 fn a_device_that_is_not_made(rt: HostRuntime) {
-    assert!(rt; all_say(rt.alloc(), 0, &UNMADE));
+    is_none(&rt, first_other(rt.alloc(), 0, &UNMADE));
 }

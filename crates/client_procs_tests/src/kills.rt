@@ -1,7 +1,7 @@
 use crate::bodies::Says::{Done, Gone, Page, Value};
 use crate::bodies::Wants::{Comes, Home as AtHome, Killed, Place};
 use crate::script::Step::{Answer, Asked, Issue, Needs};
-use crate::script::{Row, all_say};
+use crate::script::{Row, first_other, is_none};
 use crate::told::Said::{One, Silence, Three, Two};
 use crate::told::Told::{Answers, Calls, Dies, Fails, Freezes, Gives, Thaws};
 use crate::told::{Asked as Ask, Given};
@@ -67,7 +67,7 @@ static KILLS: [Row; 10] = [
 
 #[test]
 fn kills(rt: HostRuntime) {
-    assert!(rt; all_say(rt.alloc(), 0, &KILLS));
+    is_none(&rt, first_other(rt.alloc(), 0, &KILLS));
 }
 
 // A kill and a parked wait cross: at the home of a process that is there, and of one that is elsewhere, whose next wait is broken
@@ -144,7 +144,7 @@ static CROSSED: [Row; 15] = [
 
 #[test]
 fn kills_that_cross_waits(rt: HostRuntime) {
-    assert!(rt; all_say(rt.alloc(), 0, &CROSSED));
+    is_none(&rt, first_other(rt.alloc(), 0, &CROSSED));
 }
 
 // Kills come to the kernel at which foreign processes are: one of a process that a fork brings later; one of a process that has
@@ -234,7 +234,7 @@ static EARLY: [Row; 16] = [
 
 #[test]
 fn kills_of_foreign_processes(rt: HostRuntime) {
-    assert!(rt; all_say(rt.alloc(), 0, &EARLY));
+    is_none(&rt, first_other(rt.alloc(), 0, &EARLY));
 }
 
 // A home follows its process with a kill: the process is on its way; has left the kernel that is told; comes to another one before
@@ -297,7 +297,7 @@ static CHASED: [Row; 13] = [
 
 #[test]
 fn kills_that_follow_a_process(rt: HostRuntime) {
-    assert!(rt; all_say(rt.alloc(), 0, &CHASED));
+    is_none(&rt, first_other(rt.alloc(), 0, &CHASED));
 }
 
 // A process waits for a page and goes on with it; another one is killed while its page is on its way.
@@ -323,7 +323,7 @@ static PAGES: [Row; 5] = [
 
 #[test]
 fn pages(rt: HostRuntime) {
-    assert!(rt; all_say(rt.alloc(), 0, &PAGES));
+    is_none(&rt, first_other(rt.alloc(), 0, &PAGES));
 }
 
 // The kernel that is told of the kill knows the process no more, and it comes home next, where it dies.
@@ -364,5 +364,5 @@ static CAUGHT: [Row; 8] = [
 
 #[test]
 fn a_kill_that_waits_at_home(rt: HostRuntime) {
-    assert!(rt; all_say(rt.alloc(), 0, &CAUGHT));
+    is_none(&rt, first_other(rt.alloc(), 0, &CAUGHT));
 }

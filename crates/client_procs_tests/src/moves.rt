@@ -1,7 +1,7 @@
 use crate::bodies::Says::{Done, Here, Moved, Opened, Page, Value};
 use crate::bodies::Wants::{Brings, Comes, Killed, Launches, Migrates};
 use crate::script::Step::{Answer, Asked, Issue, Needs};
-use crate::script::{Row, all_say};
+use crate::script::{Row, first_other, is_none};
 use crate::told::Said::{One, Silence, Three, Two};
 use crate::told::Told::{Answers, Calls, Fails, Freezes, Gives, Thaws};
 use crate::told::{Asked as Ask, Given};
@@ -93,7 +93,7 @@ static STAYS: [Row; 15] = [
 
 #[test]
 fn moves_that_are_refused(rt: HostRuntime) {
-    assert!(rt; all_say(rt.alloc(), 0, &STAYS));
+    is_none(&rt, first_other(rt.alloc(), 0, &STAYS));
 }
 
 // Two processes move, each with a stream: the page of the first is put before its stream has moved, and the second one's behind
@@ -195,7 +195,7 @@ static MOVES: [Row; 19] = [
 
 #[test]
 fn moves_with_streams(rt: HostRuntime) {
-    assert!(rt; all_say(rt.alloc(), 0, &MOVES));
+    is_none(&rt, first_other(rt.alloc(), 0, &MOVES));
 }
 
 // Processes come: one with a stream, which it closes; one in its own move, whose call names a page that is away; one that starts
@@ -259,7 +259,7 @@ static ARRIVALS: [Row; 13] = [
 
 #[test]
 fn arrivals(rt: HostRuntime) {
-    assert!(rt; all_say(rt.alloc(), 0, &ARRIVALS));
+    is_none(&rt, first_other(rt.alloc(), 0, &ARRIVALS));
 }
 
 // At the second call the foreign processes leave: one that is between two calls at once, and one that is inside a call behind it;
@@ -321,7 +321,7 @@ static EVICTED: [Row; 11] = [
 
 #[test]
 fn evictions(rt: HostRuntime) {
-    assert!(rt; all_say(rt.alloc(), 2, &EVICTED));
+    is_none(&rt, first_other(rt.alloc(), 2, &EVICTED));
 }
 
 // At the first call a process is inside its own move and has a page to wait for: it leaves when that call has returned.
@@ -358,7 +358,7 @@ static TURNED: [Row; 5] = [
 
 #[test]
 fn an_eviction_inside_a_migrate(rt: HostRuntime) {
-    assert!(rt; all_say(rt.alloc(), 1, &TURNED));
+    is_none(&rt, first_other(rt.alloc(), 1, &TURNED));
 }
 
 // At the second call a process is on its way already, whose page isn't put: it doesn't leave once more, and a kill doesn't find it.
@@ -403,7 +403,7 @@ static FROZEN: [Row; 9] = [
 
 #[test]
 fn an_eviction_behind_a_freeze(rt: HostRuntime) {
-    assert!(rt; all_say(rt.alloc(), 2, &FROZEN));
+    is_none(&rt, first_other(rt.alloc(), 2, &FROZEN));
 }
 
 // At the first call a process waits for a page: it leaves, with that page, when it has come.
@@ -438,7 +438,7 @@ static PAGED: [Row; 7] = [
 
 #[test]
 fn an_eviction_inside_a_page_wait(rt: HostRuntime) {
-    assert!(rt; all_say(rt.alloc(), 1, &PAGED));
+    is_none(&rt, first_other(rt.alloc(), 1, &PAGED));
 }
 
 // At the second call a process is inside a call, and it is killed there too: it dies behind that call, and doesn't leave.
@@ -476,5 +476,5 @@ static KILLED: [Row; 7] = [
 
 #[test]
 fn an_eviction_of_a_killed_process(rt: HostRuntime) {
-    assert!(rt; all_say(rt.alloc(), 2, &KILLED));
+    is_none(&rt, first_other(rt.alloc(), 2, &KILLED));
 }

@@ -6,6 +6,7 @@ use client_procs::{ClientProcs, number, pids, set_image, take};
 use kernel_steps::{Input, Out};
 use sprite_ids::{NoMemory, Pid, TxNo};
 use std::alloc::Global;
+use std::process::Abort;
 
 /// What happens.
 #[derive(Clone, Copy)]
@@ -98,25 +99,30 @@ fn is_so(
     }
 }
 
-fn are_so(client: &mut ClientProcs, alloc: Global, rows: &[Row]) -> bool {
+fn first_wrong(client: &mut ClientProcs, alloc: Global, rows: &[Row]) -> Option<usize> {
     let mut next = TxNo(1);
-    for row in rows {
+    for (place, row) in rows.iter().enumerate() {
         if !matches!(is_so(client, &mut next, alloc, row), Ok(true)) {
-            return false;
+            return Some(place);
         }
     }
-    true
+    None
 }
 
-/// Whether each step says what its row says, at a client of its own, which foreign processes are to leave at the call of that
-/// number.
-pub(crate) fn all_say(alloc: Global, after: u32, rows: &[Row]) -> bool {
+/// The place of the first row that says something else, at a client of its own, which foreign processes are to leave at the call
+/// of that number; the first place where there is no client.
+pub(crate) fn first_other(alloc: Global, after: u32, rows: &[Row]) -> Option<usize> {
     match client(alloc, after) {
         Ok(mut client) => {
-            let so = are_so(&mut client, alloc, rows);
+            let other = first_wrong(&mut client, alloc, rows);
             drop(client);
-            so
+            other
         }
-        Err(_) => false,
+        Err(_) => Some(0),
     }
+}
+
+/// Asserts that no row is another, and tells the place of the one that is.
+pub(crate) fn is_none(rt: &impl Abort, other: Option<usize>) {
+    assert_eq!(rt; other, None);
 }
