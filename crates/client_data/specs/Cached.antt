@@ -3,15 +3,15 @@ use Rattle.std.specs.Prelude.{ℕ, ◌+◌, Bool, true, false, if◌then◌else�
 use Rattle.sprite_ids.specs.declared.FileId.{FileId}
 use Rattle.sprite_ids.specs.declared.BlockNo.{BlockNo}
 use Rattle.process_machine.specs.declared.Reply.TheVariants.{Value}
-use Rattle.client_tables.specs.declared.ClientFiles.{ClientFiles}
-use Rattle.client_tables.specs.declared.DataCall.{DataCall}
-use Rattle.client_tables.specs.declared.DataKind.{DataKind}
-use Rattle.client_tables.specs.declared.DataKind.TheVariants as kinds
-use Rattle.client_tables.specs.declared.Extent.{Extent}
-use Rattle.client_tables.specs.Says.{plain_value}
-use Rattle.client_tables.specs.Streams.{moves_offset}
-use Rattle.client_tables.specs.Blocks.{missing_in, bytes_read, reads, writes}
-use Rattle.client_tables.specs.WriteBacks.{dirties_all}
+use Rattle.client_file_tables.specs.declared.ClientFiles.{ClientFiles}
+use Rattle.client_file_tables.specs.declared.DataCall.{DataCall}
+use Rattle.client_file_tables.specs.declared.DataKind.{DataKind}
+use Rattle.client_file_tables.specs.declared.DataKind.TheVariants as kinds
+use Rattle.client_file_tables.specs.declared.Extent.{Extent}
+use Rattle.client_file_tables.specs.Says.{plain_value}
+use Rattle.client_file_tables.specs.Streams.{moves_offset}
+use Rattle.client_file_tables.specs.Blocks.{missing_in, bytes_read, reads, writes}
+use Rattle.client_file_tables.specs.WriteBacks.{dirties_all}
 use Rattle.client_data.specs.Finishes.{ends_here}
 
 -- the first block of the range that isn't held

@@ -8,14 +8,14 @@ use Rattle.packet_bodies.specs.declared.Request.TheVariants as requests
 use Rattle.unix_calls.specs.declared.SendKind.TheVariants as sendings
 use Rattle.kernel_steps.specs.declared.Sending.{Sending}
 use Rattle.block_cache.specs.Held.{is_full, write_back_next}
-use Rattle.client_tables.specs.declared.ClientFiles.{ClientFiles}
-use Rattle.client_tables.specs.declared.DataCall.{DataCall}
-use Rattle.client_tables.specs.declared.DataState.TheVariants.{Turn, Room, Fetching}
-use Rattle.client_tables.specs.declared.Extent.{Extent}
-use Rattle.client_tables.specs.Says.{about_of, sends_for, to_one}
-use Rattle.client_tables.specs.Fillers.{is_filling, begins_filling}
-use Rattle.client_tables.specs.Blocks.{state_in, missing_in, fills, has_clean, drops_full}
-use Rattle.client_tables.specs.WriteBacks.{current_write_back}
+use Rattle.client_file_tables.specs.declared.ClientFiles.{ClientFiles}
+use Rattle.client_file_tables.specs.declared.DataCall.{DataCall}
+use Rattle.client_file_tables.specs.declared.DataState.TheVariants.{Turn, Room, Fetching}
+use Rattle.client_file_tables.specs.declared.Extent.{Extent}
+use Rattle.client_file_tables.specs.Says.{about_of, sends_for, to_one}
+use Rattle.client_file_tables.specs.Fillers.{is_filling, begins_filling}
+use Rattle.client_file_tables.specs.Blocks.{state_in, missing_in, fills, has_clean, drops_full}
+use Rattle.client_file_tables.specs.WriteBacks.{current_write_back}
 use Rattle.client_data.specs.Finishes.{keeps_data}
 use Rattle.client_data.specs.WriteBacks.{sends_back}
 use Rattle.client_data.specs.Cached.{missing_of, does_cached}

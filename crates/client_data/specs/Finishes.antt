@@ -2,15 +2,15 @@
 use Rattle.std.specs.Prelude.{ℕ}
 use Rattle.sprite_ids.specs.declared.StreamNo.{StreamNo}
 use Rattle.process_machine.specs.declared.Reply.{Reply}
-use Rattle.client_tables.specs.declared.ClientFiles.{ClientFiles}
-use Rattle.client_tables.specs.declared.DataCall.{DataCall}
-use Rattle.client_tables.specs.declared.DataState.{DataState}
-use Rattle.client_tables.specs.declared.Pending.TheVariants as operations
-use Rattle.client_tables.specs.Calls.{data_call}
-use Rattle.client_tables.specs.Says.{replies, answers_here, about_of}
-use Rattle.client_tables.specs.Steps.{keeps}
-use Rattle.client_tables.specs.Locks.{unlocks}
-use Rattle.client_tables.specs.Fillers.{leaves_filling}
+use Rattle.client_file_tables.specs.declared.ClientFiles.{ClientFiles}
+use Rattle.client_file_tables.specs.declared.DataCall.{DataCall}
+use Rattle.client_file_tables.specs.declared.DataState.{DataState}
+use Rattle.client_file_tables.specs.declared.Pending.TheVariants as operations
+use Rattle.client_file_tables.specs.Calls.{data_call}
+use Rattle.client_file_tables.specs.Says.{replies, answers_here, about_of}
+use Rattle.client_file_tables.specs.Steps.{keeps}
+use Rattle.client_file_tables.specs.Locks.{unlocks}
+use Rattle.client_file_tables.specs.Fillers.{leaves_filling}
 
 -- the operation waits for that
 abbrev pub keeps_data : ℕ → DataCall → DataState → ClientFiles → ClientFiles

@@ -19,9 +19,9 @@ use Rattle.block_cache.specs.Files.{keeps}
 use Rattle.block_cache.specs.Blocks.{held_under, dirty_under}
 use Rattle.block_cache.specs.Held.{is_newer, after_grant, after_callback, flushed_of}
 use Rattle.write_delay.specs.Delays.{is_of}
-use Rattle.client_tables.specs.declared.ClientFiles.{ClientFiles}
-use Rattle.client_tables.specs.Says.{notes, answers}
-use Rattle.client_tables.specs.Blocks.{state_in, is_cached, with_cache}
+use Rattle.client_file_tables.specs.declared.ClientFiles.{ClientFiles}
+use Rattle.client_file_tables.specs.Says.{notes, answers}
+use Rattle.client_file_tables.specs.Blocks.{state_in, is_cached, with_cache}
 
 -- the mode that a grant gives
 abbrev pub mode_of_grant : Bool → CacheMode

@@ -4,13 +4,13 @@ use Rattle.sprite_ids.specs.declared.BlockNo.{BlockNo}
 use Rattle.sprite_ids.specs.declared.Errno.TheVariants.{TooBig}
 use Rattle.process_machine.specs.declared.Reply.TheVariants.{Error}
 use Rattle.stream_table.specs.declared.Stream.{Stream}
-use Rattle.client_tables.specs.declared.ClientFiles.{ClientFiles}
-use Rattle.client_tables.specs.declared.DataCall.{DataCall}
-use Rattle.client_tables.specs.declared.DataState.TheVariants.{WaitLock}
-use Rattle.client_tables.specs.declared.Extent.{Extent}
-use Rattle.client_tables.specs.Says.{plain_value}
-use Rattle.client_tables.specs.Locks.{gets_lock, locks}
-use Rattle.client_tables.specs.Streams.{stream_at, moves_offset}
+use Rattle.client_file_tables.specs.declared.ClientFiles.{ClientFiles}
+use Rattle.client_file_tables.specs.declared.DataCall.{DataCall}
+use Rattle.client_file_tables.specs.declared.DataState.TheVariants.{WaitLock}
+use Rattle.client_file_tables.specs.declared.Extent.{Extent}
+use Rattle.client_file_tables.specs.Says.{plain_value}
+use Rattle.client_file_tables.specs.Locks.{gets_lock, locks}
+use Rattle.client_file_tables.specs.Streams.{stream_at, moves_offset}
 use Rattle.client_data.specs.declared.plan.Plan.{Plan}
 use Rattle.client_data.specs.declared.plan.Plan.TheVariants.{Seek, Refuse, Ask, Tell, Use}
 use Rattle.client_data.specs.Plans.{plan_of}

@@ -4,11 +4,11 @@ use Rattle.sprite_ids.specs.declared.FileId.{FileId}
 use Rattle.stream_table.specs.declared.Place.{Place}
 use Rattle.stream_table.specs.declared.Place.TheVariants.{Local, Shared}
 use Rattle.stream_table.specs.declared.Stream.{Stream}
-use Rattle.client_tables.specs.declared.ClientFiles.{ClientFiles}
-use Rattle.client_tables.specs.declared.DataCall.{DataCall}
-use Rattle.client_tables.specs.declared.DataKind.{DataKind}
-use Rattle.client_tables.specs.declared.DataKind.TheVariants as kinds
-use Rattle.client_tables.specs.Blocks.{state_in, is_cached}
+use Rattle.client_file_tables.specs.declared.ClientFiles.{ClientFiles}
+use Rattle.client_file_tables.specs.declared.DataCall.{DataCall}
+use Rattle.client_file_tables.specs.declared.DataKind.{DataKind}
+use Rattle.client_file_tables.specs.declared.DataKind.TheVariants as kinds
+use Rattle.client_file_tables.specs.Blocks.{state_in, is_cached}
 use Rattle.client_data.specs.declared.plan.Plan.{Plan}
 use Rattle.client_data.specs.declared.plan.Plan.TheVariants.{Seek, Refuse, Ask, Tell, Use}
 

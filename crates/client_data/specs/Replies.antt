@@ -10,16 +10,16 @@ use Rattle.packet_bodies.specs.declared.ValueReply.{ValueReply}
 use Rattle.stream_table.specs.declared.Place.{Place}
 use Rattle.stream_table.specs.declared.Place.TheVariants.{Local, Shared}
 use Rattle.stream_table.specs.declared.Stream.{Stream}
-use Rattle.client_tables.specs.declared.ClientFiles.{ClientFiles}
-use Rattle.client_tables.specs.declared.DataCall.{DataCall}
-use Rattle.client_tables.specs.declared.DataKind.{DataKind}
-use Rattle.client_tables.specs.declared.DataKind.TheVariants as kinds
-use Rattle.client_tables.specs.declared.DataState.{DataState}
-use Rattle.client_tables.specs.declared.DataState.TheVariants.{Fetching, AtServer}
-use Rattle.client_tables.specs.declared.Pending.TheVariants as operations
-use Rattle.client_tables.specs.Steps.{keeps}
-use Rattle.client_tables.specs.Streams.{stream_at, moves_offset}
-use Rattle.client_tables.specs.Blocks.{fills}
+use Rattle.client_file_tables.specs.declared.ClientFiles.{ClientFiles}
+use Rattle.client_file_tables.specs.declared.DataCall.{DataCall}
+use Rattle.client_file_tables.specs.declared.DataKind.{DataKind}
+use Rattle.client_file_tables.specs.declared.DataKind.TheVariants as kinds
+use Rattle.client_file_tables.specs.declared.DataState.{DataState}
+use Rattle.client_file_tables.specs.declared.DataState.TheVariants.{Fetching, AtServer}
+use Rattle.client_file_tables.specs.declared.Pending.TheVariants as operations
+use Rattle.client_file_tables.specs.Steps.{keeps}
+use Rattle.client_file_tables.specs.Streams.{stream_at, moves_offset}
+use Rattle.client_file_tables.specs.Blocks.{fills}
 use Rattle.client_data.specs.Grants.{takes_grant}
 use Rattle.client_data.specs.Finishes.{ends_there}
 use Rattle.client_data.specs.Looks.{looks}

@@ -7,14 +7,14 @@ use Rattle.packet_bodies.specs.declared.OpRequest.{OpRequest}
 use Rattle.packet_bodies.specs.declared.Request.TheVariants as requests
 use Rattle.unix_calls.specs.declared.SendKind.TheVariants as sendings
 use Rattle.kernel_steps.specs.declared.Sending.{Sending}
-use Rattle.client_tables.specs.declared.ClientFiles.{ClientFiles}
-use Rattle.client_tables.specs.declared.DataCall.{DataCall}
-use Rattle.client_tables.specs.declared.DataKind.{DataKind}
-use Rattle.client_tables.specs.declared.DataKind.TheVariants as kinds
-use Rattle.client_tables.specs.declared.DataState.TheVariants.{AtServer}
-use Rattle.client_tables.specs.Says.{about_of, sends_for, to_one}
-use Rattle.client_tables.specs.Fillers.{leaves_filling}
-use Rattle.client_tables.specs.Blocks.{state_in}
+use Rattle.client_file_tables.specs.declared.ClientFiles.{ClientFiles}
+use Rattle.client_file_tables.specs.declared.DataCall.{DataCall}
+use Rattle.client_file_tables.specs.declared.DataKind.{DataKind}
+use Rattle.client_file_tables.specs.declared.DataKind.TheVariants as kinds
+use Rattle.client_file_tables.specs.declared.DataState.TheVariants.{AtServer}
+use Rattle.client_file_tables.specs.Says.{about_of, sends_for, to_one}
+use Rattle.client_file_tables.specs.Fillers.{leaves_filling}
+use Rattle.client_file_tables.specs.Blocks.{state_in}
 use Rattle.client_data.specs.Finishes.{keeps_data}
 
 -- what is done at the server

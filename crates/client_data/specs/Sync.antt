@@ -4,15 +4,15 @@ use Rattle.sprite_ids.specs.declared.TxNo.{TxNo}
 use Rattle.sprite_ids.specs.declared.FileId.{FileId}
 use Rattle.sprite_ids.specs.declared.BlockNo.{BlockNo}
 use Rattle.block_cache.specs.Blocks.{dirty_at}
-use Rattle.client_tables.specs.declared.ClientFiles.{ClientFiles}
-use Rattle.client_tables.specs.declared.Pending.TheVariants as operations
-use Rattle.client_tables.specs.declared.SyncCall.{SyncCall}
-use Rattle.client_tables.specs.declared.SyncState.{SyncState}
-use Rattle.client_tables.specs.declared.SyncState.TheVariants.{Looking, WaitOther, WaitOwn}
-use Rattle.client_tables.specs.Calls.{sync_call}
-use Rattle.client_tables.specs.Says.{answers_here, about_of, plain_value, expects}
-use Rattle.client_tables.specs.Steps.{keeps}
-use Rattle.client_tables.specs.WriteBacks.{current_write_back}
+use Rattle.client_file_tables.specs.declared.ClientFiles.{ClientFiles}
+use Rattle.client_file_tables.specs.declared.Pending.TheVariants as operations
+use Rattle.client_file_tables.specs.declared.SyncCall.{SyncCall}
+use Rattle.client_file_tables.specs.declared.SyncState.{SyncState}
+use Rattle.client_file_tables.specs.declared.SyncState.TheVariants.{Looking, WaitOther, WaitOwn}
+use Rattle.client_file_tables.specs.Calls.{sync_call}
+use Rattle.client_file_tables.specs.Says.{answers_here, about_of, plain_value, expects}
+use Rattle.client_file_tables.specs.Steps.{keeps}
+use Rattle.client_file_tables.specs.WriteBacks.{current_write_back}
 use Rattle.client_data.specs.WriteBacks.{sends_back}
 
 -- whether the block is dirty

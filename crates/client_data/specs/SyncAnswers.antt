@@ -4,13 +4,13 @@ use Rattle.sprite_ids.specs.declared.TxNo.{TxNo}
 use Rattle.sprite_ids.specs.declared.BlockNo.{BlockNo}
 use Rattle.packet_bodies.specs.declared.ReplyBody.{ReplyBody}
 use Rattle.packet_bodies.specs.declared.ReplyBody.TheVariants.{Again}
-use Rattle.client_tables.specs.declared.ClientFiles.{ClientFiles}
-use Rattle.client_tables.specs.declared.Pending.{Pending}
-use Rattle.client_tables.specs.declared.Pending.TheVariants as operations
-use Rattle.client_tables.specs.declared.SyncCall.{SyncCall}
-use Rattle.client_tables.specs.declared.SyncState.TheVariants.{Looking}
-use Rattle.client_tables.specs.Rows.{first_call, less_call, first_of, less_of}
-use Rattle.client_tables.specs.Steps.{keeps, starts}
+use Rattle.client_file_tables.specs.declared.ClientFiles.{ClientFiles}
+use Rattle.client_file_tables.specs.declared.Pending.{Pending}
+use Rattle.client_file_tables.specs.declared.Pending.TheVariants as operations
+use Rattle.client_file_tables.specs.declared.SyncCall.{SyncCall}
+use Rattle.client_file_tables.specs.declared.SyncState.TheVariants.{Looking}
+use Rattle.client_file_tables.specs.Rows.{first_call, less_call, first_of, less_of}
+use Rattle.client_file_tables.specs.Steps.{keeps, starts}
 
 -- all blocks but the first
 abbrev pub rest_of : List BlockNo → List BlockNo

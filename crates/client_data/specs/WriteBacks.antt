@@ -16,13 +16,13 @@ use Rattle.block_cache.specs.Ranges.{cut}
 use Rattle.block_cache.specs.Blocks.{bytes_at, dirty_at}
 use Rattle.block_cache.specs.Held.{is_written_back, after_write_back}
 use Rattle.write_delay.specs.Delays.{listed}
-use Rattle.client_tables.specs.declared.ClientFiles.{ClientFiles}
-use Rattle.client_tables.specs.declared.WriteBackOut.{WriteBackOut}
-use Rattle.client_tables.specs.Rows.{first_call, less_call}
-use Rattle.client_tables.specs.Says.{notes, sends, to_one}
-use Rattle.client_tables.specs.Steps.{wakes_all}
-use Rattle.client_tables.specs.Blocks.{state_in, with_cache}
-use Rattle.client_tables.specs.WriteBacks.{lists_free}
+use Rattle.client_file_tables.specs.declared.ClientFiles.{ClientFiles}
+use Rattle.client_file_tables.specs.declared.WriteBackOut.{WriteBackOut}
+use Rattle.client_file_tables.specs.Rows.{first_call, less_call}
+use Rattle.client_file_tables.specs.Says.{notes, sends, to_one}
+use Rattle.client_file_tables.specs.Steps.{wakes_all}
+use Rattle.client_file_tables.specs.Blocks.{state_in, with_cache}
+use Rattle.client_file_tables.specs.WriteBacks.{lists_free}
 use Rattle.client_data.specs.Grants.{takes_grant, cleans_one}
 use Rattle.client_data.specs.SyncAnswers.{answers_sync}
 

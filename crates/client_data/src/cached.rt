@@ -4,7 +4,7 @@ ghost use Rattle.client_data.specs.Looks.{uses_cached};
 
 use crate::filling::fill_first;
 use crate::finish::end_here;
-use client_tables::{ClientFiles, DataCall, DataKind, Extent, plain};
+use client_file_tables::{ClientFiles, DataCall, DataKind, Extent, plain};
 use process_machine::Reply;
 use sprite_ids::{BlockNo, NoMemory, Pid};
 use std::alloc::Global;

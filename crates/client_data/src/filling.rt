@@ -4,7 +4,7 @@ ghost use Rattle.client_data.specs.Filling.{fills_first, fills_own, fills_next, 
 use crate::cached::{do_cached, missing_of};
 use crate::finish::keep_data;
 use crate::write_backs::send_write_back;
-use client_tables::{ClientFiles, DataCall, DataState, Extent, about, to_one};
+use client_file_tables::{ClientFiles, DataCall, DataState, Extent, about, to_one};
 use packet_bodies::{FetchRequest, Request};
 use sprite_ids::{BlockNo, FileId, NoMemory, Pid, Tries, TxNo};
 use std::alloc::Global;

@@ -1,7 +1,7 @@
 ghost use Rattle.std.specs.Prelude.{◌≡◌, OnOk};
 ghost use Rattle.client_data.specs.Finishes.{keeps_data, finishes, ends_here, ends_there};
 
-use client_tables::{ClientFiles, DataCall, DataState, Pending, about};
+use client_file_tables::{ClientFiles, DataCall, DataState, Pending, about};
 use process_machine::Reply;
 use sprite_ids::{NoMemory, Pid, StreamNo};
 use std::alloc::Global;

@@ -3,7 +3,7 @@ ghost use Rattle.block_cache.specs.Files.{keeps};
 ghost use Rattle.client_data.specs.Grants.{takes_grant, drops_one, drops_all, cleans_one, cleans_all, mode_of_grant, cause_of_grant, settles_called, called_back};
 
 use block_cache::FileState;
-use client_tables::ClientFiles;
+use client_file_tables::ClientFiles;
 use packet_bodies::{CallbackRequest, ReplyBody};
 use sprite_ids::{BlockNo, CacheMode, CallKind, FileId, Grant, NoMemory, TxNo};
 use unix_calls::{DropCause, Event};

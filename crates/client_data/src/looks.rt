@@ -1,13 +1,13 @@
 ghost use Rattle.std.specs.Prelude.{◌≡◌, IfOk, OnOk};
-ghost use Rattle.client_tables.specs.Locks.{gets_lock, locks};
-ghost use Rattle.client_tables.specs.Streams.{stream_at};
+ghost use Rattle.client_file_tables.specs.Locks.{gets_lock, locks};
+ghost use Rattle.client_file_tables.specs.Streams.{stream_at};
 ghost use Rattle.client_data.specs.Looks.{looks, looks_locked, looks_at, does, seeks_here};
 
 use crate::cached::use_cached;
 use crate::finish::{end_here, keep_data};
 use crate::plan::{Plan, plan_of};
 use crate::server_ops::ask_server;
-use client_tables::{ClientFiles, DataCall, DataState, plain};
+use client_file_tables::{ClientFiles, DataCall, DataState, plain};
 use process_machine::Reply;
 use sprite_ids::{Errno, NoMemory, Pid};
 use std::alloc::Global;

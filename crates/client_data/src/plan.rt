@@ -1,7 +1,7 @@
 ghost use Rattle.std.specs.Prelude.{◌≡◌, length};
 ghost use Rattle.client_data.specs.Plans.{plan_of, plan_here, plan_size, plan_read, plan_write, plan_append};
 
-use client_tables::{ClientFiles, DataCall, DataKind, Extent};
+use client_file_tables::{ClientFiles, DataCall, DataKind, Extent};
 use sprite_ids::FileId;
 use stream_table::{Place, Stream};
 

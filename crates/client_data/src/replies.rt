@@ -4,7 +4,7 @@ ghost use Rattle.client_data.specs.Replies.{data_answered, answered_in, fetched,
 use crate::finish::end_there;
 use crate::grants::take_grant;
 use crate::looks::look;
-use client_tables::{ClientFiles, DataCall, DataKind, DataState, Pending};
+use client_file_tables::{ClientFiles, DataCall, DataKind, DataState, Pending};
 use packet_bodies::{ReplyBody, ValueReply};
 use process_machine::Reply;
 use sprite_ids::{BlockNo, Copying, NoMemory, Pid, StreamNo};

@@ -2,7 +2,7 @@ ghost use Rattle.std.specs.Prelude.{◌≡◌, IfOk, OnOk};
 ghost use Rattle.client_data.specs.ServerOps.{asks_server, op_request, op_at, offset_at, length_of, bytes_of, sends_op};
 
 use crate::finish::keep_data;
-use client_tables::{ClientFiles, DataCall, DataKind, DataState, about, to_one};
+use client_file_tables::{ClientFiles, DataCall, DataKind, DataState, about, to_one};
 use packet_bodies::{FileOp, OpRequest, Request};
 use sprite_ids::{Bytes, Copying, NoMemory, Pid, Tries, TxNo};
 use std::alloc::Global;

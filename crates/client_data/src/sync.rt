@@ -3,7 +3,7 @@ ghost use Rattle.client_data.specs.SyncAnswers.{answers_sync, sync_answered, go_
 ghost use Rattle.client_data.specs.Sync.{syncs, syncs_on, syncs_block, syncs_own, syncs_by, ends_sync, keeps_sync, first_todo, dirty_of, is_dirty};
 
 use crate::write_backs::send_write_back;
-use client_tables::{ClientFiles, Pending, SyncCall, SyncState, about, plain};
+use client_file_tables::{ClientFiles, Pending, SyncCall, SyncState, about, plain};
 use packet_bodies::ReplyBody;
 use sprite_ids::{BlockNo, FileId, Items, NoMemory, Pid, TxNo};
 use std::alloc::Global;

@@ -3,7 +3,7 @@ ghost use Rattle.client_data.specs.WriteBacks.{sends_back, due_goes, written_bac
 
 use crate::grants::take_grant;
 use crate::sync::answer_sync;
-use client_tables::{ClientFiles, WriteBackOut, to_one};
+use client_file_tables::{ClientFiles, WriteBackOut, to_one};
 use packet_bodies::{ReplyBody, Request, WriteBackRequest};
 use sprite_ids::{BlockNo, Bytes, FileId, NoMemory, Tries, TxNo};
 use std::alloc::Global;

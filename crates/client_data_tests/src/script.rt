@@ -2,7 +2,9 @@ use crate::told::{Told, is_told};
 use crate::world::{boot, file, go_on, open_all, pid, replied};
 use block_cache::Cache;
 use client_data::{callback, take_grant, write_back_due};
-use client_tables::{ClientFiles, DataCall, DataKind, DataState, Pending, SyncCall, SyncState};
+use client_file_tables::{
+    ClientFiles, DataCall, DataKind, DataState, Pending, SyncCall, SyncState,
+};
 use packet_bodies::{CallbackRequest, Descriptor, ReplyBody, ValueReply};
 use sprite_ids::{BlockNo, Bytes, CallKind, Errno, FileId, Grant, Items, NoMemory, StreamNo, TxNo};
 use std::alloc::Global;

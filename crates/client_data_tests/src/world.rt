@@ -1,5 +1,5 @@
 use client_data::{data_replied, look, run_sync, write_back_answered};
-use client_tables::{ClientFiles, Pending};
+use client_file_tables::{ClientFiles, Pending};
 use link_plan::Plan;
 use packet_bodies::ReplyBody;
 use sprite_ids::{FileId, Items, Kernel, Mode, NoMemory, Object, Pid, StreamNo, TxNo};

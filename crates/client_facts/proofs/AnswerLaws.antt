@@ -22,27 +22,27 @@ use Rattle.stream_table.specs.declared.Stream.{Stream}
 use Rattle.stream_table.specs.Entries.{is_placed}
 use Rattle.write_delay.specs.Delays.{listed}
 use Rattle.kernel_steps.specs.Rows.{is_under}
-use Rattle.client_tables.specs.declared.client_files.ClientFiles.{ClientFiles}
-use Rattle.client_tables.specs.declared.moves.CloseWork.{CloseWork}
-use Rattle.client_tables.specs.declared.moves.MoveWork.{MoveWork}
-use Rattle.client_tables.specs.declared.names.NameKind.{NameKind}
-use Rattle.client_tables.specs.declared.names.NameKind.TheVariants as kinds
-use Rattle.client_tables.specs.declared.names.NameWork.{NameWork}
-use Rattle.client_tables.specs.declared.pending.Pending.{Pending}
-use Rattle.client_tables.specs.declared.pending.Pending.TheVariants as operations
-use Rattle.client_tables.specs.declared.states.DataState.{DataState}
-use Rattle.client_tables.specs.declared.states.DataState.TheVariants as states
-use Rattle.client_tables.specs.declared.states.NameState.{NameState}
-use Rattle.client_tables.specs.declared.states.NameState.TheVariants as names
-use Rattle.client_tables.specs.declared.works.DataCall.{DataCall}
-use Rattle.client_tables.specs.declared.works.DataKind.{DataKind}
-use Rattle.client_tables.specs.declared.works.DataKind.TheVariants as works
-use Rattle.client_tables.specs.declared.works.WriteBackOut.{WriteBackOut}
-use Rattle.client_tables.specs.Locks.{unlocks}
-use Rattle.client_tables.specs.Rows.{first_call, first_of, less_call, less_of, same_call, same_pid}
-use Rattle.client_tables.specs.Says.{replies}
-use Rattle.client_tables.specs.Steps.{wakes_all}
-use Rattle.client_tables.specs.Streams.{added_fd, adds_stream, moves_offset, sets_cwd, stream_at}
+use Rattle.client_file_tables.specs.declared.client_files.ClientFiles.{ClientFiles}
+use Rattle.client_file_tables.specs.declared.moves.CloseWork.{CloseWork}
+use Rattle.client_file_tables.specs.declared.moves.MoveWork.{MoveWork}
+use Rattle.client_file_tables.specs.declared.names.NameKind.{NameKind}
+use Rattle.client_file_tables.specs.declared.names.NameKind.TheVariants as kinds
+use Rattle.client_file_tables.specs.declared.names.NameWork.{NameWork}
+use Rattle.client_file_tables.specs.declared.pending.Pending.{Pending}
+use Rattle.client_file_tables.specs.declared.pending.Pending.TheVariants as operations
+use Rattle.client_file_tables.specs.declared.states.DataState.{DataState}
+use Rattle.client_file_tables.specs.declared.states.DataState.TheVariants as states
+use Rattle.client_file_tables.specs.declared.states.NameState.{NameState}
+use Rattle.client_file_tables.specs.declared.states.NameState.TheVariants as names
+use Rattle.client_file_tables.specs.declared.works.DataCall.{DataCall}
+use Rattle.client_file_tables.specs.declared.works.DataKind.{DataKind}
+use Rattle.client_file_tables.specs.declared.works.DataKind.TheVariants as works
+use Rattle.client_file_tables.specs.declared.works.WriteBackOut.{WriteBackOut}
+use Rattle.client_file_tables.specs.Locks.{unlocks}
+use Rattle.client_file_tables.specs.Rows.{first_call, first_of, less_call, less_of, same_call, same_pid}
+use Rattle.client_file_tables.specs.Says.{replies}
+use Rattle.client_file_tables.specs.Steps.{wakes_all}
+use Rattle.client_file_tables.specs.Streams.{added_fd, adds_stream, moves_offset, sets_cwd, stream_at}
 use Rattle.client_data.specs.Finishes.{ends_there}
 use Rattle.client_data.specs.Grants.{takes_grant}
 use Rattle.client_data.specs.Looks.{looks}

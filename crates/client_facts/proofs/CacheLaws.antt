@@ -4,7 +4,7 @@ use Rattle.std.specs.List.{AllByRecursion, list_all}
 use Rattle.block_cache.specs.declared.BlockKey.{BlockKey}
 use Rattle.block_cache.specs.declared.Block.{Block}
 use Rattle.block_cache.specs.Held.{IsKept, IsSound}
-use Rattle.client_tables.specs.declared.client_files.ClientFiles.{ClientFiles}
+use Rattle.client_file_tables.specs.declared.client_files.ClientFiles.{ClientFiles}
 use Rattle.client_facts.specs.FileFacts.{HeldAreCached, is_of_cached_file}
 use Rattle.client_facts.proofs.PlaceLaws.{and_true}
 

@@ -24,17 +24,17 @@ use Rattle.stream_table.proofs.EntryLaws.{one_number}
 use Rattle.stream_table.proofs.FoundLaws.{entry, find_put, find_without}
 use Rattle.unix_calls.specs.declared.About.{About}
 use Rattle.unix_calls.specs.declared.Event.TheVariants as events
-use Rattle.client_tables.specs.declared.client_files.ClientFiles.{ClientFiles}
-use Rattle.client_tables.specs.declared.extent.Extent.{Extent}
-use Rattle.client_tables.specs.declared.works.DataKind.{DataKind}
-use Rattle.client_tables.specs.declared.works.DataKind.TheVariants as kinds
-use Rattle.client_tables.specs.Blocks as blocks
-use Rattle.client_tables.specs.Blocks.{is_cached, with_cache}
-use Rattle.client_tables.specs.Extents.{is_within}
-use Rattle.client_tables.specs.Locks.{takes_lock}
-use Rattle.client_tables.specs.Says.{notes}
-use Rattle.client_tables.specs.Streams.{moves_offset, stream_at}
-use Rattle.client_tables.specs.WriteBacks as backs
+use Rattle.client_file_tables.specs.declared.client_files.ClientFiles.{ClientFiles}
+use Rattle.client_file_tables.specs.declared.extent.Extent.{Extent}
+use Rattle.client_file_tables.specs.declared.works.DataKind.{DataKind}
+use Rattle.client_file_tables.specs.declared.works.DataKind.TheVariants as kinds
+use Rattle.client_file_tables.specs.Blocks as blocks
+use Rattle.client_file_tables.specs.Blocks.{is_cached, with_cache}
+use Rattle.client_file_tables.specs.Extents.{is_within}
+use Rattle.client_file_tables.specs.Locks.{takes_lock}
+use Rattle.client_file_tables.specs.Says.{notes}
+use Rattle.client_file_tables.specs.Streams.{moves_offset, stream_at}
+use Rattle.client_file_tables.specs.WriteBacks as backs
 use Rattle.client_data.specs.Cached.{writes_by}
 use Rattle.client_data.specs.Filling as filling
 use Rattle.client_data.specs.WriteBacks.{sends_back}

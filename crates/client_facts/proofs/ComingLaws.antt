@@ -18,7 +18,7 @@ use Rattle.process_machine.specs.Machine.{Machine}
 use Rattle.unix_calls.specs.declared.Entry.{Entry}
 use Rattle.unix_calls.specs.declared.Event.TheVariants.{Enter}
 use Rattle.kernel_steps.specs.Rows.{is_row, is_under}
-use Rattle.client_tables.specs.Streams.{cwd_of}
+use Rattle.client_file_tables.specs.Streams.{cwd_of}
 use Rattle.client_homes.specs.declared.client.ClientProcs.{ClientProcs}
 use Rattle.client_homes.specs.declared.client.Leaving.{Leaving}
 use Rattle.client_homes.specs.declared.process.Proc.{Proc}

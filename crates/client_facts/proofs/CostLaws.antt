@@ -12,12 +12,12 @@ use Rattle.kernel_steps.specs.Rows.{is_under}
 use Rattle.block_cache.specs.Files.{Files, known}
 use Rattle.stream_table.specs.Entries.{Entry, stream_of}
 use Rattle.stream_table.proofs.EntryLaws.{number_turned, one_number}
-use Rattle.client_tables.specs.declared.client_files.ClientFiles.{ClientFiles}
-use Rattle.client_tables.specs.declared.pending.Pending.{Pending}
-use Rattle.client_tables.specs.declared.pending.Pending.TheVariants as operations
-use Rattle.client_tables.specs.Rows.{is_pid, same_pid, same_stream, first_of, less_of}
-use Rattle.client_tables.specs.Fillers.{is_first}
-use Rattle.client_tables.specs.Steps.{keeps, wakes}
+use Rattle.client_file_tables.specs.declared.client_files.ClientFiles.{ClientFiles}
+use Rattle.client_file_tables.specs.declared.pending.Pending.{Pending}
+use Rattle.client_file_tables.specs.declared.pending.Pending.TheVariants as operations
+use Rattle.client_file_tables.specs.Rows.{is_pid, same_pid, same_stream, first_of, less_of}
+use Rattle.client_file_tables.specs.Fillers.{is_first}
+use Rattle.client_file_tables.specs.Steps.{keeps, wakes}
 use Rattle.client_facts.specs.FileFacts.{OneOperationEach, QueuesAreOnce, TurnsAreOnce, same_process, same_wait}
 use Rattle.client_facts.specs.GoingOn.{few_fds}
 use Rattle.client_facts.proofs.CalmLaws.{Calm, asks_at, asks_by}

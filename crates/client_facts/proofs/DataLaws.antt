@@ -13,22 +13,22 @@ use Rattle.stream_table.specs.declared.Place.{Place}
 use Rattle.stream_table.specs.declared.Place.TheVariants.{Local, Shared}
 use Rattle.stream_table.specs.declared.Stream.{Stream}
 use Rattle.stream_table.specs.Entries.{unlocked}
-use Rattle.client_tables.specs.declared.client_files.ClientFiles.{ClientFiles}
-use Rattle.client_tables.specs.declared.extent.Extent.{Extent}
-use Rattle.client_tables.specs.declared.pending.Pending.TheVariants as operations
-use Rattle.client_tables.specs.declared.states.DataState.{DataState}
-use Rattle.client_tables.specs.declared.states.DataState.TheVariants as states
-use Rattle.client_tables.specs.declared.works.DataCall.{DataCall}
-use Rattle.client_tables.specs.declared.works.DataKind.{DataKind}
-use Rattle.client_tables.specs.declared.works.DataKind.TheVariants as kinds
-use Rattle.client_tables.specs.Blocks.{is_cached, missing_in, reads}
-use Rattle.client_tables.specs.Fillers.{begins_filling, drops_filler, is_filling, leaves_filling, wakes_first, wakes_filler}
-use Rattle.client_tables.specs.Locks.{frees, gets_lock, hands_first, locks, takes_lock, unlocks, waits_for_lock}
-use Rattle.client_tables.specs.Rows.{first_stream, is_pid, less_stream, same_pid, same_stream}
-use Rattle.client_tables.specs.Calls.{data_call}
-use Rattle.client_tables.specs.Says.{about_of, answers_here}
-use Rattle.client_tables.specs.Streams.{stream_at}
-use Rattle.client_tables.specs.WriteBacks.{current_write_back, dirties_all}
+use Rattle.client_file_tables.specs.declared.client_files.ClientFiles.{ClientFiles}
+use Rattle.client_file_tables.specs.declared.extent.Extent.{Extent}
+use Rattle.client_file_tables.specs.declared.pending.Pending.TheVariants as operations
+use Rattle.client_file_tables.specs.declared.states.DataState.{DataState}
+use Rattle.client_file_tables.specs.declared.states.DataState.TheVariants as states
+use Rattle.client_file_tables.specs.declared.works.DataCall.{DataCall}
+use Rattle.client_file_tables.specs.declared.works.DataKind.{DataKind}
+use Rattle.client_file_tables.specs.declared.works.DataKind.TheVariants as kinds
+use Rattle.client_file_tables.specs.Blocks.{is_cached, missing_in, reads}
+use Rattle.client_file_tables.specs.Fillers.{begins_filling, drops_filler, is_filling, leaves_filling, wakes_first, wakes_filler}
+use Rattle.client_file_tables.specs.Locks.{frees, gets_lock, hands_first, locks, takes_lock, unlocks, waits_for_lock}
+use Rattle.client_file_tables.specs.Rows.{first_stream, is_pid, less_stream, same_pid, same_stream}
+use Rattle.client_file_tables.specs.Calls.{data_call}
+use Rattle.client_file_tables.specs.Says.{about_of, answers_here}
+use Rattle.client_file_tables.specs.Streams.{stream_at}
+use Rattle.client_file_tables.specs.WriteBacks.{current_write_back, dirties_all}
 use Rattle.client_data.specs.declared.plan.Plan.{Plan}
 use Rattle.client_data.specs.declared.plan.Plan.TheVariants as plans
 use Rattle.client_data.specs.Plans.{plan_append, plan_at, plan_here, plan_of, plan_write}

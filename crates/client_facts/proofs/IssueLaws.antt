@@ -15,9 +15,9 @@ use Rattle.stream_table.specs.Owners.{descriptor}
 use Rattle.stream_table.specs.Streams.{dup_answer, dupped, free}
 use Rattle.unix_calls.specs.declared.About.{About}
 use Rattle.unix_calls.specs.Opening.{reads, writes}
-use Rattle.client_tables.specs.declared.client_files.ClientFiles.{ClientFiles}
-use Rattle.client_tables.specs.Streams.{stream_at}
-use Rattle.client_tables.specs.declared.names.NameWork.{NameWork}
+use Rattle.client_file_tables.specs.declared.client_files.ClientFiles.{ClientFiles}
+use Rattle.client_file_tables.specs.Streams.{stream_at}
+use Rattle.client_file_tables.specs.declared.names.NameWork.{NameWork}
 use Rattle.client_names.specs.Issues as names
 use Rattle.client_names.specs.Lookups.{looks_up}
 use Rattle.client_names.specs.Making.{counts_stream, free_descriptor}

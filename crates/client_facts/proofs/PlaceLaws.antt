@@ -27,8 +27,8 @@ use Rattle.unix_calls.specs.declared.Entry.{Entry}
 use Rattle.unix_calls.specs.declared.Event.TheVariants.{Freeze}
 use Rattle.packet_bodies.specs.declared.Request.TheVariants as requests
 use Rattle.kernel_steps.specs.Rows.{first_under, is_under}
-use Rattle.client_tables.specs.declared.moves.Report.{Report}
-use Rattle.client_tables.specs.declared.moves.Report.TheVariants as reports
+use Rattle.client_file_tables.specs.declared.moves.Report.{Report}
+use Rattle.client_file_tables.specs.declared.moves.Report.TheVariants as reports
 use Rattle.client_homes.specs.declared.client.ClientProcs.{ClientProcs}
 use Rattle.client_homes.specs.declared.client.Leaving.{Leaving}
 use Rattle.client_homes.specs.declared.client.Parked.{Parked}

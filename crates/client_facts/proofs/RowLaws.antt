@@ -5,8 +5,8 @@ use Rattle.std.specs.List.{find, list_all}
 use Rattle.sprite_ids.specs.Lists.{less}
 use Rattle.sprite_ids.proofs.ListLaws.{some_is}
 use Rattle.kernel_steps.specs.Rows.{is_under}
-use Rattle.client_tables.specs.declared.pending.Pending.{Pending}
-use Rattle.client_tables.specs.Rows.{first_of, same_pid}
+use Rattle.client_file_tables.specs.declared.pending.Pending.{Pending}
+use Rattle.client_file_tables.specs.Rows.{first_of, same_pid}
 use Rattle.client_facts.specs.GoingOn.{few_fds, has_few_fds}
 use Rattle.client_facts.proofs.CostLaws.{few_of, row_of}
 

@@ -17,15 +17,15 @@ use Rattle.block_cache.specs.Held.{after_grant, is_newer}
 use Rattle.stream_table.specs.declared.Place.{Place}
 use Rattle.stream_table.specs.Entries.{may_be_at}
 use Rattle.kernel_steps.specs.Rows.{is_under}
-use Rattle.client_tables.specs.declared.client_files.ClientFiles.{ClientFiles}
-use Rattle.client_tables.specs.declared.moves.ClosingOf.{ClosingOf}
-use Rattle.client_tables.specs.declared.pending.Pending.{Pending}
-use Rattle.client_tables.specs.declared.pending.Pending.TheVariants as operations
-use Rattle.client_tables.specs.Blocks.{state_in, with_cache}
-use Rattle.client_tables.specs.Rows.{is_pid, less_of, same_pid}
-use Rattle.client_tables.specs.Says.{notes}
-use Rattle.client_tables.specs.Steps.{keeps, starts}
-use Rattle.client_tables.specs.Streams.{moves_place, stream_at}
+use Rattle.client_file_tables.specs.declared.client_files.ClientFiles.{ClientFiles}
+use Rattle.client_file_tables.specs.declared.moves.ClosingOf.{ClosingOf}
+use Rattle.client_file_tables.specs.declared.pending.Pending.{Pending}
+use Rattle.client_file_tables.specs.declared.pending.Pending.TheVariants as operations
+use Rattle.client_file_tables.specs.Blocks.{state_in, with_cache}
+use Rattle.client_file_tables.specs.Rows.{is_pid, less_of, same_pid}
+use Rattle.client_file_tables.specs.Says.{notes}
+use Rattle.client_file_tables.specs.Steps.{keeps, starts}
+use Rattle.client_file_tables.specs.Streams.{moves_place, stream_at}
 use Rattle.client_data.specs.Grants as grants
 use Rattle.client_streams.specs.Closing.{closes_rest, closing}
 use Rattle.client_facts.specs.FileFacts.{QueuesAreOnce, TurnsAreOnce, same_process, same_wait}

@@ -5,9 +5,9 @@ use Rattle.packet_bodies.specs.declared.Request.{Request}
 use Rattle.packet_bodies.specs.declared.Request.TheVariants as requests
 use Rattle.kernel_steps.specs.declared.Input.{Input}
 use Rattle.kernel_steps.specs.declared.Input.TheVariants as inputs
-use Rattle.client_tables.specs.declared.client_files.ClientFiles.{ClientFiles}
-use Rattle.client_tables.specs.Says.{about_of}
-use Rattle.client_tables.specs.Steps.{begins, said}
+use Rattle.client_file_tables.specs.declared.client_files.ClientFiles.{ClientFiles}
+use Rattle.client_file_tables.specs.Says.{about_of}
+use Rattle.client_file_tables.specs.Steps.{begins, said}
 use Rattle.client_files.specs.FileSteps.{files_step, takes, takes_request}
 use Rattle.client_files.specs.Turns.{goes_on}
 use Rattle.client_facts.specs.GoingOn.{GoesOn, MayCome, Rests}

@@ -15,24 +15,24 @@ use Rattle.stream_table.specs.declared.Stream.{Stream}
 use Rattle.stream_table.specs.Owners.{descriptor}
 use Rattle.stream_table.specs.Streams.{closed_stream, is_last}
 use Rattle.unix_calls.specs.declared.SendKind.TheVariants.{Other}
-use Rattle.client_tables.specs.declared.client_files.ClientFiles.{ClientFiles}
-use Rattle.client_tables.specs.declared.moves.ClosingOf.{ClosingOf}
-use Rattle.client_tables.specs.declared.moves.ClosingOf.TheVariants as closings
-use Rattle.client_tables.specs.declared.moves.CloseWork.{CloseWork}
-use Rattle.client_tables.specs.declared.moves.MoveWork.{MoveWork}
-use Rattle.client_tables.specs.declared.pending.Pending.{Pending}
-use Rattle.client_tables.specs.declared.pending.Pending.TheVariants as operations
-use Rattle.client_tables.specs.declared.states.CloseState.{CloseState}
-use Rattle.client_tables.specs.declared.states.CloseState.TheVariants as closes
-use Rattle.client_tables.specs.declared.states.MoveState.{MoveState}
-use Rattle.client_tables.specs.declared.states.MoveState.TheVariants as moves
-use Rattle.client_tables.specs.declared.works.SyncCall.{SyncCall}
-use Rattle.client_tables.specs.Locks.{gets_lock, locks, unlocks}
-use Rattle.client_tables.specs.Rows.{same_stream}
-use Rattle.client_tables.specs.Says.{about_of, expects, sends_for}
-use Rattle.client_tables.specs.Steps.{keeps}
-use Rattle.client_tables.specs.Streams.{stream_at}
-use Rattle.client_tables.specs.WriteBacks.{current_write_back}
+use Rattle.client_file_tables.specs.declared.client_files.ClientFiles.{ClientFiles}
+use Rattle.client_file_tables.specs.declared.moves.ClosingOf.{ClosingOf}
+use Rattle.client_file_tables.specs.declared.moves.ClosingOf.TheVariants as closings
+use Rattle.client_file_tables.specs.declared.moves.CloseWork.{CloseWork}
+use Rattle.client_file_tables.specs.declared.moves.MoveWork.{MoveWork}
+use Rattle.client_file_tables.specs.declared.pending.Pending.{Pending}
+use Rattle.client_file_tables.specs.declared.pending.Pending.TheVariants as operations
+use Rattle.client_file_tables.specs.declared.states.CloseState.{CloseState}
+use Rattle.client_file_tables.specs.declared.states.CloseState.TheVariants as closes
+use Rattle.client_file_tables.specs.declared.states.MoveState.{MoveState}
+use Rattle.client_file_tables.specs.declared.states.MoveState.TheVariants as moves
+use Rattle.client_file_tables.specs.declared.works.SyncCall.{SyncCall}
+use Rattle.client_file_tables.specs.Locks.{gets_lock, locks, unlocks}
+use Rattle.client_file_tables.specs.Rows.{same_stream}
+use Rattle.client_file_tables.specs.Says.{about_of, expects, sends_for}
+use Rattle.client_file_tables.specs.Steps.{keeps}
+use Rattle.client_file_tables.specs.Streams.{stream_at}
+use Rattle.client_file_tables.specs.WriteBacks.{current_write_back}
 use Rattle.client_data.specs.Sync as syncs
 use Rattle.client_data.specs.WriteBacks.{sends_back}
 use Rattle.client_streams.specs.Closing as closing

@@ -2,11 +2,11 @@
 use Rattle.std.proofs.Common.{arith, ◌≡◌, ◌⊎◌, inl, inr, ℕ, zero, suc, ◌+◌, ◌*◌, ◌≤◌, Bool, true, false, cond, List, [], ◌∷◌, length, Option, Some, None, refl, sym, ap, ◌∙◌, subst}
 use Rattle.std.proofs.lemmas.Bool.{and_parts, leb-true}
 use Rattle.std.specs.List.{list_all}
-use Rattle.client_tables.specs.declared.client_files.ClientFiles.{ClientFiles}
-use Rattle.client_tables.specs.declared.pending.Pending.{Pending}
-use Rattle.client_tables.specs.declared.pending.Pending.TheVariants as operations
+use Rattle.client_file_tables.specs.declared.client_files.ClientFiles.{ClientFiles}
+use Rattle.client_file_tables.specs.declared.pending.Pending.{Pending}
+use Rattle.client_file_tables.specs.declared.pending.Pending.TheVariants as operations
 use Rattle.kernel_steps.specs.Rows.{is_under}
-use Rattle.client_tables.specs.Rows.{first_of, less_of, same_pid}
+use Rattle.client_file_tables.specs.Rows.{first_of, less_of, same_pid}
 use Rattle.client_files.specs.Turns.{goes_on, runs_by, turned_by, turns, turns_for}
 use Rattle.client_facts.specs.FileFacts.{OneOperationEach, QueuesAreOnce, TurnsAreOnce}
 use Rattle.client_facts.specs.GoingOn.{ClosesAreShort, GoesOn, MayGoOn, few_fds, has_few_fds}

@@ -1,7 +1,7 @@
 -- The facts when the cluster begins.
 use Rattle.std.specs.Prelude.{ℕ}
 use Rattle.unix_calls.specs.declared.Description.{Description}
-use Rattle.client_tables.specs.Boot as tables
+use Rattle.client_file_tables.specs.Boot as tables
 use Rattle.client_procs.specs.Boot.{boots}
 use Rattle.client_facts.specs.FileFacts.{KeepsFileFacts}
 use Rattle.client_facts.specs.ProcFacts.{KeepsProcFacts}

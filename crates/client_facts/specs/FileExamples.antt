@@ -15,14 +15,14 @@ use Rattle.stream_table.specs.declared.Stream.{Stream}
 use Rattle.stream_table.specs.Entries.{Entry}
 use Rattle.stream_table.specs.Owners.{Owner, nothing}
 use Rattle.write_delay.specs.declared.DelayedBlock.{DelayedBlock}
-use Rattle.client_tables.specs.declared.client_files.ClientFiles.{ClientFiles}
-use Rattle.client_tables.specs.declared.pending.Pending.{Pending}
-use Rattle.client_tables.specs.declared.pending.Pending.TheVariants as operations
-use Rattle.client_tables.specs.declared.states.DataState.{DataState}
-use Rattle.client_tables.specs.declared.states.DataState.TheVariants as states
-use Rattle.client_tables.specs.declared.states.SyncState.TheVariants as syncs
-use Rattle.client_tables.specs.declared.works.DataKind.TheVariants.{Read}
-use Rattle.client_tables.specs.declared.works.WriteBackOut.{WriteBackOut}
+use Rattle.client_file_tables.specs.declared.client_files.ClientFiles.{ClientFiles}
+use Rattle.client_file_tables.specs.declared.pending.Pending.{Pending}
+use Rattle.client_file_tables.specs.declared.pending.Pending.TheVariants as operations
+use Rattle.client_file_tables.specs.declared.states.DataState.{DataState}
+use Rattle.client_file_tables.specs.declared.states.DataState.TheVariants as states
+use Rattle.client_file_tables.specs.declared.states.SyncState.TheVariants as syncs
+use Rattle.client_file_tables.specs.declared.works.DataKind.TheVariants.{Read}
+use Rattle.client_file_tables.specs.declared.works.WriteBackOut.{WriteBackOut}
 use Rattle.client_facts.specs.FileFacts as facts
 
 abbrev pub the_file : FileId

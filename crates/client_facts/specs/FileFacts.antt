@@ -17,23 +17,23 @@ use Rattle.stream_table.specs.Entries.{Entry, has_lock, holder_of}
 use Rattle.stream_table.specs.Owners.{descriptor}
 use Rattle.write_delay.specs.declared.DelayedBlock.{DelayedBlock}
 use Rattle.write_delay.specs.Delays.{listed}
-use Rattle.client_tables.specs.declared.client_files.ClientFiles.{ClientFiles}
-use Rattle.client_tables.specs.declared.pending.Pending.{Pending}
-use Rattle.client_tables.specs.declared.pending.Pending.TheVariants as operations
-use Rattle.client_tables.specs.declared.states.NameState.{NameState}
-use Rattle.client_tables.specs.declared.states.NameState.TheVariants as names
-use Rattle.client_tables.specs.declared.states.DataState.{DataState}
-use Rattle.client_tables.specs.declared.states.DataState.TheVariants as states
-use Rattle.client_tables.specs.declared.states.SyncState.{SyncState}
-use Rattle.client_tables.specs.declared.states.SyncState.TheVariants as syncs
-use Rattle.client_tables.specs.declared.states.CloseState.{CloseState}
-use Rattle.client_tables.specs.declared.states.CloseState.TheVariants as closes
-use Rattle.client_tables.specs.declared.states.MoveState.{MoveState}
-use Rattle.client_tables.specs.declared.states.MoveState.TheVariants as moves
-use Rattle.client_tables.specs.declared.works.WriteBackOut.{WriteBackOut}
-use Rattle.client_tables.specs.Rows.{first_of, is_pid, same_call, same_pid, same_stream}
-use Rattle.client_tables.specs.Blocks.{is_cached}
-use Rattle.client_tables.specs.WriteBacks.{current_write_back}
+use Rattle.client_file_tables.specs.declared.client_files.ClientFiles.{ClientFiles}
+use Rattle.client_file_tables.specs.declared.pending.Pending.{Pending}
+use Rattle.client_file_tables.specs.declared.pending.Pending.TheVariants as operations
+use Rattle.client_file_tables.specs.declared.states.NameState.{NameState}
+use Rattle.client_file_tables.specs.declared.states.NameState.TheVariants as names
+use Rattle.client_file_tables.specs.declared.states.DataState.{DataState}
+use Rattle.client_file_tables.specs.declared.states.DataState.TheVariants as states
+use Rattle.client_file_tables.specs.declared.states.SyncState.{SyncState}
+use Rattle.client_file_tables.specs.declared.states.SyncState.TheVariants as syncs
+use Rattle.client_file_tables.specs.declared.states.CloseState.{CloseState}
+use Rattle.client_file_tables.specs.declared.states.CloseState.TheVariants as closes
+use Rattle.client_file_tables.specs.declared.states.MoveState.{MoveState}
+use Rattle.client_file_tables.specs.declared.states.MoveState.TheVariants as moves
+use Rattle.client_file_tables.specs.declared.works.WriteBackOut.{WriteBackOut}
+use Rattle.client_file_tables.specs.Rows.{first_of, is_pid, same_call, same_pid, same_stream}
+use Rattle.client_file_tables.specs.Blocks.{is_cached}
+use Rattle.client_file_tables.specs.WriteBacks.{current_write_back}
 
 -- a test of a looked-up operation
 abbrev pub does : (Pending → Bool) → Option Pending → Bool

@@ -5,10 +5,10 @@ use Rattle.sprite_ids.specs.declared.TxNo.{TxNo}
 use Rattle.kernel_steps.specs.declared.Input.{Input}
 use Rattle.kernel_steps.specs.declared.Input.TheVariants as inputs
 use Rattle.kernel_steps.specs.Rows.{is_under}
-use Rattle.client_tables.specs.declared.client_files.ClientFiles.{ClientFiles}
-use Rattle.client_tables.specs.declared.pending.Pending.{Pending}
-use Rattle.client_tables.specs.declared.pending.Pending.TheVariants as operations
-use Rattle.client_tables.specs.Rows.{same_pid}
+use Rattle.client_file_tables.specs.declared.client_files.ClientFiles.{ClientFiles}
+use Rattle.client_file_tables.specs.declared.pending.Pending.{Pending}
+use Rattle.client_file_tables.specs.declared.pending.Pending.TheVariants as operations
+use Rattle.client_file_tables.specs.Rows.{same_pid}
 use Rattle.client_files.specs.Turns.{goes_on}
 use Rattle.client_files.specs.FileSteps.{files_step}
 use Rattle.client_facts.specs.FileFacts.{OneOperationEach, QueuesAreOnce, TurnsAreOnce}

@@ -14,11 +14,11 @@ use Rattle.migrate_freeze.specs.declared.frozen.MoveStep.TheVariants as steps
 use Rattle.pseudo_device.specs.declared.ask.Ask.{Ask}
 use Rattle.pseudo_device.specs.Device.{Asks}
 use Rattle.unix_calls.specs.declared.About.{About}
-use Rattle.client_tables.specs.declared.client_files.ClientFiles.{ClientFiles}
-use Rattle.client_tables.specs.declared.moves.ClosingOf.TheVariants.{End}
-use Rattle.client_tables.specs.declared.pending.Pending.TheVariants as operations
-use Rattle.client_tables.specs.declared.states.CloseState.TheVariants.{Closing}
-use Rattle.client_tables.specs.declared.states.MoveState.TheVariants.{MovingOut}
+use Rattle.client_file_tables.specs.declared.client_files.ClientFiles.{ClientFiles}
+use Rattle.client_file_tables.specs.declared.moves.ClosingOf.TheVariants.{End}
+use Rattle.client_file_tables.specs.declared.pending.Pending.TheVariants as operations
+use Rattle.client_file_tables.specs.declared.states.CloseState.TheVariants.{Closing}
+use Rattle.client_file_tables.specs.declared.states.MoveState.TheVariants.{MovingOut}
 use Rattle.client_homes.specs.declared.client.ClientProcs.{ClientProcs}
 use Rattle.client_homes.specs.declared.client.KillState.TheVariants as kills
 use Rattle.client_homes.specs.declared.client.Leaving.{Leaving}

@@ -15,10 +15,10 @@ use Rattle.migrate_freeze.specs.Moves.{is_moved, is_stream}
 use Rattle.pseudo_device.specs.declared.ask.Ask.{Ask}
 use Rattle.pseudo_device.specs.Device.{Asks, hand_list}
 use Rattle.unix_calls.specs.declared.About.{About}
-use Rattle.client_tables.specs.declared.pending.Pending.{Pending}
-use Rattle.client_tables.specs.declared.pending.Pending.TheVariants as operations
-use Rattle.client_tables.specs.declared.moves.ClosingOf.{ClosingOf}
-use Rattle.client_tables.specs.declared.moves.ClosingOf.TheVariants as closings
+use Rattle.client_file_tables.specs.declared.pending.Pending.{Pending}
+use Rattle.client_file_tables.specs.declared.pending.Pending.TheVariants as operations
+use Rattle.client_file_tables.specs.declared.moves.ClosingOf.{ClosingOf}
+use Rattle.client_file_tables.specs.declared.moves.ClosingOf.TheVariants as closings
 use Rattle.client_homes.specs.declared.client.ClientProcs.{ClientProcs}
 use Rattle.client_homes.specs.declared.client.Leaving.{Leaving}
 use Rattle.client_homes.specs.declared.client.Unfinished.{Unfinished}

@@ -5,12 +5,12 @@ use Rattle.sprite_ids.specs.declared.TxNo.{TxNo}
 use Rattle.packet_bodies.specs.declared.ReplyBody.{ReplyBody}
 use Rattle.packet_bodies.specs.declared.ReplyBody.TheVariants as replies
 use Rattle.kernel_steps.specs.Rows.{is_under}
-use Rattle.client_tables.specs.declared.ClientFiles.{ClientFiles}
-use Rattle.client_tables.specs.declared.MoveWork.{MoveWork}
-use Rattle.client_tables.specs.declared.Pending.{Pending}
-use Rattle.client_tables.specs.declared.Pending.TheVariants.{Name, Data, Sync, Close, Move}
-use Rattle.client_tables.specs.Rows.{same_call, first_of, less_of, first_call, less_call}
-use Rattle.client_tables.specs.Steps.{keeps}
+use Rattle.client_file_tables.specs.declared.ClientFiles.{ClientFiles}
+use Rattle.client_file_tables.specs.declared.MoveWork.{MoveWork}
+use Rattle.client_file_tables.specs.declared.Pending.{Pending}
+use Rattle.client_file_tables.specs.declared.Pending.TheVariants.{Name, Data, Sync, Close, Move}
+use Rattle.client_file_tables.specs.Rows.{same_call, first_of, less_of, first_call, less_call}
+use Rattle.client_file_tables.specs.Steps.{keeps}
 use Rattle.client_streams.specs.Closing.{close_answers}
 use Rattle.client_streams.specs.Moving.{move_answers}
 use Rattle.client_data.specs.Replies.{data_answered}

@@ -6,8 +6,8 @@ use Rattle.stream_table.specs.declared.Carried.{Carried}
 use Rattle.stream_table.specs.Owners.{is_used, numbers_of}
 use Rattle.stream_table.specs.Entries.{is_placed}
 use Rattle.stream_table.specs.Streams.{arriving, same_fd}
-use Rattle.client_tables.specs.declared.ClientFiles.{ClientFiles}
-use Rattle.client_tables.specs.Streams.{sets_cwd}
+use Rattle.client_file_tables.specs.declared.ClientFiles.{ClientFiles}
+use Rattle.client_file_tables.specs.Streams.{sets_cwd}
 use Rattle.client_names.specs.Paths.{Parts}
 use Rattle.client_files.specs.Asked.{takes_some}
 

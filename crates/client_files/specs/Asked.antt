@@ -4,11 +4,11 @@ use Rattle.sprite_ids.specs.declared.Grant.{Grant}
 use Rattle.packet_bodies.specs.declared.OpenedReply.{OpenedReply}
 use Rattle.packet_bodies.specs.declared.ReplyBody.{ReplyBody}
 use Rattle.packet_bodies.specs.declared.ReplyBody.TheVariants as replies
-use Rattle.client_tables.specs.declared.ClientFiles.{ClientFiles}
-use Rattle.client_tables.specs.declared.NameCall.{NameCall}
-use Rattle.client_tables.specs.declared.NameWork.{NameWork}
-use Rattle.client_tables.specs.declared.NameState.{NameState}
-use Rattle.client_tables.specs.declared.NameState.TheVariants.{Broadcasting, Echoing, Asking}
+use Rattle.client_file_tables.specs.declared.ClientFiles.{ClientFiles}
+use Rattle.client_file_tables.specs.declared.NameCall.{NameCall}
+use Rattle.client_file_tables.specs.declared.NameWork.{NameWork}
+use Rattle.client_file_tables.specs.declared.NameState.{NameState}
+use Rattle.client_file_tables.specs.declared.NameState.TheVariants.{Broadcasting, Echoing, Asking}
 use Rattle.client_names.specs.Paths.{Parts}
 use Rattle.client_names.specs.Lookups.{asks, learns, looks_up, redirects}
 use Rattle.client_names.specs.Answers.{ends_opened, ends_refused, ends_value}

@@ -9,8 +9,8 @@ use Rattle.stream_table.specs.declared.StreamEnd.TheVariants as ends
 use Rattle.stream_table.specs.Owners.{descriptor}
 use Rattle.stream_table.specs.Streams.{dup_answer, dupped, free}
 use Rattle.unix_calls.specs.declared.About.{About}
-use Rattle.client_tables.specs.declared.ClientFiles.{ClientFiles}
-use Rattle.client_tables.specs.Says.{answers_here, plain_value}
+use Rattle.client_file_tables.specs.declared.ClientFiles.{ClientFiles}
+use Rattle.client_file_tables.specs.Says.{answers_here, plain_value}
 use Rattle.client_names.specs.Issues.{issues_name, refuses_here}
 use Rattle.client_streams.specs.declared.Named.{Named}
 use Rattle.client_streams.specs.Descriptors.{descriptor_of}

@@ -6,13 +6,13 @@ use Rattle.block_cache.specs.Ranges.{file_blocks}
 use Rattle.block_cache.specs.Blocks.{dirty_under}
 use Rattle.unix_calls.specs.declared.About.{About}
 use Rattle.unix_calls.specs.Opening.{reads, writes}
-use Rattle.client_tables.specs.declared.ClientFiles.{ClientFiles}
-use Rattle.client_tables.specs.declared.DataKind.{DataKind}
-use Rattle.client_tables.specs.declared.DataKind.TheVariants as kinds
-use Rattle.client_tables.specs.declared.DataState.TheVariants.{WaitLock}
-use Rattle.client_tables.specs.declared.SyncState.TheVariants.{Looking}
-use Rattle.client_tables.specs.declared.Pending.TheVariants.{Data, Sync}
-use Rattle.client_tables.specs.Steps.{starts}
+use Rattle.client_file_tables.specs.declared.ClientFiles.{ClientFiles}
+use Rattle.client_file_tables.specs.declared.DataKind.{DataKind}
+use Rattle.client_file_tables.specs.declared.DataKind.TheVariants as kinds
+use Rattle.client_file_tables.specs.declared.DataState.TheVariants.{WaitLock}
+use Rattle.client_file_tables.specs.declared.SyncState.TheVariants.{Looking}
+use Rattle.client_file_tables.specs.declared.Pending.TheVariants.{Data, Sync}
+use Rattle.client_file_tables.specs.Steps.{starts}
 use Rattle.client_names.specs.Issues.{refuses_here}
 use Rattle.client_files.specs.declared.lookup.Reached.{Reached}
 use Rattle.client_files.specs.declared.lookup.Reached.TheVariants.{Nothing, Device, File}

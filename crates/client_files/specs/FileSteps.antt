@@ -6,9 +6,9 @@ use Rattle.packet_bodies.specs.declared.Request.TheVariants as requests
 use Rattle.kernel_steps.specs.declared.Input.{Input}
 use Rattle.kernel_steps.specs.declared.Input.TheVariants as inputs
 use Rattle.kernel_steps.specs.declared.Out.{Out}
-use Rattle.client_tables.specs.declared.ClientFiles.{ClientFiles}
-use Rattle.client_tables.specs.Says.{about_of}
-use Rattle.client_tables.specs.Steps.{begins, said}
+use Rattle.client_file_tables.specs.declared.ClientFiles.{ClientFiles}
+use Rattle.client_file_tables.specs.Says.{about_of}
+use Rattle.client_file_tables.specs.Steps.{begins, said}
 use Rattle.client_names.specs.Answers.{gives_up}
 use Rattle.client_data.specs.Grants.{called_back}
 use Rattle.client_data.specs.WriteBacks.{due_goes}

@@ -3,8 +3,8 @@ use Rattle.std.specs.Prelude.{ℕ, Option, Some, None}
 use Rattle.sprite_ids.specs.declared.Object.{Object}
 use Rattle.sprite_ids.specs.declared.Object.TheVariants as objects
 use Rattle.stream_table.specs.declared.Stream.{Stream}
-use Rattle.client_tables.specs.declared.ClientFiles.{ClientFiles}
-use Rattle.client_tables.specs.Streams.{stream_at}
+use Rattle.client_file_tables.specs.declared.ClientFiles.{ClientFiles}
+use Rattle.client_file_tables.specs.Streams.{stream_at}
 use Rattle.client_streams.specs.declared.Named.{Named}
 use Rattle.client_streams.specs.Descriptors.{descriptor_of}
 use Rattle.client_files.specs.declared.lookup.Reached.{Reached}

@@ -1,10 +1,10 @@
 -- What a step woke is run, one operation after the other.
 use Rattle.std.specs.Prelude.{ℕ, zero, suc, ◌+◌, ◌*◌, List, [], ◌∷◌, length, Option, Some, None}
-use Rattle.client_tables.specs.declared.ClientFiles.{ClientFiles}
-use Rattle.client_tables.specs.declared.Pending.{Pending}
-use Rattle.client_tables.specs.declared.Pending.TheVariants.{Name, Data, Sync, Close, Move}
-use Rattle.client_tables.specs.Rows.{first_of, less_of}
-use Rattle.client_tables.specs.Steps.{keeps}
+use Rattle.client_file_tables.specs.declared.ClientFiles.{ClientFiles}
+use Rattle.client_file_tables.specs.declared.Pending.{Pending}
+use Rattle.client_file_tables.specs.declared.Pending.TheVariants.{Name, Data, Sync, Close, Move}
+use Rattle.client_file_tables.specs.Rows.{first_of, less_of}
+use Rattle.client_file_tables.specs.Steps.{keeps}
 use Rattle.client_streams.specs.Closing.{runs_close}
 use Rattle.client_streams.specs.Moving.{runs_move}
 use Rattle.client_data.specs.Looks.{looks}

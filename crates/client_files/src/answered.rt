@@ -3,8 +3,8 @@ ghost use Rattle.client_files.specs.Answered.{answered, answered_for, answers_mo
 
 use crate::asked::answer_name;
 use client_data::{data_replied, write_back_answered};
+use client_file_tables::{ClientFiles, MoveWork, Pending};
 use client_streams::{close_answered, move_answered};
-use client_tables::{ClientFiles, MoveWork, Pending};
 use packet_bodies::ReplyBody;
 use sprite_ids::{Kernel, NoMemory, Pid, TxNo};
 use std::alloc::Global;

@@ -5,7 +5,7 @@ ghost use Rattle.stream_table.specs.Streams.{same_fd};
 ghost use Rattle.client_files.specs.Arrivals.{arrives, takes_carried, puts_streams, can_arrive, is_fit, are_apart, is_repeated};
 
 use crate::asked::take_some;
-use client_tables::ClientFiles;
+use client_file_tables::ClientFiles;
 use packet_bodies::CarriedStream;
 use sprite_ids::{NoMemory, Object, Pid};
 use sprite_paths::Path;

@@ -2,8 +2,8 @@ ghost use Rattle.std.specs.Prelude.{◌≡◌, OnOk};
 ghost use Rattle.client_files.specs.Asked.{answers_name, finds_server, ends_asked, opens_answered, takes_some};
 
 use client_data::take_grant;
+use client_file_tables::{ClientFiles, NameCall, NameState, NameWork};
 use client_names::{ask, end_opened, end_refused, end_value, learn, look_up, redirect};
-use client_tables::{ClientFiles, NameCall, NameState, NameWork};
 use packet_bodies::{OpenedReply, ReplyBody};
 use sprite_ids::{Copying, Grant, Kernel, NoMemory, Pid};
 use sprite_paths::Path;

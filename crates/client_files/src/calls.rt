@@ -2,9 +2,9 @@ ghost use Rattle.std.specs.Prelude.{◌≡◌, OnOk};
 ghost use Rattle.client_files.specs.CallIssues.{issues, issues_close, dups};
 
 use crate::data_issues::{issue_read, issue_seek, issue_size, issue_sync, issue_write};
+use client_file_tables::{ClientFiles, plain};
 use client_names::{issue_name, refuse_here};
 use client_streams::{descriptor_of, start_close};
-use client_tables::{ClientFiles, plain};
 use process_machine::Call;
 use sprite_ids::{Copying, DeviceId, Errno, NoMemory};
 use std::alloc::Global;

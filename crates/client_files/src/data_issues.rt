@@ -2,8 +2,10 @@ ghost use Rattle.std.specs.Prelude.{◌≡◌, OnOk};
 ghost use Rattle.client_files.specs.DataIssues.{starts_data, issues_read, reads_found, reads_file, issues_write, writes_found, writes_file, issues_seek, seeks_file, issues_size, issues_sync, starts_sync};
 
 use crate::lookup::{OpenFile, Reached, reach, reads, writes};
+use client_file_tables::{
+    ClientFiles, DataCall, DataKind, DataState, Pending, SyncCall, SyncState,
+};
 use client_names::refuse_here;
-use client_tables::{ClientFiles, DataCall, DataKind, DataState, Pending, SyncCall, SyncState};
 use process_machine::Call;
 use sprite_ids::{Bytes, Copying, Errno, Items, NoMemory};
 use std::alloc::Global;

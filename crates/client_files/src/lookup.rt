@@ -2,8 +2,8 @@ ghost use Rattle.std.specs.Prelude.{◌≡◌};
 ghost use Rattle.unix_calls.specs.Opening.{reads, writes};
 ghost use Rattle.client_files.specs.Reaches.{reach, reach_at, reach_object};
 
+use client_file_tables::ClientFiles;
 use client_streams::{Named, descriptor_of};
-use client_tables::ClientFiles;
 use packet_bodies::Descriptor;
 use sprite_ids::{FileId, Mode, Object, Pid, StreamNo};
 use stream_table::Stream;

@@ -2,8 +2,8 @@ ghost use Rattle.std.specs.Prelude.{◌≡◌, IfOk, OnOk};
 ghost use Rattle.client_files.specs.Turns.{goes_on, turned, runs, turns_for};
 
 use client_data::{look, run_sync};
+use client_file_tables::{ClientFiles, Pending};
 use client_streams::{run_close, run_move};
-use client_tables::{ClientFiles, Pending};
 use sprite_ids::{NoMemory, Pid};
 use std::alloc::Global;
 

@@ -12,7 +12,7 @@ use Rattle.unix_calls.specs.declared.ProgramLine.{ProgramLine}
 use Rattle.client_homes.specs.declared.process.Proc.{Proc}
 use Rattle.client_homes.specs.declared.process.ProcState.TheVariants.{Ready}
 use Rattle.client_homes.specs.declared.client.ClientProcs.{ClientProcs}
-use Rattle.client_tables.specs.Streams as files
+use Rattle.client_file_tables.specs.Streams as files
 use Rattle.client_homes.specs.Says.{value, with_files}
 use Rattle.client_homes.specs.Clusters.{given_by}
 use Rattle.client_homes.specs.Procs.{is_call, is_pid, killed_at, proc_at}

@@ -12,7 +12,7 @@ use Rattle.client_homes.specs.declared.process.ProcState.TheVariants as states
 use Rattle.client_homes.specs.declared.client.Unfinished.{Unfinished}
 use Rattle.client_homes.specs.declared.client.Unfinished.TheVariants as unfinished
 use Rattle.client_homes.specs.declared.client.ClientProcs.{ClientProcs}
-use Rattle.client_tables.specs.Closes as files
+use Rattle.client_file_tables.specs.Closes as files
 use Rattle.client_homes.specs.Says.{enters_death, next_tx, sends, with_files}
 use Rattle.client_homes.specs.Procs.{in_state, proc_at}
 use Rattle.client_homes.specs.Homes.{is_native}

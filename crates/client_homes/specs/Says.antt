@@ -12,8 +12,8 @@ use Rattle.unix_calls.specs.declared.Event.{Event}
 use Rattle.unix_calls.specs.declared.Event.TheVariants.{Enter}
 use Rattle.unix_calls.specs.declared.Part.TheVariants.{Death}
 use Rattle.unix_calls.specs.declared.SendKind.TheVariants.{Other}
-use Rattle.client_tables.specs.declared.ClientFiles.{ClientFiles}
-use Rattle.client_tables.specs.Says as files
+use Rattle.client_file_tables.specs.declared.ClientFiles.{ClientFiles}
+use Rattle.client_file_tables.specs.Says as files
 use Rattle.client_homes.specs.declared.client.ClientProcs.{ClientProcs}
 
 -- the files' side, in which stands what the step has said, is so

@@ -1,5 +1,5 @@
 use crate::process::Proc;
-use client_tables::ClientFiles;
+use client_file_tables::ClientFiles;
 use home_table::Home;
 use kernel_steps::{Queue, Table};
 use migrate_freeze::MoveStep;

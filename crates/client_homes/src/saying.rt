@@ -2,7 +2,7 @@ ghost use Rattle.std.specs.Prelude.{◌≡◌, IfOk, OnOk};
 ghost use Rattle.client_homes.specs.Says.{answers, enters, enters_death, gives, next_tx, notes, sends, value};
 
 use crate::client::ClientProcs;
-use client_tables::to_one;
+use client_file_tables::to_one;
 use packet_bodies::{ReplyBody, Request};
 use process_machine::{Call, Reply};
 use sprite_ids::{Bytes, Kernel, NoMemory, Pid, Tries, TxNo};

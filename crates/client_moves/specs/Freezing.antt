@@ -11,7 +11,7 @@ use Rattle.unix_calls.specs.declared.Event.TheVariants.{Freeze}
 use Rattle.migrate_freeze.specs.declared.Process.{Process}
 use Rattle.migrate_freeze.specs.Moves.{frozen_for, step_of}
 use Rattle.migrate_freeze.specs.Packing.{can_move}
-use Rattle.client_tables.specs.Rows.{first_of, less_of}
+use Rattle.client_file_tables.specs.Rows.{first_of, less_of}
 use Rattle.client_homes.specs.declared.Proc.{Proc}
 use Rattle.client_homes.specs.declared.Unfinished.TheVariants as unfinished
 use Rattle.client_homes.specs.declared.ClientProcs.{ClientProcs}

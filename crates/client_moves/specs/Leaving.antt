@@ -13,9 +13,9 @@ use Rattle.migrate_freeze.specs.declared.MoveStep.TheVariants as steps
 use Rattle.migrate_freeze.specs.OneMove.{OneMove}
 use Rattle.migrate_freeze.specs.Moves.{moved_on, step_of}
 use Rattle.migrate_freeze.specs.Packing.{body_of}
-use Rattle.client_tables.specs.declared.MoveState.TheVariants.{WaitLock}
-use Rattle.client_tables.specs.declared.Pending.TheVariants.{Move}
-use Rattle.client_tables.specs.Steps.{starts}
+use Rattle.client_file_tables.specs.declared.MoveState.TheVariants.{WaitLock}
+use Rattle.client_file_tables.specs.declared.Pending.TheVariants.{Move}
+use Rattle.client_file_tables.specs.Steps.{starts}
 use Rattle.client_homes.specs.declared.Leaving.{Leaving}
 use Rattle.client_homes.specs.declared.Unfinished.{Unfinished}
 use Rattle.client_homes.specs.declared.Unfinished.TheVariants as unfinished

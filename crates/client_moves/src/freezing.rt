@@ -1,7 +1,7 @@
 ghost use Rattle.std.specs.Prelude.{◌≡◌, IfOk, OnOk, IsTrue, length};
 ghost use Rattle.client_homes.specs.Says.{value};
 ghost use Rattle.client_moves.specs.Freezing.{begins_to_leave, cwd_or_root, drops_cwd, enters_move, freezes, image_without, pages_for, pages_upto, process_of, puts_out, puts_page, puts_pages, sends_off, taken_upto, takes_out, with_page};
-ghost use Rattle.client_tables.specs.Rows.{first_of};
+ghost use Rattle.client_file_tables.specs.Rows.{first_of};
 ghost use Rattle.migrate_freeze.specs.Moves.{frozen_for, step_of};
 ghost use Rattle.migrate_freeze.specs.Packing.{can_move};
 

@@ -2,8 +2,8 @@ ghost use Rattle.std.specs.Prelude.{◌≡◌, OnOk};
 ghost use Rattle.client_moves.specs.Leaving.{begins_move, has_moved, is_page_out, keeps_leaving, leaves_by, leaves_on, moved_step, moves_next, notes_move, puts_page_of, sends_when_put};
 ghost use Rattle.std.specs.List.{list_any};
 
+use client_file_tables::{MoveState, MoveWork, Pending};
 use client_homes::{ClientProcs, Leaving, Unfinished};
-use client_tables::{MoveState, MoveWork, Pending};
 use migrate_freeze::{MoveStep, Moving, Sent};
 use sprite_ids::{Grant, NoMemory, Pid, TxNo};
 use std::alloc::Global;

@@ -20,17 +20,17 @@ use Rattle.stream_table.specs.declared.Place.TheVariants.{Local}
 use Rattle.stream_table.specs.declared.Stream.{Stream}
 use Rattle.unix_calls.specs.declared.Flags.{Flags}
 use Rattle.unix_calls.specs.Opening.{flags_of}
-use Rattle.client_tables.specs.declared.ClientFiles.{ClientFiles}
-use Rattle.client_tables.specs.declared.NameCall.{NameCall}
-use Rattle.client_tables.specs.declared.NameKind.{NameKind}
-use Rattle.client_tables.specs.declared.NameKind.TheVariants as kinds
-use Rattle.client_tables.specs.declared.Pending.{Pending}
-use Rattle.client_tables.specs.declared.Pending.TheVariants.{Name}
-use Rattle.client_tables.specs.Rows.{first_of, less_of, first_call, less_call}
-use Rattle.client_tables.specs.Says.{about_of, answers_here, plain_value, replies}
-use Rattle.client_tables.specs.Steps.{keeps}
-use Rattle.client_tables.specs.Streams.{adds_stream, added_fd, sets_cwd}
-use Rattle.client_tables.specs.declared.NameWork.{NameWork}
+use Rattle.client_file_tables.specs.declared.ClientFiles.{ClientFiles}
+use Rattle.client_file_tables.specs.declared.NameCall.{NameCall}
+use Rattle.client_file_tables.specs.declared.NameKind.{NameKind}
+use Rattle.client_file_tables.specs.declared.NameKind.TheVariants as kinds
+use Rattle.client_file_tables.specs.declared.Pending.{Pending}
+use Rattle.client_file_tables.specs.declared.Pending.TheVariants.{Name}
+use Rattle.client_file_tables.specs.Rows.{first_of, less_of, first_call, less_call}
+use Rattle.client_file_tables.specs.Says.{about_of, answers_here, plain_value, replies}
+use Rattle.client_file_tables.specs.Steps.{keeps}
+use Rattle.client_file_tables.specs.Streams.{adds_stream, added_fd, sets_cwd}
+use Rattle.client_file_tables.specs.declared.NameWork.{NameWork}
 use Rattle.client_names.specs.Paths.{Parts}
 
 -- the call is Unreachable, which is entered here

@@ -9,11 +9,11 @@ use Rattle.process_machine.specs.declared.Reply.TheVariants.{Error}
 use Rattle.packet_bodies.specs.declared.NameOp.{NameOp}
 use Rattle.packet_bodies.specs.declared.NameOp.TheVariants as ops
 use Rattle.unix_calls.specs.declared.About.{About}
-use Rattle.client_tables.specs.declared.ClientFiles.{ClientFiles}
-use Rattle.client_tables.specs.declared.NameKind.{NameKind}
-use Rattle.client_tables.specs.declared.NameKind.TheVariants.{Open, Make, Name}
-use Rattle.client_tables.specs.Says.{answers_here}
-use Rattle.client_tables.specs.declared.NameWork.{NameWork}
+use Rattle.client_file_tables.specs.declared.ClientFiles.{ClientFiles}
+use Rattle.client_file_tables.specs.declared.NameKind.{NameKind}
+use Rattle.client_file_tables.specs.declared.NameKind.TheVariants.{Open, Make, Name}
+use Rattle.client_file_tables.specs.Says.{answers_here}
+use Rattle.client_file_tables.specs.declared.NameWork.{NameWork}
 use Rattle.client_names.specs.OpenFlags.{lawful}
 use Rattle.client_names.specs.Paths.{Parts, cleaned}
 use Rattle.client_names.specs.Making.{free_descriptor, new_stream, counts_stream}

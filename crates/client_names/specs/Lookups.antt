@@ -4,13 +4,13 @@ use Rattle.prefix_table.specs.declared.prefixes.Domain.{Domain}
 use Rattle.prefix_table.specs.Prefixes.{knows, learned, longest}
 use Rattle.unix_calls.specs.declared.Event.TheVariants as events
 use Rattle.unix_calls.specs.declared.SendKind.TheVariants.{Broadcast, Other}
-use Rattle.client_tables.specs.declared.ClientFiles.{ClientFiles}
-use Rattle.client_tables.specs.declared.NameState.{NameState}
-use Rattle.client_tables.specs.declared.NameState.TheVariants.{Broadcasting, Echoing, Asking}
-use Rattle.client_tables.specs.declared.Pending.TheVariants.{Name}
-use Rattle.client_tables.specs.Says.{notes, sends_for}
-use Rattle.client_tables.specs.Steps.{keeps}
-use Rattle.client_tables.specs.declared.NameWork.{NameWork}
+use Rattle.client_file_tables.specs.declared.ClientFiles.{ClientFiles}
+use Rattle.client_file_tables.specs.declared.NameState.{NameState}
+use Rattle.client_file_tables.specs.declared.NameState.TheVariants.{Broadcasting, Echoing, Asking}
+use Rattle.client_file_tables.specs.declared.Pending.TheVariants.{Name}
+use Rattle.client_file_tables.specs.Says.{notes, sends_for}
+use Rattle.client_file_tables.specs.Steps.{keeps}
+use Rattle.client_file_tables.specs.declared.NameWork.{NameWork}
 use Rattle.client_names.specs.Paths.{Parts}
 use Rattle.client_names.specs.Requests.{request_to, echo_to, broadcast_of}
 

@@ -2,7 +2,7 @@
 use Rattle.std.specs.Prelude.{ℕ, zero, suc, ◌+◌, List, Option, Some, None}
 use Rattle.sprite_ids.specs.declared.StreamNo.{StreamNo}
 use Rattle.stream_table.specs.Owners.{Owner, descriptor}
-use Rattle.client_tables.specs.declared.ClientFiles.{ClientFiles}
+use Rattle.client_file_tables.specs.declared.ClientFiles.{ClientFiles}
 
 -- the descriptor that was found already; else this one, where it leads to no stream
 abbrev pub free_or : Option ℕ → ℕ → Option StreamNo → Option ℕ

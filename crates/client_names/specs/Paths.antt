@@ -1,8 +1,8 @@
 -- The paths that name calls name.
 use Rattle.std.specs.Prelude.{ℕ, List, [], Option, Some, None}
 use Rattle.sprite_paths.specs.Path.{clean_path}
-use Rattle.client_tables.specs.declared.ClientFiles.{ClientFiles}
-use Rattle.client_tables.specs.Streams.{cwd_of}
+use Rattle.client_file_tables.specs.declared.ClientFiles.{ClientFiles}
+use Rattle.client_file_tables.specs.Streams.{cwd_of}
 
 -- a path, by its parts
 abbrev pub Parts : Type 0

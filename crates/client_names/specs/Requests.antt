@@ -6,11 +6,11 @@ use Rattle.process_machine.specs.declared.Call.TheVariants as calls
 use Rattle.packet_bodies.specs.declared.Request.{Request}
 use Rattle.packet_bodies.specs.declared.Request.TheVariants as requests
 use Rattle.kernel_steps.specs.declared.Sending.{Sending}
-use Rattle.client_tables.specs.declared.ClientFiles.{ClientFiles}
-use Rattle.client_tables.specs.declared.NameKind.{NameKind}
-use Rattle.client_tables.specs.declared.NameKind.TheVariants as kinds
-use Rattle.client_tables.specs.Says.{about_of, to_one}
-use Rattle.client_tables.specs.declared.NameWork.{NameWork}
+use Rattle.client_file_tables.specs.declared.ClientFiles.{ClientFiles}
+use Rattle.client_file_tables.specs.declared.NameKind.{NameKind}
+use Rattle.client_file_tables.specs.declared.NameKind.TheVariants as kinds
+use Rattle.client_file_tables.specs.Says.{about_of, to_one}
+use Rattle.client_file_tables.specs.declared.NameWork.{NameWork}
 use Rattle.client_names.specs.Paths.{Parts}
 
 -- the path text of a name call, as the process gave it; of a rename the old one

@@ -2,7 +2,7 @@ ghost use Rattle.std.specs.Prelude.{◌≡◌, OnOk};
 ghost use Rattle.client_names.specs.Answers.{gives_up, gives_up_on, unreaches, ends_refused, ends_value, gives_value, ends_opened, installs, gives_descriptor, object_of, opened_stream, master_stream, reply_of};
 
 use crate::flags::flags_of;
-use client_tables::{ClientFiles, NameCall, NameKind, NameWork, Pending, about, plain};
+use client_file_tables::{ClientFiles, NameCall, NameKind, NameWork, Pending, about, plain};
 use packet_bodies::{NameOp, OpenedReply, Target, ValueReply};
 use process_machine::Reply;
 use sprite_ids::{DeviceId, Errno, Mode, NoMemory, Object, Pid, StreamNo, TxNo};

@@ -5,7 +5,7 @@ use crate::flags::lawful;
 use crate::lookups::look_up;
 use crate::making::{free_descriptor, new_stream};
 use crate::paths::cleaned;
-use client_tables::{ClientFiles, NameKind, NameWork};
+use client_file_tables::{ClientFiles, NameKind, NameWork};
 use packet_bodies::{Descriptor, NameOp};
 use process_machine::{Call, Reply};
 use sprite_ids::{Bytes, Copying, DeviceId, Errno, NoMemory};

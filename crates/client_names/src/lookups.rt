@@ -2,7 +2,7 @@ ghost use Rattle.std.specs.Prelude.{◌≡◌, OnOk};
 ghost use Rattle.client_names.specs.Lookups.{server_for, waits, echoes, broadcasts, looks_up, learns, redirects, asks};
 
 use crate::requests::{broadcast_of, request_of};
-use client_tables::{ClientFiles, NameCall, NameState, NameWork, Pending, about, to_one};
+use client_file_tables::{ClientFiles, NameCall, NameState, NameWork, Pending, about, to_one};
 use packet_bodies::Request;
 use sprite_ids::{Copying, Kernel, NoMemory, Pid, Tries};
 use sprite_paths::Path;

@@ -2,7 +2,7 @@ ghost use Rattle.std.specs.Prelude.{◌≡◌, ◌<◌, OnOk, IfOk};
 ghost use Rattle.stream_table.specs.Owners.{descriptor};
 ghost use Rattle.client_names.specs.Making.{free_or, free_descriptor, new_stream, counts_stream};
 
-use client_tables::ClientFiles;
+use client_file_tables::ClientFiles;
 use packet_bodies::Descriptor;
 use sprite_ids::{NoMemory, Pid, StreamNo};
 

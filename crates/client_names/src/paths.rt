@@ -2,7 +2,7 @@ ghost use Rattle.std.specs.Prelude.{◌≡◌, IfOk};
 ghost use Rattle.sprite_paths.specs.Path.{clean_path};
 ghost use Rattle.client_names.specs.Paths.{cleaned};
 
-use client_tables::ClientFiles;
+use client_file_tables::ClientFiles;
 use sprite_ids::{NoMemory, Pid};
 use sprite_paths::{Path, PathEnd};
 use std::alloc::Global;

@@ -1,7 +1,7 @@
 ghost use Rattle.std.specs.Prelude.{◌≡◌, IfOk, Some};
 ghost use Rattle.client_names.specs.Requests.{text_of, second_text_of, request_of, broadcast_of};
 
-use client_tables::{ClientFiles, NameKind, NameWork, about};
+use client_file_tables::{ClientFiles, NameKind, NameWork, about};
 use kernel_steps::Sending;
 use packet_bodies::{MakeRequest, NameRequest, OpeningRequest, Request};
 use process_machine::Call;

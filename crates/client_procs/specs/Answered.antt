@@ -6,7 +6,7 @@ use Rattle.kernel_steps.specs.Rows.{first_under, is_under}
 use Rattle.packet_bodies.specs.declared.ReplyBody.{ReplyBody}
 use Rattle.packet_bodies.specs.declared.Request.{Request}
 use Rattle.packet_bodies.specs.declared.Request.TheVariants as requests
-use Rattle.client_tables.specs.Steps.{owns}
+use Rattle.client_file_tables.specs.Steps.{owns}
 use Rattle.client_data.specs.Grants.{called_back}
 use Rattle.client_files.specs.Answered as files
 use Rattle.client_homes.specs.declared.Unfinished.{Unfinished}

@@ -10,8 +10,8 @@ use Rattle.unix_calls.specs.declared.KernelLine.{KernelLine}
 use Rattle.unix_calls.specs.declared.ProgramLine.{ProgramLine}
 use Rattle.unix_calls.specs.declared.StartLine.{StartLine}
 use Rattle.home_table.specs.Home as homes
-use Rattle.client_tables.specs.declared.ClientFiles.{ClientFiles}
-use Rattle.client_tables.specs.Boot as files
+use Rattle.client_file_tables.specs.declared.ClientFiles.{ClientFiles}
+use Rattle.client_file_tables.specs.Boot as files
 use Rattle.client_homes.specs.declared.ClientProcs.{ClientProcs}
 use Rattle.client_homes.specs.Births.{child_of}
 use Rattle.client_procs.specs.declared.booting.Begun.{Begun}

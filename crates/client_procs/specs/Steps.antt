@@ -4,8 +4,8 @@ use Rattle.sprite_ids.specs.declared.TxNo.{TxNo}
 use Rattle.kernel_steps.specs.declared.Input.{Input}
 use Rattle.kernel_steps.specs.declared.Input.TheVariants as inputs
 use Rattle.kernel_steps.specs.declared.Out.{Out}
-use Rattle.client_tables.specs.Says.{about_of}
-use Rattle.client_tables.specs.Steps as tables
+use Rattle.client_file_tables.specs.Says.{about_of}
+use Rattle.client_file_tables.specs.Steps as tables
 use Rattle.client_data.specs.WriteBacks.{due_goes}
 use Rattle.client_names.specs.Answers.{gives_up}
 use Rattle.client_homes.specs.declared.ClientProcs.{ClientProcs}

@@ -1,8 +1,8 @@
 -- What a step wakes, its replies and reports.
 use Rattle.std.specs.Prelude.{ℕ, zero, suc, ◌+◌, ◌*◌, ◌==◌, Bool, ◌&&◌, if◌then◌else◌, List, [], ◌∷◌, length}
 use Rattle.process_machine.specs.declared.Reply.{Reply}
-use Rattle.client_tables.specs.declared.Report.{Report}
-use Rattle.client_tables.specs.declared.Report.TheVariants as reports
+use Rattle.client_file_tables.specs.declared.Report.{Report}
+use Rattle.client_file_tables.specs.declared.Report.TheVariants as reports
 use Rattle.client_files.specs.Turns as files
 use Rattle.client_homes.specs.declared.ClientProcs.{ClientProcs}
 use Rattle.client_homes.specs.Says.{with_files}

@@ -5,8 +5,8 @@ ghost use Rattle.std.specs.List.{position};
 
 use crate::launching::fresh_image;
 use crate::moving::kernel_at;
+use client_file_tables::ClientFiles;
 use client_homes::{ClientProcs, Proc, ProcState};
-use client_tables::ClientFiles;
 use home_table::{Home, HomeEnd};
 use kernel_steps::{Queue, Table};
 use process_machine::Image;

@@ -3,9 +3,9 @@ ghost use Rattle.client_moves.specs.Freezing.{takes_proc};
 ghost use Rattle.client_procs.specs.Turning.{gives_all, gives_first, goes_on, is_quiet, rounds_for, takes_all, takes_first, takes_report, turned};
 
 use client_devices::close_master;
+use client_file_tables::Report;
 use client_homes::ClientProcs;
 use client_moves::{finish, stream_moved};
-use client_tables::Report;
 use sprite_ids::{NoMemory, Pid};
 use std::alloc::Global;
 

@@ -16,19 +16,19 @@ use Rattle.stream_table.specs.Streams.{closed_stream, is_last}
 use Rattle.unix_calls.specs.declared.About.{About}
 use Rattle.unix_calls.specs.declared.SendKind.TheVariants.{Other}
 use Rattle.kernel_steps.specs.declared.Sending.{Sending}
-use Rattle.client_tables.specs.declared.ClientFiles.{ClientFiles}
-use Rattle.client_tables.specs.declared.CloseState.{CloseState}
-use Rattle.client_tables.specs.declared.CloseState.TheVariants as states
-use Rattle.client_tables.specs.declared.CloseWork.{CloseWork}
-use Rattle.client_tables.specs.declared.ClosingOf.{ClosingOf}
-use Rattle.client_tables.specs.declared.ClosingOf.TheVariants.{Call, End}
-use Rattle.client_tables.specs.declared.Pending.TheVariants.{Close}
-use Rattle.client_tables.specs.declared.Report.TheVariants.{AllClosed, MasterClosed}
-use Rattle.client_tables.specs.Rows.{less_of}
-use Rattle.client_tables.specs.Says.{about_of, enters, plain_value, replies, sends_for, to_one}
-use Rattle.client_tables.specs.Steps.{keeps, reports, starts}
-use Rattle.client_tables.specs.Locks.{gets_lock, locks, unlocks}
-use Rattle.client_tables.specs.Streams.{stream_at}
+use Rattle.client_file_tables.specs.declared.ClientFiles.{ClientFiles}
+use Rattle.client_file_tables.specs.declared.CloseState.{CloseState}
+use Rattle.client_file_tables.specs.declared.CloseState.TheVariants as states
+use Rattle.client_file_tables.specs.declared.CloseWork.{CloseWork}
+use Rattle.client_file_tables.specs.declared.ClosingOf.{ClosingOf}
+use Rattle.client_file_tables.specs.declared.ClosingOf.TheVariants.{Call, End}
+use Rattle.client_file_tables.specs.declared.Pending.TheVariants.{Close}
+use Rattle.client_file_tables.specs.declared.Report.TheVariants.{AllClosed, MasterClosed}
+use Rattle.client_file_tables.specs.Rows.{less_of}
+use Rattle.client_file_tables.specs.Says.{about_of, enters, plain_value, replies, sends_for, to_one}
+use Rattle.client_file_tables.specs.Steps.{keeps, reports, starts}
+use Rattle.client_file_tables.specs.Locks.{gets_lock, locks, unlocks}
+use Rattle.client_file_tables.specs.Streams.{stream_at}
 use Rattle.client_streams.specs.Descriptors.{drops}
 
 -- descriptors to be closed for that

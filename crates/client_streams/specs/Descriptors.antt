@@ -3,8 +3,8 @@ use Rattle.std.specs.Prelude.{ℕ, zero, suc, if◌then◌else◌, Option, Some,
 use Rattle.sprite_ids.specs.declared.StreamNo.{StreamNo}
 use Rattle.stream_table.specs.Owners.{descriptor}
 use Rattle.stream_table.specs.Streams.{closed}
-use Rattle.client_tables.specs.declared.ClientFiles.{ClientFiles}
-use Rattle.client_tables.specs.Rows.{same_stream}
+use Rattle.client_file_tables.specs.declared.ClientFiles.{ClientFiles}
+use Rattle.client_file_tables.specs.Rows.{same_stream}
 use Rattle.client_streams.specs.declared.descriptors.Named.{Named}
 
 -- the process's descriptor with its looked-up stream

@@ -14,16 +14,16 @@ use Rattle.stream_table.specs.declared.Stream.{Stream}
 use Rattle.unix_calls.specs.declared.About.{About}
 use Rattle.unix_calls.specs.declared.SendKind.TheVariants.{Other}
 use Rattle.kernel_steps.specs.declared.Sending.{Sending}
-use Rattle.client_tables.specs.declared.ClientFiles.{ClientFiles}
-use Rattle.client_tables.specs.declared.MoveState.{MoveState}
-use Rattle.client_tables.specs.declared.MoveState.TheVariants as states
-use Rattle.client_tables.specs.declared.MoveWork.{MoveWork}
-use Rattle.client_tables.specs.declared.Pending.TheVariants.{Move}
-use Rattle.client_tables.specs.declared.Report.TheVariants as told
-use Rattle.client_tables.specs.Says.{sends_for, to_one}
-use Rattle.client_tables.specs.Steps.{keeps, reports, starts}
-use Rattle.client_tables.specs.Locks.{gets_lock, locks, unlocks}
-use Rattle.client_tables.specs.Streams.{moves_place, stream_at}
+use Rattle.client_file_tables.specs.declared.ClientFiles.{ClientFiles}
+use Rattle.client_file_tables.specs.declared.MoveState.{MoveState}
+use Rattle.client_file_tables.specs.declared.MoveState.TheVariants as states
+use Rattle.client_file_tables.specs.declared.MoveWork.{MoveWork}
+use Rattle.client_file_tables.specs.declared.Pending.TheVariants.{Move}
+use Rattle.client_file_tables.specs.declared.Report.TheVariants as told
+use Rattle.client_file_tables.specs.Says.{sends_for, to_one}
+use Rattle.client_file_tables.specs.Steps.{keeps, reports, starts}
+use Rattle.client_file_tables.specs.Locks.{gets_lock, locks, unlocks}
+use Rattle.client_file_tables.specs.Streams.{moves_place, stream_at}
 use Rattle.client_streams.specs.Descriptors.{drops_each}
 
 -- a stream of a frozen process begins to move

@@ -2,7 +2,7 @@ ghost use Rattle.std.specs.Prelude.{◌≡◌, OnOk};
 ghost use Rattle.client_streams.specs.Closing.{closes_object, closes_file, closes_locked, closes_device, closes_master, asks_close, enters_closed, closing_about, reports_last};
 
 use crate::closing::{close_on, without_first};
-use client_tables::{
+use client_file_tables::{
     ClientFiles, CloseState, CloseWork, ClosingOf, Pending, Report, about, plain, to_one,
 };
 use packet_bodies::{CloseRequest, Request, Target};

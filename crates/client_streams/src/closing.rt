@@ -2,7 +2,7 @@ ghost use Rattle.std.specs.Prelude.{◌≡◌, OnOk, slice_get};
 ghost use Rattle.client_streams.specs.Closing.{starts_close, runs_close, closes_next, closes_first, closes_stream, closes_on, ends_closing, close_answers, closed_at_server, without_first};
 
 use crate::close_object::close_object;
-use client_tables::{ClientFiles, CloseState, CloseWork, ClosingOf, Pending, Report, plain};
+use client_file_tables::{ClientFiles, CloseState, CloseWork, ClosingOf, Pending, Report, plain};
 use packet_bodies::Descriptor;
 use sprite_ids::{Items, NoMemory, Pid, StreamNo};
 use std::alloc::Global;

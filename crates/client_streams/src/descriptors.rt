@@ -1,7 +1,7 @@
 ghost use Rattle.std.specs.Prelude.{◌≡◌, ◌<◌};
 ghost use Rattle.client_streams.specs.Descriptors.{descriptor_of, drops, drops_each, drops_to};
 
-use client_tables::ClientFiles;
+use client_file_tables::ClientFiles;
 use packet_bodies::Descriptor;
 use sprite_ids::{Pid, StreamNo};
 

@@ -2,7 +2,7 @@ ghost use Rattle.std.specs.Prelude.{◌≡◌, OnOk, is_some};
 ghost use Rattle.client_streams.specs.Moving.{moves_stream, runs_move, moves_on, moves_object, moves_file, moves_locked, moves_device, asks_move, moving_out, move_answers, moved_out, ends_move, shares, place_after, offset_for, grants_for};
 
 use crate::descriptors::drop_each;
-use client_tables::{ClientFiles, MoveState, MoveWork, Pending, Report, to_one};
+use client_file_tables::{ClientFiles, MoveState, MoveWork, Pending, Report, to_one};
 use packet_bodies::{MoveRequest, Request, Target};
 use sprite_ids::{FileId, Grant, Kernel, NoMemory, Object, Pid, StreamNo, Tries};
 use std::alloc::Global;

@@ -16,7 +16,7 @@ use Rattle.cluster_kernels.specs.declared.State.{State}
 use Rattle.cluster_kernels.specs.States.{image_put_at, kernel_at, put_image}
 use Rattle.cluster_wire.specs.Faults.{FaultsTold, faults_told}
 use Rattle.cluster_wire.proofs.FaultLaws.{other_more}
-use Rattle.cluster_calls.proofs.TakenLaws.{nothing_told, out_taken, takes_ran, told_by, told_taken}
+use Rattle.cluster_steps.proofs.TakenLaws.{nothing_told, out_taken, takes_ran, told_by, told_taken}
 use Rattle.cluster_bursts.specs.declared.ended.Ended.{Ended}
 use Rattle.cluster_bursts.specs.declared.ended.Ended.TheVariants as ended
 use Rattle.cluster_bursts.specs.declared.job.Burst.{Burst}

@@ -23,7 +23,7 @@ use Rattle.cluster_bursts.specs.declared.ended.Ended.{Ended}
 use Rattle.cluster_bursts.specs.declared.ended.Ended.TheVariants as ended
 use Rattle.cluster_kernels.specs.declared.State.{State}
 use Rattle.cluster_kernels.specs.States.{count_at, image_at, is_ready_at, noted_step, numbered_at, pids_at, put_image, put_out, with_last}
-use Rattle.cluster_calls.specs.Steps.{TakesSo}
+use Rattle.cluster_steps.specs.Steps.{TakesSo}
 use Rattle.kernel_rpc.specs.Sound.{Wired}
 
 -- a burst ended where it says so

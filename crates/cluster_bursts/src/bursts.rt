@@ -10,8 +10,8 @@ ghost use Rattle.unix_calls.specs.declared.Event.TheVariants.{Burst as Ran};
 
 use crate::ended::Ended;
 use crate::job::{Burst, Job};
-use cluster_calls::take;
 use cluster_kernels::State;
+use cluster_steps::take;
 use kernel_rpc::Wire;
 use kernel_steps::Input;
 use link_plan::Link;

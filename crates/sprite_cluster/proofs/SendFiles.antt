@@ -4,20 +4,20 @@ use denote.Param.SendFields.{declared_send, variants_send}
 use Rattle.sprite_cluster.proofs.SendRecords.{whole, bytes_sends, call_sends, path_sends}
 use Rattle.sprite_cluster.proofs.SendTables.{cache_sends, delays_sends, prefixes_sends, streams_sends}
 use Rattle.sprite_cluster.proofs.SendPackets.{out_sends}
-use Rattle.client_tables.specs.contracts.states.NameState as name_state
-use Rattle.client_tables.specs.contracts.states.DataState as data_state
-use Rattle.client_tables.specs.contracts.names.NameKind as name_kind
-use Rattle.client_tables.specs.contracts.names.NameWork as name_work
-use Rattle.client_tables.specs.contracts.names.NameCall as name_call
-use Rattle.client_tables.specs.contracts.works.DataKind as data_kind
-use Rattle.client_tables.specs.contracts.works.DataCall as data_call
-use Rattle.client_tables.specs.contracts.works.SyncCall as sync_call
-use Rattle.client_tables.specs.contracts.moves.CloseWork as close_work
-use Rattle.client_tables.specs.contracts.moves.MoveWork as move_work
-use Rattle.client_tables.specs.contracts.moves.Report as report
-use Rattle.client_tables.specs.contracts.works.WriteBackOut as write_back_out
-use Rattle.client_tables.specs.contracts.pending.Pending as pending
-use Rattle.client_tables.specs.contracts.client_files.ClientFiles as client_files
+use Rattle.client_file_tables.specs.contracts.states.NameState as name_state
+use Rattle.client_file_tables.specs.contracts.states.DataState as data_state
+use Rattle.client_file_tables.specs.contracts.names.NameKind as name_kind
+use Rattle.client_file_tables.specs.contracts.names.NameWork as name_work
+use Rattle.client_file_tables.specs.contracts.names.NameCall as name_call
+use Rattle.client_file_tables.specs.contracts.works.DataKind as data_kind
+use Rattle.client_file_tables.specs.contracts.works.DataCall as data_call
+use Rattle.client_file_tables.specs.contracts.works.SyncCall as sync_call
+use Rattle.client_file_tables.specs.contracts.moves.CloseWork as close_work
+use Rattle.client_file_tables.specs.contracts.moves.MoveWork as move_work
+use Rattle.client_file_tables.specs.contracts.moves.Report as report
+use Rattle.client_file_tables.specs.contracts.works.WriteBackOut as write_back_out
+use Rattle.client_file_tables.specs.contracts.pending.Pending as pending
+use Rattle.client_file_tables.specs.contracts.client_files.ClientFiles as client_files
 
 pub name_state_sends : IsSend name_state.the_row
 name_state_sends = search whole depth 100 fits 400000

@@ -17,21 +17,21 @@ use Rattle.turn_gate.specs.Steps.{AllBy, Grows}
 use Rattle.cluster_kernels.specs.declared.State.{State}
 use Rattle.cluster_kernels.specs.Kernels.{has_ended}
 use Rattle.cluster_wire.specs.Faults.{FaultsTold, faults_told, is_fault_between}
-use Rattle.cluster_packets.specs.Choosing.{choices_at}
-use Rattle.cluster_packets.specs.declared.Choice.{Choice}
+use Rattle.cluster_choices.specs.Choosing.{choices_at}
+use Rattle.cluster_choices.specs.declared.Choice.{Choice}
 use Rattle.kernel_rpc.specs.Sound.{Wired}
-use Rattle.cluster_packets.proofs.ActLaws.{out_happening, told_happening}
+use Rattle.cluster_choices.proofs.ActLaws.{out_happening, told_happening}
 use Rattle.cluster_bursts.specs.Bursts.{has_job_at}
 use Rattle.cluster_bursts.specs.declared.Burst.{Burst}
 use Rattle.cluster_bursts.proofs.EndLaws.{out_ends, out_less, stale_ends, told_ends}
 use Rattle.sprite_cluster.specs.Finishing.{are_busy, finish_of, is_busy, may_go_on, stands_so}
 use Rattle.sprite_cluster.specs.Logs.{Holds, TellsFaults, faults_between, log_of}
-use Rattle.cluster_counts.specs.Orders.{records_by}
-use Rattle.cluster_counts.specs.Traces.{ReachedSo}
-use Rattle.cluster_counts.specs.Turns.{RanSo}
-use Rattle.cluster_counts.proofs.TraceLaws.{turn_keeps}
-use Rattle.cluster_counts.proofs.TurnLaws.{happening_so}
-use Rattle.cluster_counts.proofs.EndingLaws.{ending_so}
+use Rattle.cluster_wire_laws.specs.Orders.{records_by}
+use Rattle.cluster_wire_laws.specs.Traces.{ReachedSo}
+use Rattle.cluster_wire_laws.specs.Turns.{RanSo}
+use Rattle.cluster_wire_laws.proofs.TraceLaws.{turn_keeps}
+use Rattle.cluster_wire_laws.proofs.TurnLaws.{happening_so}
+use Rattle.cluster_wire_laws.proofs.EndingLaws.{ending_so}
 use Rattle.std.specs.declared.snapshot.Snapshot.{Snapshot}
 use Rattle.sprite_ids.specs.declared.NoMemory.{NoMemory}
 use Rattle.kernel_threads.specs.Steps.{Adds, Stays}

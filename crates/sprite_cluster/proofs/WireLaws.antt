@@ -4,10 +4,10 @@ use Rattle.kernel_rpc.specs.Sound.{Wired}
 use Rattle.unix_calls.specs.declared.Description.{Description}
 use Rattle.unix_calls.specs.declared.Rec.{Rec}
 use Rattle.unix_calls.specs.Lawful.{Lawful}
-use Rattle.cluster_counts.specs.Traces.{ReachedSo}
-use Rattle.cluster_counts.proofs.ExpiryLaws.{loss_before}
-use Rattle.cluster_counts.proofs.FewLaws.{few_packets}
-use Rattle.cluster_counts.proofs.TraceLaws.{replies_asked}
+use Rattle.cluster_wire_laws.specs.Traces.{ReachedSo}
+use Rattle.cluster_wire_laws.proofs.ExpiryLaws.{loss_before}
+use Rattle.cluster_wire_laws.proofs.FewLaws.{few_packets}
+use Rattle.cluster_wire_laws.proofs.TraceLaws.{replies_asked}
 use Rattle.kernel_rpc.specs.Machine.{Machine}
 use Rattle.kernel_rpc.specs.Runs.{IsRun}
 use Rattle.kernel_rpc.specs.Steps.{counts_in}

@@ -9,7 +9,7 @@ use Rattle.unix_calls.specs.declared.Rec.{Rec}
 use Rattle.call_journal.specs.Units.{units_of}
 use Rattle.cluster_kernels.specs.declared.State.{State}
 use Rattle.cluster_kernels.specs.Kernels.{has_ended}
-use Rattle.cluster_packets.specs.Choosing.{choices_at}
+use Rattle.cluster_choices.specs.Choosing.{choices_at}
 use Rattle.cluster_bursts.specs.Bursts.{has_job_at}
 
 -- whether something can happen at the kernel: it has a choice, or a process can run

@@ -6,7 +6,7 @@ use Rattle.unix_calls.specs.declared.Event.{Event}
 use Rattle.unix_calls.specs.declared.Rec.{Rec}
 use Rattle.unix_calls.specs.Lawful.{Lawful}
 use Rattle.cluster_wire.specs.Faults.{is_fault_between}
-use Rattle.cluster_counts.specs.Traces.{ReachedSo}
+use Rattle.cluster_wire_laws.specs.Traces.{ReachedSo}
 
 -- the records of a trace, each as its kernel's
 abbrev pub log_of : List Rec → List (ℕ × Event)

@@ -6,11 +6,11 @@ use Rattle.kernel_rpc.specs.Sound.{Wired}
 use Rattle.unix_calls.specs.declared.Description.{Description}
 use Rattle.unix_calls.specs.declared.Rec.{Rec}
 use Rattle.cluster_kernels.specs.declared.State.{State}
-use Rattle.cluster_packets.specs.declared.Choice.{Choice}
-use Rattle.cluster_packets.specs.Acts.{Happens}
+use Rattle.cluster_choices.specs.declared.Choice.{Choice}
+use Rattle.cluster_choices.specs.Acts.{Happens}
 use Rattle.cluster_bursts.specs.declared.Burst.{Burst}
 use Rattle.cluster_bursts.specs.Ends.{Ends}
-use Rattle.cluster_counts.specs.Orders.{records_by}
+use Rattle.cluster_wire_laws.specs.Orders.{records_by}
 
 -- the kernels as a turn begins: nothing is told yet
 abbrev pub begun_turn : State → State

@@ -9,10 +9,10 @@ use Rattle.unix_calls.specs.declared.Event.TheVariants.{Expire}
 use Rattle.unix_calls.specs.declared.Rec.{Rec}
 use Rattle.call_journal.specs.WorthPackets.{deliveries_are_few}
 use Rattle.cluster_wire.specs.Ran.{last_counts, told_of}
-use Rattle.cluster_counts.specs.Asks.{RoseBy, tells_sending}
-use Rattle.cluster_counts.specs.Links.{all_told_by, of_link}
-use Rattle.cluster_counts.specs.Replies.{calls_replied}
-use Rattle.cluster_counts.specs.Traces.{FiresAfterLoss, records_so}
+use Rattle.cluster_wire_laws.specs.Asks.{RoseBy, tells_sending}
+use Rattle.cluster_wire_laws.specs.Links.{all_told_by, of_link}
+use Rattle.cluster_wire_laws.specs.Replies.{calls_replied}
+use Rattle.cluster_wire_laws.specs.Traces.{FiresAfterLoss, records_so}
 
 -- of packets that are sent, faults that they meet, copies that come and timers that fire, a trace tells the acts of a run of the wire, all
 -- of them and in their order; the run begins with no call and with the link's counts before it, and ends with those after it. So few

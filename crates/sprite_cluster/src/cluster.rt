@@ -4,11 +4,11 @@ ghost use Rattle.unix_calls.specs.Lawful.{Lawful};
 ghost use Rattle.kernel_rpc.specs.Machine.{idle};
 ghost use Rattle.link_plan.specs.Counts.{Stay};
 ghost use Rattle.cluster_kernels.specs.Booted.{IsBooted};
-ghost use Rattle.cluster_packets.specs.Choosing.{choices_at};
+ghost use Rattle.cluster_choices.specs.Choosing.{choices_at};
 ghost use Rattle.cluster_bursts.specs.Bursts.{begun_by, has_job_at, job_at, EndsSo};
 ghost use Rattle.sprite_cluster.specs.Finishing.{stands_so};
 ghost use Rattle.sprite_cluster.specs.Logs.{Holds, TellsFaults};
-ghost use Rattle.cluster_counts.specs.Orders.{records_by};
+ghost use Rattle.cluster_wire_laws.specs.Orders.{records_by};
 ghost use Rattle.sprite_cluster.specs.Steps.{begun_turn, EndedSo, Moved};
 ghost use Rattle.sprite_cluster.specs.Wires.{TellsWire};
 
@@ -16,8 +16,8 @@ use crate::finishing::finish;
 use crate::writing::write;
 use call_journal::{Closed, Trace};
 use cluster_bursts::{Burst, Job};
+use cluster_choices::Choice;
 use cluster_kernels::State;
-use cluster_packets::Choice;
 use kernel_rpc::Wire;
 use kernel_threads::EndBurst;
 use link_plan::Link;
@@ -89,7 +89,7 @@ impl<L: Link> Cluster<L> {
         ensures begun { self.new.begun ≡ self.old.begun }
         ensures trace { self.new.trace ≡ self.old.trace }
     {
-        match cluster_packets::choices(alloc, &self.state, &self.wire, kernel) {
+        match cluster_choices::choices(alloc, &self.state, &self.wire, kernel) {
             Ok(choices) => Ok(choices),
             Err(NoMemory) => {
                 self.closed = true;
@@ -109,7 +109,7 @@ impl<L: Link> Cluster<L> {
         ensures begun { self.new.begun ≡ self.old.begun }
     {
         self.state.begin_turn(alloc);
-        let happened = cluster_packets::happen(
+        let happened = cluster_choices::happen(
             alloc,
             &self.description,
             &mut self.state,

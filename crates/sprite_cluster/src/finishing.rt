@@ -1,13 +1,13 @@
 ghost use Rattle.std.specs.Prelude.{◌≡◌, ◌<◌, ◌≤◌, ◌+◌, ◌==◌, IfOk, length, not};
 ghost use Rattle.std.specs.List.{list_all};
 ghost use Rattle.cluster_kernels.specs.Kernels.{has_ended};
-ghost use Rattle.cluster_packets.specs.Choosing.{choices_at};
+ghost use Rattle.cluster_choices.specs.Choosing.{choices_at};
 ghost use Rattle.sprite_cluster.specs.Finishing.{are_busy, finish_of, is_busy, may_go_on};
 
 use call_journal::Trace;
 use cluster_bursts::has_job;
+use cluster_choices::choices;
 use cluster_kernels::{KernelState, State, has_ended};
-use cluster_packets::choices;
 use kernel_rpc::Wire;
 use link_plan::Link;
 use sprite_ids::{Finish, Kernel, NoMemory};

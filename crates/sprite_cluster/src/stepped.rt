@@ -3,7 +3,7 @@ ghost use Rattle.std.specs.Prelude.{◌≡◌};
 use crate::cluster::Cluster;
 use crate::origin::Origin;
 use cluster_bursts::{Burst, Job, run_job};
-use cluster_packets::Choice;
+use cluster_choices::Choice;
 use kernel_threads::{EndBurst, Stepped};
 use link_plan::Link;
 use sprite_ids::{Finish, Items, Kernel, NoMemory};
@@ -31,7 +31,7 @@ impl<L: Link> Book for Cluster<L> {
 
 impl<L: Link> Stepped for Cluster<L> {
     ghost use Rattle.std.specs.Prelude.{◌≡◌, true, length};
-    ghost use Rattle.cluster_packets.specs.Choosing.{choices_at as offered_at};
+    ghost use Rattle.cluster_choices.specs.Choosing.{choices_at as offered_at};
     ghost use Rattle.cluster_bursts.specs.Bursts.{counts as would_count, has_job_at as is_job_at, EndsSo, IsDone};
     ghost use Rattle.sprite_cluster.specs.Finishing.{stands_so};
 

@@ -1,5 +1,5 @@
 ghost use Rattle.std.specs.Prelude.{◌≡◌, ◌++◌, ◌<◌, [], IfOk, OnErr, OnOk, length};
-ghost use Rattle.cluster_counts.specs.Orders.{records_by};
+ghost use Rattle.cluster_wire_laws.specs.Orders.{records_by};
 
 use call_journal::Trace;
 use sprite_ids::{Items, Kernel, NoMemory};

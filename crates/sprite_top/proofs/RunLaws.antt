@@ -8,10 +8,10 @@ use Rattle.sprite_ids.specs.declared.running.Finish.TheVariants as finish
 use Rattle.call_journal.specs.Units.{units_of}
 use Rattle.kernel_rpc.specs.Machine.{Machine, idle}
 use Rattle.cluster_wire.proofs.RanLaws.{none_ran}
-use Rattle.cluster_counts.specs.Asks.{tells_sending}
-use Rattle.cluster_counts.specs.Links.{of_link}
-use Rattle.cluster_counts.specs.Orders.{of_wire}
-use Rattle.cluster_counts.specs.Traces.{records_so}
+use Rattle.cluster_wire_laws.specs.Asks.{tells_sending}
+use Rattle.cluster_wire_laws.specs.Links.{of_link}
+use Rattle.cluster_wire_laws.specs.Orders.{of_wire}
+use Rattle.cluster_wire_laws.specs.Traces.{records_so}
 use Rattle.unix_calls.specs.declared.description.Description.{Description}
 use Rattle.unix_calls.specs.declared.Rec.{Rec}
 use Rattle.unix_calls.specs.Domains.{roots_of}

@@ -3,7 +3,7 @@ use Rattle.std.specs.List.{list_all}
 use Rattle.stream_table.specs.declared.Carried.{Carried}
 use Rattle.stream_table.specs.Owners.{is_used, numbers_of}
 use Rattle.stream_table.specs.Entries.{is_placed}
-use Rattle.client_tables.specs.declared.ClientFiles.{ClientFiles}
+use Rattle.client_file_tables.specs.declared.ClientFiles.{ClientFiles}
 use Rattle.client_files.specs.Arrivals.{are_apart, can_arrive, is_fit}
 use Rattle.client_files.proofs.ArrivalLaws.{apart_once, each_fit, few_of, grants_of, placed_of, test_parts}
 use Rattle.client_files.proofs.arrival.put_streams.Goals as goal

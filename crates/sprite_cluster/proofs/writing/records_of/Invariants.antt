@@ -1,5 +1,5 @@
 use Rattle.std.proofs.Common.{◌≡◌, ◌++◌, length}
-use Rattle.cluster_counts.specs.Orders.{records_by}
+use Rattle.cluster_wire_laws.specs.Orders.{records_by}
 use Rattle.sprite_cluster.proofs.writing.records_of.Given as goal
 
 abbrev pub invariant-told : goal.invariant-told

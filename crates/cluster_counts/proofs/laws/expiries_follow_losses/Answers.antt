@@ -1,5 +1,0 @@
-use Rattle.cluster_counts.proofs.ExpiryLaws.{loss_before}
-use Rattle.cluster_counts.proofs.laws.expiries_follow_losses.Goals as goal
-
-pub returns : goal.returns
-returns g c = loss_before g.L.Link.faults g.L.Link.asked

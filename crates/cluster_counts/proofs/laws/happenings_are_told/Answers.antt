@@ -1,5 +1,0 @@
-use Rattle.cluster_counts.proofs.TurnLaws.{happening_so}
-use Rattle.cluster_counts.proofs.laws.happenings_are_told.Goals as goal
-
-pub returns : goal.returns
-returns g c = happening_so g.L.Link.faults g.L.Link.asked

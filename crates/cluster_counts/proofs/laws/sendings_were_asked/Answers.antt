@@ -1,5 +1,0 @@
-use Rattle.cluster_counts.proofs.TraceLaws.{sendings_asked}
-use Rattle.cluster_counts.proofs.laws.sendings_were_asked.Goals as goal
-
-pub returns : goal.returns
-returns g c = sendings_asked g.L.Link.faults g.L.Link.asked
