@@ -10,6 +10,7 @@ use Rattle.file_views.specs.Steps.{after}
 use Rattle.file_views.specs.Possible.{possible, stepped, played}
 use Rattle.file_views.specs.Settled.{stands_for}
 use Rattle.file_views.specs.Entries.{entered, bytes_entered, bytes_after_all, is_right, are_right}
+use Rattle.file_views.specs.Waits.{defers}
 use Rattle.file_views.specs.Coherent.{coherent}
 use Rattle.file_views.specs.Plays.{bytes_played, stays_coherent}
 use Rattle.file_views.specs.Sound.{Sound}
@@ -39,10 +40,10 @@ right_join z bytes (one ∷ first) rest e f = and_from (is_right z bytes one.ste
 pub right_all : (z : Setting) (v : View) (bytes : List ℕ) (steps : List FileStep) → stays_coherent z v bytes steps ≡ true → are_right z bytes (all_entered z v steps) ≡ true
 right_all z v bytes [] e = refl
 right_all z v bytes (step ∷ rest) e =
-    let behind : (are_right z bytes (entered z v step) && stays_coherent z (stepped z v step) (bytes_after_all z bytes (entered z v step)) rest) ≡ true = (and_parts (coherent z v bytes) _ e).1 in
+    let behind : (are_right z bytes (entered z v step) && (defers z v step && stays_coherent z (stepped z v step) (bytes_after_all z bytes (entered z v step)) rest)) ≡ true = (and_parts (coherent z v bytes) _ e).1 in
     right_join z bytes (entered z v step) (all_entered z (stepped z v step) rest)
     (and_parts (are_right z bytes (entered z v step)) _ behind).0
-    (right_all z (stepped z v step) (bytes_after_all z bytes (entered z v step)) rest (and_parts (are_right z bytes (entered z v step)) _ behind).1)
+    (right_all z (stepped z v step) (bytes_after_all z bytes (entered z v step)) rest (and_parts (defers z v step) _ (and_parts (are_right z bytes (entered z v step)) _ behind).1).1)
 
 one_more : (steps : List FileStep) (i : ℕ) (step : FileStep) → i < length steps → step ≡ get_or steps i step → take i steps ++ step ∷ [] ≡ take (i + 1) steps
 one_more steps i step lt is = ap (λ (s : FileStep). take i steps ++ s ∷ []) is ∙ sym (take_more steps i step lt)

@@ -79,8 +79,10 @@ impl OneFile {
     ///
     /// The bytes that the file stands for are the old ones as the writings, the appends that fit and the opens with truncation
     /// changed them in that order, each reading has the bytes of its moment, and an append is refused exactly where it would
-    /// pass the limit. The file is coherent before and after each step. After want of memory, the one error, some first ones of
-    /// the steps are done, and the file is coherent too. One file has no paths and no descriptors, so none are told.
+    /// pass the limit. The file is coherent before and after each step. While a callback that is out before a step is out after it
+    /// too, nothing takes effect at the server in it: no operation is done there, and no open is granted. After want of memory,
+    /// the one error, some first ones of the steps are done, and the file is coherent too. One file has no paths and no
+    /// descriptors, so none are told.
     pub fn play(&mut self, alloc: Global, steps: &[FileStep]) -> Result<Items<Entered>, NoMemory>
         ensures view { OnOk result (self.new ≡ played sprite_setting self.old steps.now) }
         ensures entered { IfOk result (λ noted. noted ≡ all_entered sprite_setting self.old steps.now) }

@@ -19,7 +19,9 @@ use Rattle.file_views.specs.Streams.{same_stream, has_stream, has_open, is_any}
 use Rattle.file_views.specs.Clients.{new_client, is_on, mode_of, granted, pieces}
 use Rattle.file_views.specs.Views.{kernels, client, current_stamp, mode_given, is_kernel, is_callback, busy, things}
 use Rattle.file_views.specs.Settled.{goes_to, arrival, Due, GrantComes, CallComes, due_stamp, due_grant, due_call, due_of, inserted, in_order, dues_in, dues, take_due, take_all, settled_client, Kept, stored, stored_reply, stored_answers, stored_due, stored_dues, stored_clients, settled, is_trusted}
-use Rattle.file_views.specs.Coherent.{implies, works_cached, counts_dirty, is_other, writes_alone, same_mode, stamps_agree, nobody_trusted, part_3, part_4, part_6}
+use Rattle.file_views.specs.Same.{same_mode}
+use Rattle.file_views.specs.Waits.{implies}
+use Rattle.file_views.specs.Coherent.{works_cached, counts_dirty, is_other, writes_alone, stamps_agree, nobody_trusted, part_3, part_4, part_6}
 use Rattle.file_views.specs.Here.{In, IsClient, Arrives}
 use Rattle.file_views.specs.SoundModes.{GrantWith, CallbackWith}
 use Rattle.file_views.specs.LayerLaw.{Layers}

@@ -5,20 +5,22 @@ use Rattle.file_views.specs.declared.step.FileStep.{FileStep}
 use Rattle.file_views.specs.declared.view.View.{View}
 use Rattle.file_views.specs.declared.entered.Entered.{Entered}
 use Rattle.file_views.specs.Setting.{Setting}
-use Rattle.file_views.specs.Views.{new_view, busy}
+use Rattle.file_views.specs.Views.{new_view}
 use Rattle.file_views.specs.Possible.{stepped}
 use Rattle.file_views.specs.Moves.{may_move, after_move, enters_move}
 use Rattle.file_views.specs.Entries.{entered, bytes_entered, bytes_after_all, is_right, are_right}
 use Rattle.file_views.specs.Settled.{stands_for}
+use Rattle.file_views.specs.Waits.{defers}
 use Rattle.file_views.specs.Coherent.{coherent}
 use Rattle.file_views.specs.Plays.{stays_coherent}
 use Rattle.file_views.specs.SoundContents.{StandsFor}
 use Rattle.file_views.specs.LayerLaw.{Happening, Step, Move, happened, all_happened, Layers}
-use Rattle.file_views.specs.BytesLaw.{entered_by, bytes_happened, always_coherent}
+use Rattle.file_views.specs.BytesLaw.{entered_by, bytes_happened, defers_by, always_coherent}
 use Rattle.file_views.proofs.WorkLaws.{noted, choose_two}
 use Rattle.file_views.proofs.ContentViewLaws.{Noted, note, Has}
 use Rattle.file_views.proofs.ContentPartLaws.{nothing_yet, stands_at, new_stands_at, steps_change_bytes, moves_change_bytes}
-use Rattle.file_views.proofs.LayerLaws.{layers_happened, layers_stay, waits_so}
+use Rattle.file_views.proofs.LayerLaws.{layers_happened, layers_stay, part_7_by}
+use Rattle.file_views.proofs.DeferLaws.{steps_defer, happenings_defer}
 use Rattle.file_views.proofs.SettledLaws.{stands_is, coherent_by}
 
 -- what was noted is the bytes after all of it, and whether all of it was right
@@ -48,7 +50,7 @@ pub stood_at : (z : Setting) (bytes : List ℕ) (v : View) → 0 < z.block → S
 stood_at z bytes v p a = stands_is z v a.layers p a.stands ∙ a.is
 
 pub coherent_at : (z : Setting) (bytes : List ℕ) (v : View) → 0 < z.block → StandsAt z bytes v → coherent z v bytes ≡ true
-coherent_at z bytes v p a = subst (λ xs. coherent z v xs ≡ true) a.is (coherent_by z v a.layers (waits_so z v a.layers (busy v) refl) p a.stands)
+coherent_at z bytes v p a = subst (λ xs. coherent z v xs ≡ true) a.is (coherent_by z v a.layers (part_7_by z v a.layers) p a.stands)
 
 -- after what entered
 abbrev pub Enters : Setting → List ℕ → List Entered → View → Type 0
@@ -74,13 +76,15 @@ pub always_by : (z : Setting) (happenings : List Happening) (bytes : List ℕ) (
 always_by z [] bytes v p a = coherent_at z bytes v p a
 always_by z (one ∷ rest) bytes v p a =
     let e : Enters z bytes (entered_by z v one) (happened z v one) = enters_by z bytes v one p a in
-    and_from (coherent z v bytes) _ (coherent_at z bytes v p a) (and_from (are_right z bytes (entered_by z v one)) _ e.0 (always_by z rest (bytes_after_all z bytes (entered_by z v one)) (happened z v one) p e.1))
+    and_from (coherent z v bytes) _ (coherent_at z bytes v p a) (and_from (are_right z bytes (entered_by z v one)) _ e.0
+    (and_from (defers_by z v one) _ (happenings_defer z v one a.layers.shapes) (always_by z rest (bytes_after_all z bytes (entered_by z v one)) (happened z v one) p e.1)))
 
 pub stays_by : (z : Setting) (steps : List FileStep) (bytes : List ℕ) (v : View) → 0 < z.block → StandsAt z bytes v → stays_coherent z v bytes steps ≡ true
 stays_by z [] bytes v p a = coherent_at z bytes v p a
 stays_by z (step ∷ rest) bytes v p a =
     let e : Enters z bytes (entered z v step) (stepped z v step) = enters_by z bytes v (Step step) p a in
-    and_from (coherent z v bytes) _ (coherent_at z bytes v p a) (and_from (are_right z bytes (entered z v step)) _ e.0 (stays_by z rest (bytes_after_all z bytes (entered z v step)) (stepped z v step) p e.1))
+    and_from (coherent z v bytes) _ (coherent_at z bytes v p a) (and_from (are_right z bytes (entered z v step)) _ e.0
+    (and_from (defers z v step) _ (steps_defer z v step a.layers.shapes) (stays_by z rest (bytes_after_all z bytes (entered z v step)) (stepped z v step) p e.1)))
 
 -- a new file
 pub new_stands : (z : Setting) (count : ℕ) (bytes : List ℕ) → 1 ≤ count → count ≤ 15 → StandsAt z bytes (new_view count bytes)

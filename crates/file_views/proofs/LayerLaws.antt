@@ -1,7 +1,7 @@
 -- The first eight layers of soundness together, after any steps and moves of clients.
 use Rattle.std.proofs.Common.{◌≡◌, ◌≤◌, ◌<◌, ℕ, ◌-◌, Bool, true, false, not, List, [], ◌∷◌, length, refl, ap, ◌∙◌, subst, inl, inr}
 use Rattle.std.specs.List.{list_any}
-use Rattle.std.proofs.lemmas.Bool.{and_parts}
+use Rattle.std.proofs.lemmas.Bool.{and_parts, and_from}
 use Rattle.sprite_ids.specs.declared.CallKind.TheVariants.{Recall, Stop}
 use Rattle.file_views.specs.declared.body.FileBody.{FileBody}
 use Rattle.file_views.specs.declared.body.FileBody.TheVariants as form
@@ -13,7 +13,9 @@ use Rattle.file_views.specs.Streams.{is_any}
 use Rattle.file_views.specs.Clients.{is_on}
 use Rattle.file_views.specs.Views.{new_view, mode_given, is_callback, busy, waiting_calls}
 use Rattle.file_views.specs.Moves.{none_on, may_move, after_move}
-use Rattle.file_views.specs.Coherent.{implies, first_asks, asking_waits}
+use Rattle.file_views.specs.Waits.{implies, defers_all}
+use Rattle.file_views.proofs.DeferLaws.{all_defer}
+use Rattle.file_views.specs.Coherent.{first_asks, asking_waits, part_7}
 use Rattle.file_views.specs.Here.{IsClient}
 use Rattle.file_views.specs.SoundShapes.{Ends}
 use Rattle.file_views.specs.SoundContents.{StandsFor}
@@ -146,9 +148,9 @@ pub contents_together : (z : Setting) (count : ℕ) (bytes : List ℕ) (happenin
 contents_together z count bytes happenings low high p = contents_all z happenings (new_view count bytes) p (layers_stay z count bytes [] low high) (new_has_contents z count bytes)
 
 -- while callbacks are out what asked waits
-pub waits_so : (z : Setting) (v : View) → Layers z v → (b : Bool) → busy v ≡ b → asking_waits v ≡ true
+waits_so : (z : Setting) (v : View) → Layers z v → (b : Bool) → busy v ≡ b → asking_waits v ≡ true
 waits_so z v l true e = ap (λ b. implies b (first_asks (waiting_calls v))) e ∙ l.decisions.queued.asks e
 waits_so z v l false e = ap (λ b. implies b (first_asks (waiting_calls v))) e
 
-pub waits_stay : (z : Setting) (count : ℕ) (bytes : List ℕ) (happenings : List Happening) → 1 ≤ count → count ≤ 15 → asking_waits (all_happened z (new_view count bytes) happenings) ≡ true
-waits_stay z count bytes happenings low high = let v : View = all_happened z (new_view count bytes) happenings in waits_so z v (layers_stay z count bytes happenings low high) (busy v) refl
+pub part_7_by : (z : Setting) (v : View) → Layers z v → part_7 z v ≡ true
+part_7_by z v l = and_from (asking_waits v) (defers_all z v) (waits_so z v l (busy v) refl) (all_defer z v l.shapes)

@@ -38,6 +38,7 @@ pub mod HolderCallLaws
 pub mod HolderServeLaws
 pub mod HolderDataLaws
 pub mod HolderStepLaws
+pub mod DeferLaws
 pub mod LayerLaws
 pub mod CoherentLaws
 pub mod AskingLaws
@@ -46,6 +47,7 @@ pub mod AskingDataLaws
 pub mod AskingMoveLaws
 pub mod BlockLaws
 pub mod TrustLaws
+pub mod SameLaws
 pub mod WayLaws
 pub mod WorkLaws
 pub mod PartLaws

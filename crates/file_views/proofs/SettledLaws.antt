@@ -35,9 +35,10 @@ use Rattle.file_views.proofs.SizeServeLaws.{flush_called}
 use Rattle.file_views.proofs.SizeMoveLaws.{Full, full_of}
 use Rattle.file_views.proofs.ContentViewLaws.{flushed_target}
 use Rattle.file_views.proofs.ContentMoveLaws.{leans_of}
-use Rattle.file_views.specs.Coherent.{stands, part_2, part_3, part_4, part_5, part_6, asking_waits, coherent}
+use Rattle.file_views.specs.Coherent.{stands, part_2, part_3, part_4, part_5, part_6, part_7, coherent}
 use Rattle.file_views.proofs.CoherentLaws.{settled_is, settled_holder, part_3_by, part_4_by, part_6_by}
-use Rattle.file_views.proofs.WayLaws.{bytes_same, part_5_by}
+use Rattle.file_views.proofs.SameLaws.{bytes_same}
+use Rattle.file_views.proofs.WayLaws.{part_5_by}
 use Rattle.file_views.proofs.TrustLaws.{GrantFrom, grant_from, part_2_by}
 use Rattle.file_views.proofs.PresentLaws.{FirstFlush, NoneFlushed, flush_found, grown_full, over_store, present_by}
 
@@ -416,7 +417,7 @@ stands_is z v l p f = elim (flush_found z v.bytes v.calls) [ inl n ↦ unflushed
         by_holder (Some k) q = by_blocks k q (dirty_blocks (client v k).blocks) refl
 
 -- all seven parts
-pub coherent_by : (z : Setting) (v : View) → Layers z v → asking_waits v ≡ true → 0 < z.block → (f : StandsFor z v) → coherent z v f.stood ≡ true
+pub coherent_by : (z : Setting) (v : View) → Layers z v → part_7 z v ≡ true → 0 < z.block → (f : StandsFor z v) → coherent z v f.stood ≡ true
 coherent_by z v l w p f = and_from (stands z v f.stood) _ (bytes_same (stands_for z v) f.stood (stands_is z v l p f))
     (and_from (part_2 z v f.stood) _ (part_2_by z v l f)
     (and_from (part_3 z v) _ (part_3_by z v l)

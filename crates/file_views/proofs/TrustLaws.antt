@@ -20,7 +20,8 @@ use Rattle.file_views.proofs.StampLaws.{own_stamp, FlatStamps}
 use Rattle.file_views.proofs.SizeMoveLaws.{Full, full_of}
 use Rattle.file_views.proofs.ContentLaws.{GoodBlocks, KeptBy, KeptNow}
 use Rattle.file_views.proofs.ContentViewLaws.{Con}
-use Rattle.file_views.specs.Coherent.{implies, works_cached, are_parts, blocks_are_good, part_2}
+use Rattle.file_views.specs.Waits.{implies}
+use Rattle.file_views.specs.Coherent.{works_cached, are_parts, blocks_are_good, part_2}
 use Rattle.file_views.specs.LayerLaw.{Layers}
 use Rattle.file_views.proofs.CoherentLaws.{all_by, implies_by, in_inserted, ordered_in, in_ordered, dues_there, grant_of_call, dues_from, DueFrom, in_due_grant, settled_is, some_stream}
 use Rattle.file_views.proofs.ContentPartLaws.{con_of}
@@ -34,7 +35,7 @@ use Rattle.file_views.proofs.HolderLaws.{seat}
 use Rattle.file_views.proofs.CountLaws.{bool_cases}
 use Rattle.sprite_ids.specs.declared.CallKind.{CallKind}
 use Rattle.sprite_ids.specs.declared.CallKind.TheVariants.{Recall, Stop}
-use Rattle.file_views.proofs.WayLaws.{bytes_same}
+use Rattle.file_views.proofs.SameLaws.{bytes_same}
 
 -- what is due stands in order of stamps
 abbrev pub Sorted : List Due → Type 0

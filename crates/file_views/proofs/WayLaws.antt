@@ -31,29 +31,20 @@ use Rattle.file_views.proofs.SizeMoveLaws.{Full, full_of}
 use Rattle.file_views.proofs.ContentLaws.{CarriedCall}
 use Rattle.file_views.proofs.ContentViewLaws.{Con}
 use Rattle.std.specs.List.{list_all}
-use Rattle.file_views.specs.Coherent.{same_mode, is_done, is_again, fetches_part, carries_block, reply_in, leaves_all, old_leaves_all, same_blocks, same_cache, old_is_nothing, again_grant, old_block_is_nothing, is_good_request, requests_are_good, old_grants_are_nothing, part_5}
+use Rattle.std.specs.Cmp.Lexicographic.{pointwise}
+use Rattle.file_views.specs.Coherent.{is_done, is_again, fetches_part, carries_block, reply_in, leaves_all, old_leaves_all, same_cache, old_is_nothing, again_grant, old_block_is_nothing, is_good_request, requests_are_good, old_grants_are_nothing, part_5}
 use Rattle.file_views.specs.LayerLaw.{Layers}
 use Rattle.file_views.proofs.OpenLaws.{OpenAt}
 use Rattle.file_views.proofs.StampChangeLaws.{NoCall, no_call_thing}
 use Rattle.file_views.proofs.HolderSettleLaws.{holder_is}
+use Rattle.file_views.specs.Same.{same_mode, same_held, same_but_calls}
+use Rattle.file_views.proofs.SameLaws.{bytes_same, blocks_self, view_self}
 use Rattle.file_views.proofs.CoherentLaws.{all_by, same_mode_by, implies_by}
 use Rattle.file_views.proofs.ContentServeLaws.{waiting_open}
 use Rattle.file_views.proofs.ContentPartLaws.{con_of}
 
--- lists of bytes, blocks and clients are themselves
-bytes_self : (xs : List ℕ) → same_bytes xs xs ≡ true
-bytes_self [] = refl
-bytes_self (x ∷ xs) = and_from (x == x) (same_bytes xs xs) (eq-eqb x x refl) (bytes_self xs)
-
-pub bytes_same : (xs ys : List ℕ) → xs ≡ ys → same_bytes xs ys ≡ true
-bytes_same xs ys e = subst (λ zs. same_bytes xs zs ≡ true) e (bytes_self xs)
-
-blocks_self : (xs : List Held) → same_blocks xs xs ≡ true
-blocks_self [] = refl
-blocks_self (x ∷ xs) = and_from (x.block.0 == x.block.0) _ (eq-eqb x.block.0 x.block.0 refl) (and_from (same_bytes x.bytes x.bytes) (same_blocks xs xs) (bytes_self x.bytes) (blocks_self xs))
-
 cache_self : (c : Client) → same_cache c c ≡ true
-cache_self c = and_from (same_blocks c.blocks c.blocks) (same_mode c.mode c.mode) (blocks_self c.blocks) (same_mode_by c.mode c.mode refl)
+cache_self c = and_from (pointwise same_held c.blocks c.blocks) (same_mode c.mode c.mode) (blocks_self c.blocks) (same_mode_by c.mode c.mode refl)
 
 or_by : (a b : Bool) → (a ≡ false → b ≡ true) → (a || b) ≡ true
 or_by true b f = refl
@@ -86,8 +77,8 @@ answered_found new (c ∷ rest) one m e = by_test (c.number == new.number) refl 
     ]
 
 leaves : (z : Setting) (v : View) (one : FileCall) → In one v.calls → serve z v one ≡ refuse_old v one → leaves_all z v one ≡ true
-leaves z v one m e = subst (λ (w : View). (is_again (reply_in (find_call w.calls one.number)) && (same_bytes w.bytes v.bytes && (w.version == v.version))) ≡ true) (sym e)
-    (and_from (is_again (reply_in (find_call (refuse_old v one).calls one.number))) _ (ap (λ o. is_again (reply_in o)) (answered_found (replied one (form.Again (current_grant v one.from))) v.calls one m refl)) (and_from (same_bytes v.bytes v.bytes) _ (bytes_self v.bytes) (eq-eqb v.version v.version refl)))
+leaves z v one m e = subst (λ (w : View). (is_again (reply_in (find_call w.calls one.number)) && same_but_calls w v) ≡ true) (sym e)
+    (and_from (is_again (reply_in (find_call (refuse_old v one).calls one.number))) _ (ap (λ o. is_again (reply_in o)) (answered_found (replied one (form.Again (current_grant v one.from))) v.calls one m refl)) (view_self v))
 
 old_leaves : (z : Setting) (v : View) (one : FileCall) → In one v.calls → serve z v one ≡ refuse_old v one → old_leaves_all z v one ≡ true
 old_leaves z v one m e = or_by (busy v) _ (λ q. or_by (is_some one.reply) _ (λ r. leaves z v one m e))

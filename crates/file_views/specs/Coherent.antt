@@ -1,9 +1,8 @@
 -- When a view is coherent with the bytes that it should stand for.
 use Rattle.std.specs.Prelude.{ℕ, ◌==◌, nat_le, nat_lt, Bool, true, false, ◌&&◌, ◌||◌, not, is_some, if◌then◌else◌, List, [], ◌∷◌, length, Option, Some, None}
 use Rattle.std.specs.List.{list_any, list_all}
+use Rattle.std.specs.Cmp.Lexicographic.{pointwise}
 use Rattle.sprite_ids.specs.declared.BlockNo.{BlockNo}
-use Rattle.sprite_ids.specs.declared.CacheMode.{CacheMode}
-use Rattle.sprite_ids.specs.declared.CacheMode.TheVariants as cache
 use Rattle.file_views.specs.declared.grant.FileGrant.{FileGrant}
 use Rattle.file_views.specs.declared.body.FileBody.{FileBody}
 use Rattle.file_views.specs.declared.body.FileBody.TheVariants as form
@@ -18,12 +17,9 @@ use Rattle.file_views.specs.Clients.{is_on, held, same_number, dirty_blocks, tak
 use Rattle.file_views.specs.Views.{client, kernels, current_stamp, mode_given, find_call, things, busy, waiting_calls}
 use Rattle.file_views.specs.Grants.{asks}
 use Rattle.file_views.specs.Serving.{serve}
+use Rattle.file_views.specs.Same.{same_mode, same_held, same_but_calls}
+use Rattle.file_views.specs.Waits.{implies, defers_all}
 use Rattle.file_views.specs.Settled.{due_stamp, goes_to, arrival, dues, settled, stands_for, is_trusted}
-
--- whether a rule follows from another
-abbrev pub implies : Bool → Bool → Bool
-implies true two = two
-implies false two = true
 
 -- 1. the view stands for the bytes
 abbrev pub stands : Setting → View → List ℕ → Bool
@@ -57,13 +53,6 @@ is_other kernel None = true
 -- 3. while the holder has dirty blocks that count, no other kernel with a stream installed uses its cache
 abbrev pub writes_alone : Setting → View → ℕ → Bool
 writes_alone z v kernel = implies (counts_dirty (settled z v) (settled z v).holder && is_other kernel (settled z v).holder) (not (works_cached (client v kernel)))
-
--- whether two modes are one
-abbrev pub same_mode : CacheMode → CacheMode → Bool
-same_mode cache.On cache.On = true
-same_mode cache.Off cache.Off = true
-same_mode cache.None cache.None = true
-same_mode mode other = false
 
 -- 4. a kernel's stamp is at most its current one, and less only while a grant or callback with that one is on its way; with
 -- equal stamps the modes agree
@@ -99,21 +88,16 @@ abbrev pub reply_in : Option FileCall → Option FileBody
 reply_in (Some one) = one.reply
 reply_in None = None
 
--- whether a request with an old stamp changes nothing when it is taken up
+-- whether a request with an old stamp changes nothing but the calls when it is taken up
 abbrev pub leaves_all : Setting → View → FileCall → Bool
-leaves_all z v one = is_again (reply_in (find_call (serve z v one).calls one.number)) && (same_bytes (serve z v one).bytes v.bytes && ((serve z v one).version == v.version))
+leaves_all z v one = is_again (reply_in (find_call (serve z v one).calls one.number)) && same_but_calls (serve z v one) v
 
 abbrev pub old_leaves_all : Setting → View → FileCall → Bool
 old_leaves_all z v one = busy v || (is_some one.reply || leaves_all z v one)
 
--- whether two clients have the same blocks, by number and bytes, and the same mode
-abbrev pub same_blocks : List Held → List Held → Bool
-same_blocks [] [] = true
-same_blocks (one ∷ rest) (other ∷ others) = (one.block.0 == other.block.0) && (same_bytes one.bytes other.bytes && same_blocks rest others)
-same_blocks blocks others = false
-
+-- whether two clients have the same blocks and the same mode
 abbrev pub same_cache : Client → Client → Bool
-same_cache c other = same_blocks c.blocks other.blocks && same_mode c.mode other.mode
+same_cache c other = pointwise same_held c.blocks other.blocks && same_mode c.mode other.mode
 
 -- whether a grant with an older stamp changes no block and no mode
 abbrev pub old_is_nothing : Client → Option FileGrant → Bool
@@ -152,7 +136,8 @@ abbrev pub first_asks : List FileCall → Bool
 first_asks [] = false
 first_asks (one ∷ rest) = asks one.body
 
--- 7. while callbacks are out, what asked waits, first of all that wait: it isn't granted, and no operation enters
+-- 7. while callbacks are out, what asked waits, first of all that wait, so it isn't granted; and whatever comes, no operation enters
+-- at the server while one of them stays out, and no open is granted
 abbrev pub asking_waits : View → Bool
 asking_waits v = implies (busy v) (first_asks (waiting_calls v))
 
@@ -172,6 +157,9 @@ part_5 z v bytes = list_all (requests_are_good z v bytes) v.calls && list_all (o
 abbrev pub part_6 : Setting → View → Bool
 part_6 z v = list_all (nobody_trusted z v) (kernels v)
 
+abbrev pub part_7 : Setting → View → Bool
+part_7 z v = asking_waits v && defers_all z v
+
 -- whether the view is coherent with the bytes
 abbrev pub coherent : Setting → View → List ℕ → Bool
-coherent z v bytes = stands z v bytes && (part_2 z v bytes && (part_3 z v && (part_4 v && (part_5 z v bytes && (part_6 z v && asking_waits v)))))
+coherent z v bytes = stands z v bytes && (part_2 z v bytes && (part_3 z v && (part_4 v && (part_5 z v bytes && (part_6 z v && part_7 z v)))))

@@ -13,7 +13,7 @@ use Rattle.file_views.specs.Here.{In}
 use Rattle.file_views.specs.Possible.{stepped}
 use Rattle.file_views.specs.Moves.{may_move, after_move}
 use Rattle.file_views.specs.Settled.{stands_for}
-use Rattle.file_views.specs.Coherent.{part_2, part_3, part_4, part_5, part_6, asking_waits, coherent}
+use Rattle.file_views.specs.Coherent.{part_2, part_3, part_4, part_5, part_6, part_7, coherent}
 use Rattle.file_views.specs.SoundShapes.{Shapes}
 use Rattle.file_views.specs.SoundStreams.{Streams}
 use Rattle.file_views.specs.SoundStamps.{Stamps}
@@ -64,7 +64,7 @@ pub record PartsStay : Type 0 where
   pub alone : (z : Setting) (count : ℕ) (bytes : List ℕ) (happenings : List Happening) → 1 ≤ count → count ≤ 15 → part_3 z (all_happened z (new_view count bytes) happenings) ≡ true
   pub stamps : (z : Setting) (count : ℕ) (bytes : List ℕ) (happenings : List Happening) → 1 ≤ count → count ≤ 15 → part_4 (all_happened z (new_view count bytes) happenings) ≡ true
   pub nobody : (z : Setting) (count : ℕ) (bytes : List ℕ) (happenings : List Happening) → 1 ≤ count → count ≤ 15 → part_6 z (all_happened z (new_view count bytes) happenings) ≡ true
-  pub waits : (z : Setting) (count : ℕ) (bytes : List ℕ) (happenings : List Happening) → 1 ≤ count → count ≤ 15 → asking_waits (all_happened z (new_view count bytes) happenings) ≡ true
+  pub waits : (z : Setting) (count : ℕ) (bytes : List ℕ) (happenings : List Happening) → 1 ≤ count → count ≤ 15 → part_7 z (all_happened z (new_view count bytes) happenings) ≡ true
   pub cached : (z : Setting) (count : ℕ) (bytes : List ℕ) (happenings : List Happening) → 1 ≤ count → count ≤ 15 → (f : StandsFor z (all_happened z (new_view count bytes) happenings)) → part_2 z (all_happened z (new_view count bytes) happenings) f.stood ≡ true
   pub on_the_way : (z : Setting) (count : ℕ) (bytes : List ℕ) (happenings : List Happening) → 1 ≤ count → count ≤ 15 → (f : StandsFor z (all_happened z (new_view count bytes) happenings)) → part_5 z (all_happened z (new_view count bytes) happenings) f.stood ≡ true
 

@@ -11,6 +11,8 @@ pub mod Possible
 pub mod Entries
 pub mod Moves
 pub mod Settled
+pub mod Same
+pub mod Waits
 pub mod Coherent
 pub mod Here
 pub mod SoundShapes

@@ -11,7 +11,7 @@ use Rattle.file_views.specs.Possible.{played}
 use Rattle.file_views.specs.Plays.{bytes_played, stays_coherent}
 use Rattle.file_views.specs.Sound.{Sound}
 use Rattle.file_views.specs.LayerLaw.{Happening, happened}
-use Rattle.file_views.specs.BytesLaw.{entered_by}
+use Rattle.file_views.specs.BytesLaw.{entered_by, defers_by}
 
 pub record SoundStays : Type 0 where
   -- a new file is sound, and stands for its bytes
@@ -23,7 +23,9 @@ pub record SoundStays : Type 0 where
   pub stays : (z : Setting) (v : View) (one : Happening) → 0 < z.block → Sound z v → Sound z (happened z v one)
   pub changes : (z : Setting) (v : View) (one : Happening) → 0 < z.block → Sound z v → stands_for z (happened z v one) ≡ bytes_after_all z (stands_for z v) (entered_by z v one)
   pub right : (z : Setting) (v : View) (one : Happening) → 0 < z.block → Sound z v → are_right z (stands_for z v) (entered_by z v one) ≡ true
-  -- steps in a row: coherent before and after each, and all that enters is right
+  -- while a callback stays out, no operation enters at the server and no open is granted
+  pub defers : (z : Setting) (v : View) (one : Happening) → Sound z v → defers_by z v one ≡ true
+  -- steps in a row: coherent before and after each, all that enters is right, and nothing takes effect at the server while a callback stays out
   pub played_sound : (z : Setting) (v : View) (steps : List FileStep) → 0 < z.block → Sound z v → Sound z (played z v steps)
   pub played_bytes : (z : Setting) (v : View) (steps : List FileStep) → 0 < z.block → Sound z v → stands_for z (played z v steps) ≡ bytes_played z v (stands_for z v) steps
   pub played_whole : (z : Setting) (v : View) (steps : List FileStep) → 0 < z.block → Sound z v → stays_coherent z v (stands_for z v) steps ≡ true

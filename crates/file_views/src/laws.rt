@@ -74,7 +74,8 @@ pub fn layers_stay()
 /// A law: after any list of steps and of moves of clients, from a new file with one to fifteen clients on, six of the seven parts of
 /// coherence hold. While the holder has dirty blocks that count, no other client with a stream uses its cache. A client's stamp is
 /// at most its current one, and less only while that is on its way to it, and with equal stamps the modes agree. While the file is
-/// uncached and no callback is out, nobody is trusted with cached blocks. While callbacks are out, what asked waits, first of all.
+/// uncached and no callback is out, nobody is trusted with cached blocks. While callbacks are out, what asked waits, first of all, and
+/// whatever comes, no operation enters at the server while one of them stays out, and no open is granted.
 /// And with the bytes that the view stands for, the blocks of who is trusted once what is due has come, and of who uses its cache and has
 /// a stream, are their parts, and the latter's size is theirs; and what is on its way is right: a fetch with the current stamp has, or will have, its part
 /// of them, a write-back carries its block and once it is done the server has it, and what is older changes nothing.
@@ -100,9 +101,10 @@ pub fn bytes_stay()
 {}
 
 /// A law over any sound view, reached or not, where a block has at least one byte: it is coherent with the bytes that it stands for;
-/// each step and each move of a client leads to a sound view, whose bytes are the old ones changed by what enters; and all that
-/// enters is right. So it is for steps in a row, whose bytes are the first ones as all that entered changed them. A new file with one to
-/// fifteen clients that isn't longer than a file may be is sound, and stands for its bytes.
+/// each step and each move of a client leads to a sound view, whose bytes are the old ones changed by what enters; all that
+/// enters is right, and nothing enters at the server while a callback that is out stays out. So it is for steps in a row, whose bytes
+/// are the first ones as all that entered changed them. A new file with one to fifteen clients that isn't longer than a file may be
+/// is sound, and stands for its bytes.
 pub fn sound_stays()
     ensures { SoundStays }
 {}
