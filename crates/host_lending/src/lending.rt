@@ -164,16 +164,25 @@ impl Lending {
         most
     }
 
+    // Whether the kernel of that host is another than the borrower, and holds so many.
+    fn is_rich(&self, host: &Host, borrower: Kernel, most: usize) -> bool
+        ensures { result ≡ is_rich self.now borrower most host.now }
+    {
+        host.number != borrower && self.count_held(host.number) == most
+    }
+
     // The least kernel other than the borrower that holds so many.
     fn first_rich(&self, borrower: Kernel, most: usize) -> Option<Kernel>
         ensures { result ≡ number_of (find (is_rich self.now borrower most) self.now) }
     {
-        for host in &self.hosts {
-            if host.number != borrower && self.count_held(host.number) == most {
-                return Some(host.number);
-            }
+        match self
+            .hosts
+            .iter()
+            .find(|host| self.is_rich(host, borrower, most))
+        {
+            Some(host) => Some(host.number),
+            None => None,
         }
-        None
     }
 
     // The greatest host that `from` holds and that isn't the borrower.
