@@ -42,6 +42,12 @@ abbrev pub is_first_sending : Past → ℕ → ℕ → ℕ → Option About → 
 is_first_sending past kernel tx to about kind =
     list_all (λ (r : Rec). is_other_receiver kernel tx to about kind r.kernel r.event) past.records
 
+-- an operation and a broadcast go for the sake of a call; any other request may go for that of none
+abbrev pub is_for_a_call : SendKind → Option About → Bool
+is_for_a_call (send.Op file) about = is_some about
+is_for_a_call (send.Broadcast prefix) about = is_some about
+is_for_a_call _ about = true
+
 -- the number of a process's last issue; 0 before the first
 abbrev pub issue_number : ℕ → Event → ℕ → ℕ
 issue_number pid (event.Issue p n call) before = if p == pid then n else before
@@ -69,7 +75,7 @@ is_told_about past sender (Some about) None = is_carried past sender about
 -- what a delivery is about, by the kind of its sending: an operation is about the call of the sending; a block that is fetched or
 -- written back, and a broadcast, are about none
 abbrev pub about_agrees : Past → ℕ → SendKind → Option About → Option About → Bool
-about_agrees past sender (send.Op file) about sent = is_some sent && same_about about sent
+about_agrees past sender (send.Op file) about sent = same_about about sent
 about_agrees past sender send.Other about sent = is_told_about past sender about sent
 about_agrees past sender _ about sent = not (is_some about)
 
@@ -207,7 +213,8 @@ opens_well c past kernel entry (Some stream) = is_entered_well c past kernel ent
 
 -- a record is written as it should be
 abbrev pub is_written_well : Description → Past → ℕ → Event → List Rec → Bool
-is_written_well c past kernel (event.Send tx to about kind) rest = is_first_sending past kernel tx.0 to about kind
+is_written_well c past kernel (event.Send tx to about kind) rest =
+    is_for_a_call kind about && is_first_sending past kernel tx.0 to about kind
 is_written_well c past kernel (event.Deliver tx from reply about) rest = is_delivered_well past kernel tx.0 from reply about
 is_written_well c past kernel (event.Expire tx last) rest = list_any (is_at kernel (is_send tx.0)) past.records
 is_written_well c past kernel (event.Fault a b met) rest = not (is_once met)

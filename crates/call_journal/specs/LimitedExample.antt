@@ -1,16 +1,18 @@
--- Pieces of traces: about the limits of tries, a kill that comes twice, and what nothing forbids.
-use Rattle.std.specs.Prelude.{List, [], ◌∷◌, None, codes}
+-- Pieces of traces: about the limits of tries, a kill that comes twice, what a request is sent for, and what nothing forbids.
+use Rattle.std.specs.Prelude.{List, [], ◌∷◌, Option, None, codes}
 use Rattle.link_plan.specs.declared.plan.Fate.TheVariants as fate
 use Rattle.process_machine.specs.declared.instruction.Operand.TheVariants.{Number}
 use Rattle.process_machine.specs.declared.instruction.SyscallName.TheVariants as name
 use Rattle.process_machine.specs.declared.call.Call.TheVariants as call
 use Rattle.unix_calls.specs.declared.description.Description.{Description}
+use Rattle.unix_calls.specs.declared.event.About.{About}
+use Rattle.unix_calls.specs.declared.event.SendKind.{SendKind}
 use Rattle.unix_calls.specs.declared.event.SendKind.TheVariants as send
 use Rattle.unix_calls.specs.declared.event.Event.TheVariants as event
 use Rattle.unix_calls.specs.declared.event.Rec.{Rec}
 use Rattle.unix_calls.specs.Answers.{nothing}
 use Rattle.unix_calls.specs.Examples.{sys, text_at}
-use Rattle.call_journal.specs.Examples.{one_program, at, call_of, enters, sends, takes, tries_again, ends_tries, without}
+use Rattle.call_journal.specs.Examples.{one_program, at, file, block, call_of, enters, sends, takes, tries_again, ends_tries, without}
 
 abbrev pub limited_cluster : Description
 limited_cluster = one_program (text_at 0 (codes "/f") ∷ []) (sys name.Open (Number 0 ∷ Number 2 ∷ Number 1 ∷ []) ∷ [])
@@ -89,6 +91,23 @@ killed_away =
 -- the request is first taken where the process is
 abbrev pub killed_there : List Rec
 killed_there = without 4 (without 6 killed_away)
+
+-- a request of that kind goes to the server, for the sake of that call or of none
+abbrev pub sent_for : Option About → SendKind → List Rec
+sent_for about kind = at 1 (sends 1 3 about kind) ∷ []
+
+-- an operation, a fetch and a write-back of the server's file, and a broadcast
+abbrev pub an_operation : SendKind
+an_operation = send.Op (file 3 1)
+
+abbrev pub a_fetch : SendKind
+a_fetch = send.Fetch (file 3 1) (block 0)
+
+abbrev pub a_write_back : SendKind
+a_write_back = send.WriteBack (file 3 1) (block 0)
+
+abbrev pub a_broadcast : SendKind
+a_broadcast = send.Broadcast []
 
 -- instructions of a process that was never born
 abbrev pub unborn_burst : List Rec

@@ -124,9 +124,9 @@ abbrev pub broadcast_about_trace : List Rec
 broadcast_about_trace =
     instead 3 (at 3 (takes 1 1 (call_of 1001 1))) (instead 4 (at 1 (takes_reply 1 3 (call_of 1001 1))) moved_trace)
 
--- the broadcast goes to a second receiver, for the sake of no call
+-- the broadcast goes to a second receiver, for the sake of another call
 abbrev pub split_broadcast_trace : List Rec
-split_broadcast_trace = before 3 (at 1 (sends 1 2 None (send.Broadcast []))) moved_trace
+split_broadcast_trace = before 3 (at 1 (sends 1 2 (call_of 1002 1) (send.Broadcast []))) moved_trace
 
 -- the stream is closed with another mode than it was opened with
 abbrev pub other_mode_closed_trace : List Rec

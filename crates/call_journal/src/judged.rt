@@ -1,7 +1,7 @@
 //! Small traces, each judged by the definitions: which keep the rules, and which break one.
 #![tactic(auto, unfolding(process_machine::specs::Runs::call_bound))]
 
-ghost use Rattle.std.specs.Prelude.{◌≡◌, true, false, IsTrue};
+ghost use Rattle.std.specs.Prelude.{◌≡◌, true, false, None, IsTrue};
 ghost use Rattle.unix_calls.specs.After.{legal};
 ghost use Rattle.call_journal.specs.Journal.{journal_of};
 ghost use Rattle.call_journal.specs.Formed.{formed};
@@ -25,6 +25,7 @@ ghost use Rattle.call_journal.specs.WorthCaches.{caches_are_worth};
 ghost use Rattle.call_journal.specs.WorthKills.{kills_are_heeded};
 ghost use Rattle.call_journal.specs.Worth.{Worth};
 ghost use Rattle.call_journal.specs.Units.{units_of};
+ghost use Rattle.call_journal.specs.Examples.{call_of};
 ghost use Rattle.call_journal.specs.CachedExample.{cached_cluster, cached_trace, unfilled_trace, fetched_again_trace, sent_out_trace, fetched_twice_trace, asked_again_trace, dropped_trace, early_entry_trace, entered_twice_trace, other_return_trace, wrong_byte_trace, unasked_trace, ungranted_trace, elsewhere_trace, long_burst_trace, delivered_often_trace, early_send_trace, same_stamp_trace};
 ghost use Rattle.call_journal.specs.SyncedExample.{synced_cluster, synced_trace, early_write_back_trace, unsent_trace};
 ghost use Rattle.call_journal.specs.SharedExample.{shared_cluster, shared_trace, unshared_trace, unstopped_trace, called_back_trace};
@@ -35,7 +36,7 @@ ghost use Rattle.call_journal.specs.MovedExample.{moved_cluster, moved_trace, un
 ghost use Rattle.call_journal.specs.PartedExample.{parted_cluster, parted_trace, parent_closed_trace, unparted_trace, shared_by_open_trace, other_shared_trace, operation_about_trace};
 ghost use Rattle.call_journal.specs.TruncatedExample.{truncated_cluster, truncated_trace, untruncated_trace, dropped_late_trace, undropped_trace, same_number_trace};
 ghost use Rattle.call_journal.specs.DeviceExample.{device_cluster, device_trace, device_opened_trace, device_dropped_trace};
-ghost use Rattle.call_journal.specs.LimitedExample.{limited_cluster, tries_to_client, tries_to_server, sent_on_to_client, killed_away, killed_there, unborn_burst, sent_to_itself};
+ghost use Rattle.call_journal.specs.LimitedExample.{limited_cluster, tries_to_client, tries_to_server, sent_on_to_client, killed_away, killed_there, sent_for, an_operation, a_fetch, a_write_back, a_broadcast, unborn_burst, sent_to_itself};
 
 /// A file is read twice, the second time from the cache.
 pub fn reads_from_the_cache()
@@ -201,6 +202,16 @@ pub fn no_packet_about_another_call()
     ensures broadcast { formed moved_cluster broadcast_about_trace ≡ false }
     ensures operation { formed parted_cluster operation_about_trace ≡ false }
     ensures split { formed moved_cluster split_broadcast_trace ≡ false }
+{}
+
+/// An operation and a broadcast are sent for the sake of a call; a fetch or a write-back of a block may go for that of none.
+pub fn no_operation_for_no_call()
+    ensures unowned { formed limited_cluster (sent_for None an_operation) ≡ false }
+    ensures owned { formed limited_cluster (sent_for (call_of 1001 1) an_operation) ≡ true }
+    ensures asked { formed limited_cluster (sent_for None a_broadcast) ≡ false }
+    ensures broadcast { formed limited_cluster (sent_for (call_of 1001 1) a_broadcast) ≡ true }
+    ensures fetched { formed limited_cluster (sent_for None a_fetch) ≡ true }
+    ensures written { formed limited_cluster (sent_for None a_write_back) ≡ true }
 {}
 
 /// Tries end at eight where they go to a server, and there alone.

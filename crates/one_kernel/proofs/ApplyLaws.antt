@@ -4,21 +4,16 @@ use Rattle.std.specs.Prelude.{◌==◌}
 use Rattle.std.specs.Option.{option_map}
 use Rattle.std.proofs.lemmas.Bool.{true≢false}
 use Rattle.sprite_ids.proofs.ListLaws.{some_is, get_within}
-use Rattle.sprite_ids.specs.declared.errno.Errno.{Errno}
 use Rattle.sprite_ids.specs.declared.running.Ending.TheVariants as ending
-use Rattle.process_machine.specs.declared.arguments.Arguments.{Arguments}
-use Rattle.process_machine.specs.declared.instruction.Instruction.{Instruction}
-use Rattle.process_machine.specs.declared.instruction.Instruction.TheVariants.{Sys}
-use Rattle.process_machine.specs.declared.instruction.SyscallName.{SyscallName}
-use Rattle.process_machine.specs.declared.instruction.SyscallName.TheVariants as name
-use Rattle.process_machine.specs.Arguments.{arguments}
-use Rattle.process_machine.specs.Parts.{parts_of, refusal}
 use Rattle.process_machine.specs.declared.call.Call.{Call}
+use Rattle.process_machine.specs.declared.call.Call.TheVariants.{Exit}
 use Rattle.process_machine.specs.declared.program.Program.{Program}
 use Rattle.process_machine.specs.Machine.{Machine}
-use Rattle.process_machine.specs.Calls.{call_at, call_in, named_call, unless_refused}
+use Rattle.process_machine.specs.Calls.{call_at}
+use Rattle.process_machine.specs.Limits.{IsWithinLimits}
 use Rattle.process_machine.specs.Steps.{step_of}
 use Rattle.process_machine.specs.Runs.{at_next_call, call_there}
+use Rattle.process_machine.proofs.LimitLaws.{call_within_limits}
 use Rattle.unix_calls.specs.declared.description.Description.{Description}
 use Rattle.unix_calls.specs.declared.entry.Entry.{Entry}
 use Rattle.unix_calls.specs.declared.state.Process.{Process}
@@ -130,25 +125,13 @@ death_among e ps at p false q ascends got death h =
 
 -- ---- an exit's code
 
-bounded_named : (n : SyscallName) (a : Arguments) (pages : List (Option (List ℕ))) → IsBounded (named_call n a pages)
-bounded_named name.Exit a pages = omega arith
-bounded_named _ a pages = tt
-
-bounded_with : (o : Option Errno) (n : SyscallName) (a : Arguments) (pages : List (Option (List ℕ))) → IsBounded (unless_refused o (named_call n a pages))
-bounded_with None n a pages = bounded_named n a pages
-bounded_with (Some e) n a pages = tt
-
-bounded_by : (i : Instruction) (m : Machine) → IsBounded (call_in (Some i) m)
-bounded_by (Sys n operands) m = bounded_with (refusal m.pages (parts_of n (arguments m operands))) n (arguments m operands) m.pages
-bounded_by _ m = tt
-
-bounded_in : (o : Option Instruction) (m : Machine) → IsBounded (call_in o m)
-bounded_in None m = tt
-bounded_in (Some i) m = bounded_by i m
+bounded_within : (call : Call) → IsWithinLimits call → IsBounded call
+bounded_within (Exit code) h = h
+bounded_within _ h = tt
 
 -- the call at which an image stands
 pub bounded_at : (program : Program) (m : Machine) → IsBounded (call_at program m)
-bounded_at program m = bounded_in (slice_get program.code m.counter) m
+bounded_at program m = bounded_within (call_at program m) (call_within_limits program m)
 
 -- ---- a process moves to its call, in its place
 

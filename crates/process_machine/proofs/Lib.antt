@@ -3,3 +3,4 @@ pub mod MachineLaws
 pub mod StepLaws
 pub mod FillLaws
 pub mod PartLaws
+pub mod LimitLaws

@@ -5,6 +5,7 @@ pub mod Parts
 pub mod Calls
 pub mod Steps
 pub mod Runs
+pub mod Limits
 pub mod Replies
 pub mod Fresh
 pub mod Facts

@@ -1,0 +1,4 @@
+pub mod Appended
+pub mod Faults
+pub mod Issues
+pub mod Numbers
