@@ -1,4 +1,5 @@
 pub mod FaultLaws
+pub mod NotedLaws
 pub mod LinkLaws
 pub mod ServerLaws
 pub mod RanLaws

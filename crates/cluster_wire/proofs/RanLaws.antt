@@ -6,7 +6,7 @@ use Rattle.kernel_rpc.specs.Runs.{Act, Counts, IsRun, after}
 use Rattle.kernel_rpc.specs.Histories.{reached}
 use Rattle.kernel_rpc.specs.Steps.{IsStep, counts_in}
 use Rattle.kernel_rpc.specs.Sound.{Wired}
-use Rattle.cluster_wire.specs.Ran.{Does, EachDone, FirstDone, Ran, RanOn, last_counts, told_of}
+use Rattle.cluster_wire.specs.Ran.{Does, EachDone, Ran, RanOn, last_counts, told_of}
 
 -- nothing was called
 pub none_ran : {L : Type 0} (faults asked : L → ℕ → ℕ → ℕ) (old new : Wired L) → new ≡ old → Ran faults asked old new []
@@ -58,15 +58,10 @@ told_on tells [] ys machine = refl
 told_on tells (x ∷ xs) ys machine = ap (λ rest. tells machine x.0 ++ rest) (told_on tells xs ys (after machine x.0)) ∙ sym (append_assoc (tells machine x.0) (told_of tells (after machine x.0) xs) (told_of tells (reached (after machine x.0) xs) ys))
 
 -- what was done, and then some more
-first_on : {P : Type 0} (is : Machine → P → Act → Type 0) (o : Option P) (machine : Machine) (steps more : List (Act × Counts)) (Front Whole : Machine → List (Act × Counts) → Type 0) (Back : Machine → Type 0) → ((machine : Machine) (steps : List (Act × Counts)) → Front machine steps → Back (reached machine steps) → Whole machine (steps ++ more)) → FirstDone is o machine Front steps → Back (reached machine steps) → FirstDone is o machine Whole (steps ++ more)
-first_on is None machine steps more Front Whole Back again done back = again machine steps done back
-first_on is (Some plan) machine [] more Front Whole Back again done back = absurd done
-first_on is (Some plan) machine (step ∷ steps) more Front Whole Back again done back = (done.0, again (after machine step.0) steps done.1 back)
-
 each_on : {A P : Type 0} (plan : Machine → A → Option P) (is : Machine → P → Act → Type 0) (xs ys : List A) (more : List (Act × Counts)) (machine : Machine) (steps : List (Act × Counts)) → EachDone plan is xs machine steps → EachDone plan is ys (reached machine steps) more → EachDone plan is (xs ++ ys) machine (steps ++ more)
 each_on plan is [] ys more machine steps none next = subst (λ (steps : List (Act × Counts)). EachDone plan is ys (reached machine steps) more → EachDone plan is ys machine (steps ++ more)) (sym none) (λ done. done) next
-each_on plan is (x ∷ xs) ys more machine steps done next =
-    first_on is (plan machine x) machine steps more (λ machine steps. EachDone plan is xs machine steps) (λ machine steps. EachDone plan is (xs ++ ys) machine steps) (λ machine. EachDone plan is ys machine more) (λ machine steps. each_on plan is xs ys more machine steps) done next
+each_on plan is (x ∷ xs) ys more machine [] done next = absurd done
+each_on plan is (x ∷ xs) ys more machine (step ∷ steps) done next = (done.0, each_on plan is xs ys more (after machine step.0) steps done.1 next)
 
 pub does_join : {L A P X : Type 0} (faults asked : L → ℕ → ℕ → ℕ) (plan : Machine → A → Option P) (is : Machine → P → Act → Type 0) (tells : Machine → Act → List X) (xs ys : List A) (old between new : Wired L) (told more : List X) → Does faults asked plan is tells xs old between told → Does faults asked plan is tells ys between new more → Does faults asked plan is tells (xs ++ ys) old new (told ++ more)
 does_join {L} {A} {P} {X} faults asked plan is tells xs ys old between new told more first next = record {
@@ -80,21 +75,12 @@ does_join {L} {A} {P} {X} faults asked plan is tells xs ys old between new told 
 pub does_nothing : {L A P X : Type 0} (faults asked : L → ℕ → ℕ → ℕ) (plan : Machine → A → Option P) (is : Machine → P → Act → Type 0) (tells : Machine → Act → List X) (old new : Wired L) (told : List X) → new ≡ old → told ≡ [] → Does faults asked plan is tells [] old new told
 does_nothing faults asked plan is tells old new told same none = record { steps = []; ran = none_ran faults asked old new same; each = refl; told_so = none }
 
--- a thing that has no plan
-pub does_none : {L A P X : Type 0} (faults asked : L → ℕ → ℕ → ℕ) (plan : Machine → A → Option P) (is : Machine → P → Act → Type 0) (tells : Machine → Act → List X) (x : A) (old new : Wired L) (told : List X) → plan old.machine x ≡ None → new ≡ old → told ≡ [] → Does faults asked plan is tells (x ∷ []) old new told
-does_none {L} {A} {P} faults asked plan is tells x old new told no_plan same none = record {
-  steps = [];
-  ran = none_ran faults asked old new same;
-  each = subst (λ (o : Option P). FirstDone is o old.machine (λ machine steps. steps ≡ []) []) (sym no_plan) refl;
-  told_so = none;
-}
-
--- and one that has a plan
+-- one thing is done
 pub does_one : {L A P X : Type 0} (faults asked : L → ℕ → ℕ → ℕ) (plan : Machine → A → Option P) (is : Machine → P → Act → Type 0) (tells : Machine → Act → List X) (x : A) (p : P) (act : Act) (old new : Wired L) (told : List X) → plan old.machine x ≡ Some p → is old.machine p act → IsStep faults asked old act new → told ≡ tells old.machine act → Does faults asked plan is tells (x ∷ []) old new told
-does_one {L} {A} {P} faults asked plan is tells x p act old new told some holds step told_so = record {
+does_one faults asked plan is tells x p act old new told some holds step told_so = record {
   steps = (act, counts_in faults asked new.link) ∷ [];
   ran = one_ran faults asked old new act step;
-  each = subst (λ (o : Option P). FirstDone is o old.machine (λ machine steps. steps ≡ []) ((act, counts_in faults asked new.link) ∷ [])) (sym some) (holds, refl);
+  each = (record { way = p; planned = some; done = holds }, refl);
   told_so = told_so ∙ sym (append-nil (tells old.machine act));
 }
 

@@ -13,9 +13,9 @@ use Rattle.kernel_rpc.specs.Sound.{Wired}
 use Rattle.kernel_rpc.proofs.StepLaws.{answer_step}
 use Rattle.packet_bodies.specs.declared.ReplyBody.{ReplyBody}
 use Rattle.wire_format.specs.declared.Packet.{Packet}
-use Rattle.wire_format.specs.Packets.{spelling}
+use Rattle.wire_format.specs.Packets.{IsPacket, spelling}
 use Rattle.cluster_wire.specs.Replying.{AnswersIf, IsAnswer, answered_by, asker, asker_by, caller_of, goes_back, reply_packet}
-use Rattle.cluster_wire.proofs.RanLaws.{DidOne, does_none, does_one}
+use Rattle.cluster_wire.proofs.RanLaws.{DidOne, does_one}
 
 -- who waits for an answer is the caller, and the kernel that may give it is the owner
 record IsAsker (kernel to : ℕ) (o : Option Call) : Type 0 where
@@ -44,24 +44,20 @@ answer_asks {L} faults asked kernel to tx given old new is asks =
 caller_is : (kernel to : ℕ) (o : Option Call) → IsAsker kernel to o → caller_of o ≡ to
 caller_is kernel to o so = ap caller_of so.there ∙ so.calls
 
--- an answer for which no one waits
-pub none_goes : {L : Type 0} (faults asked : L → ℕ → ℕ → ℕ) (o : Option Packet) (old new : Wired L) (held told : List (ℕ × Fate)) → o ≡ None → new ≡ old → told ≡ held → AnswersIf faults asked o old new held told
-none_goes faults asked o old new held told none same is = subst (λ (o : Option Packet). AnswersIf faults asked o old new held told) (sym none) (same, is)
-
 -- an answer for which someone waits
-pub answer_goes : {L : Type 0} (faults asked : L → ℕ → ℕ → ℕ) (kernel to : ℕ) (tx : TxNo) (body : ReplyBody) (given : Fate) (old new : Wired L) (held told : List (ℕ × Fate)) → asker kernel old.machine tx ≡ Some to → may_answer old.machine tx ≡ true → AsksBack faults asked old.link new.link given (call_of old.machine tx) → new.machine ≡ answer tx (spelling (reply_packet kernel (tx, body) to)) given old.machine → told ≡ held ++ (to, given) ∷ [] → AnswersIf faults asked (goes_back kernel old.machine (tx, body)) old new held told
-answer_goes {L} faults asked kernel to tx body given old new held told is may asks there grown =
+pub answer_goes : {L : Type 0} (faults asked : L → ℕ → ℕ → ℕ) (kernel to : ℕ) (tx : TxNo) (body : ReplyBody) (given : Fate) (old new : Wired L) (held told : List (ℕ × Fate)) → asker kernel old.machine tx ≡ Some to → may_answer old.machine tx ≡ true → AsksBack faults asked old.link new.link given (call_of old.machine tx) → new.machine ≡ answer tx (spelling (reply_packet kernel (tx, body) to)) given old.machine → IsPacket (reply_packet kernel (tx, body) to) → told ≡ held ++ (to, given) ∷ [] → AnswersIf faults asked (goes_back kernel old.machine (tx, body)) old new held told
+answer_goes {L} faults asked kernel to tx body given old new held told is may asks there known grown =
     subst (λ (o : Option ℕ). AnswersIf faults asked (option_map (reply_packet kernel (tx, body)) o) old new held told) (sym is) (record {
       act = Answer tx (spelling (reply_packet kernel (tx, body) to)) given;
-      is = (given, refl);
+      is = record { given = given; is_packet = known; is = refl };
       step = answer_step faults asked old new tx (spelling (reply_packet kernel (tx, body) to)) given may asks there;
       told_so = grown ∙ ap (λ (to : ℕ). held ++ (to, given) ∷ []) (sym (caller_is kernel to (call_of old.machine tx) (waits_for (may_answer old.machine tx) kernel to (call_of old.machine tx) is)));
     })
 
--- an answer of a step goes out, where someone waits for it
+-- an answer of a step goes out
 pub did_answer : {L : Type 0} (faults asked : L → ℕ → ℕ → ℕ) (kernel : ℕ) (given : TxNo × ReplyBody) (old new : Wired L) (held told : List (ℕ × Fate)) → AnswersIf faults asked (goes_back kernel old.machine given) old new held told → DidOne faults asked (goes_back kernel) IsAnswer answered_by given old new held told
 did_answer {L} faults asked kernel given old new held told answers = by_packet (goes_back kernel old.machine given) refl answers
   where
     by_packet : (o : Option Packet) → goes_back kernel old.machine given ≡ o → AnswersIf faults asked o old new held told → DidOne faults asked (goes_back kernel) IsAnswer answered_by given old new held told
-    by_packet None is answers = record { more = []; grown = answers.1 ∙ sym (append-nil held); did = does_none faults asked (goes_back kernel) IsAnswer answered_by given old new [] is answers.0 refl }
+    by_packet None is answers = absurd answers
     by_packet (Some packet) is answers = record { more = answered_by old.machine answers.act; grown = answers.told_so; did = does_one faults asked (goes_back kernel) IsAnswer answered_by given packet answers.act old new (answered_by old.machine answers.act) is answers.is answers.step refl }

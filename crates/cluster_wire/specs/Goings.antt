@@ -1,5 +1,5 @@
 -- Which remote calls go out, and to whom.
-use Rattle.std.specs.Prelude.{ℕ, ◌+◌, ◌==◌, Bool, true, false, ◌&&◌, not, if◌then◌else◌, List, [], ◌∷◌, nat_lt, Option, Some, None}
+use Rattle.std.specs.Prelude.{ℕ, ◌+◌, ◌==◌, Bool, true, false, ◌&&◌, not, if◌then◌else◌, List, [], ◌∷◌, nat_lt, Option, Some, None, IsSome}
 use Rattle.std.specs.List.{list_any}
 use Rattle.sprite_ids.specs.declared.TxNo.{TxNo}
 use Rattle.sprite_ids.specs.declared.Tries.{Tries}
@@ -77,6 +77,11 @@ goes_by (Some owner) kernel sending = broadcast_to (may_go_to sending.to kernel 
 -- None where it doesn't: no kernel calls itself, or no one, and a broadcast goes only where it may
 abbrev pub goes : Description → ℕ → Sending → Option Going
 goes c kernel sending = goes_by (owner_of c sending.body) kernel sending
+
+-- all of these calls of the kernel go out
+abbrev pub AllGo : Description → ℕ → List Sending → Type 0
+AllGo c kernel [] = Unit {0}
+AllGo c kernel (sending ∷ sendings) = IsSome (goes c kernel sending) × AllGo c kernel sendings
 
 -- the packet of a call of the kernel that goes out with that number
 abbrev pub packet_to : ℕ → TxNo → Going → Packet

@@ -1,5 +1,6 @@
 -- What a step of a kernel tells.
-use Rattle.std.specs.Prelude.{ℕ, ◌==◌, Bool, true, false, ◌&&◌, if◌then◌else◌, List, [], ◌∷◌, ◌++◌, Option, Some, None}
+use Rattle.std.specs.Prelude.{ℕ, ◌==◌, Bool, true, false, ◌&&◌, not, if◌then◌else◌, List, [], ◌∷◌, ◌++◌, Option, Some, None}
+use Rattle.std.specs.List.{filter}
 use Rattle.link_plan.specs.declared.Fate.{Fate}
 use Rattle.link_plan.specs.declared.Fate.TheVariants.{Once}
 use Rattle.unix_calls.specs.declared.Event.{Event}
@@ -15,6 +16,15 @@ faulted from to fate told = told ++ Fault from to fate ∷ []
 abbrev pub faulted_all : ℕ → List (ℕ × Fate) → List Event → List Event
 faulted_all kernel [] told = told
 faulted_all kernel (packet ∷ packets) told = faulted_all kernel packets (faulted kernel packet.0 packet.1 told)
+
+-- whether the event is a fault
+abbrev pub is_fault : Event → Bool
+is_fault (Fault from to what) = true
+is_fault event = false
+
+-- what is told, but for the faults
+abbrev pub without_faults : List Event → List Event
+without_faults told = filter (λ event. not (is_fault event)) told
 
 -- whether the kernel alone tells that: of instructions, packets, timers and faults the cluster tells
 abbrev pub is_own : Event → Bool

@@ -1,5 +1,5 @@
 -- How the wire goes from one state to another, by calls that are steps of its runs.
-use Rattle.std.specs.Prelude.{◌≡◌, ℕ, List, [], ◌∷◌, ◌++◌, Option, Some, None}
+use Rattle.std.specs.Prelude.{◌≡◌, ℕ, List, [], ◌∷◌, ◌++◌, Option, Some}
 use Rattle.kernel_rpc.specs.Machine.{Machine}
 use Rattle.kernel_rpc.specs.Runs.{Act, Counts, IsRun, after}
 use Rattle.kernel_rpc.specs.Histories.{reached}
@@ -22,23 +22,24 @@ pub record RanOn {L : Type 0} (faults asked : L → ℕ → ℕ → ℕ) (old ne
   pub steps : List (Act × Counts)
   pub ran : Ran faults asked old new steps
 
--- one thing of a list: where it has a plan, the first call is so, and the others are of the things behind it; else all are of these
-abbrev pub FirstDone : {P : Type 0} → (Machine → P → Act → Type 0) → Option P → Machine → (Machine → List (Act × Counts) → Type 0) → List (Act × Counts) → Type 0
-FirstDone is None machine rest steps = rest machine steps
-FirstDone is (Some plan) machine rest [] = ⊥
-FirstDone is (Some plan) machine rest (step ∷ steps) = is machine plan step.0 × rest (after machine step.0) steps
+-- a thing is done by a call of the wire: the thing has a plan as its turn comes, and the call is so
+pub record IsDone {A P : Type 0} (plan : Machine → A → Option P) (is : Machine → P → Act → Type 0) (thing : A) (machine : Machine) (act : Act) : Type 0 where
+  pub way : P
+  pub planned : plan machine thing ≡ Some way
+  pub done : is machine way act
 
--- the things of a list are done in their order: each by one call, exactly where it has a plan as its turn comes
+-- all things of a list are done in their order, each by one call
 abbrev pub EachDone : {A P : Type 0} → (Machine → A → Option P) → (Machine → P → Act → Type 0) → List A → Machine → List (Act × Counts) → Type 0
 EachDone plan is [] machine steps = steps ≡ []
-EachDone plan is (x ∷ xs) machine steps = FirstDone is (plan machine x) machine (λ machine steps. EachDone plan is xs machine steps) steps
+EachDone plan is (thing ∷ things) machine [] = ⊥
+EachDone plan is (thing ∷ things) machine (step ∷ steps) = IsDone plan is thing machine step.0 × EachDone plan is things (after machine step.0) steps
 
 -- what the calls of a run tell, each in the machine in which it is made
 abbrev pub told_of : {X : Type 0} → (Machine → Act → List X) → Machine → List (Act × Counts) → List X
 told_of tells machine [] = []
 told_of tells machine (step ∷ steps) = tells machine step.0 ++ told_of tells (after machine step.0) steps
 
--- the things of a list are done, which takes the wire from here to there, and this is told of it
+-- all things of a list are done, which takes the wire from here to there, and this is told of it
 pub record Does {L A P X : Type 0} (faults asked : L → ℕ → ℕ → ℕ) (plan : Machine → A → Option P) (is : Machine → P → Act → Type 0) (tells : Machine → Act → List X) (things : List A) (old new : Wired L) (told : List X) : Type 0 where
   pub steps : List (Act × Counts)
   pub ran : Ran faults asked old new steps

@@ -10,7 +10,7 @@ use Rattle.kernel_rpc.specs.Steps.{IsStep}
 use Rattle.packet_bodies.specs.declared.Body.TheVariants as bodies
 use Rattle.packet_bodies.specs.declared.ReplyBody.{ReplyBody}
 use Rattle.wire_format.specs.declared.Packet.{Packet}
-use Rattle.wire_format.specs.Packets.{spelling}
+use Rattle.wire_format.specs.Packets.{IsPacket, spelling}
 use Rattle.cluster_wire.specs.Ran.{Does}
 
 -- the caller of a looked-up call
@@ -36,9 +36,11 @@ reply_packet kernel answer to = record { from = kernel; to = to; tx = answer.0; 
 abbrev pub goes_back : ℕ → Machine → TxNo × ReplyBody → Option Packet
 goes_back kernel machine answer = option_map (reply_packet kernel answer) (asker kernel machine answer.0)
 
--- the call of the wire is the answer of that packet
-abbrev pub IsAnswer : Machine → Packet → Act → Type 0
-IsAnswer machine packet act = (given : Fate) × (act ≡ Answer packet.tx (spelling packet) given)
+-- the call of the wire is the answer of that packet, which has a spelling, from which it is read back
+pub record IsAnswer (machine : Machine) (packet : Packet) (act : Act) : Type 0 where
+  pub given : Fate
+  pub is_packet : IsPacket packet
+  pub is : act ≡ Answer packet.tx (spelling packet) given
 
 -- to whom an answer goes, and its fate
 abbrev pub answered_by : Machine → Act → List (ℕ × Fate)
@@ -48,7 +50,7 @@ answered_by machine (Answer tx body given) = (caller_of (call_of machine tx), gi
 answered_by machine (Silence tx at) = []
 answered_by machine (Expire tx sent) = []
 
--- the answers of the kernel go out, in their order, each exactly where someone waits for it; these are their packets
+-- all answers of the kernel go out, in their order, each to the one that waits for it as its turn comes; these are their packets
 abbrev pub Answered : {L : Type 0} → (L → ℕ → ℕ → ℕ) → (L → ℕ → ℕ → ℕ) → ℕ → List (TxNo × ReplyBody) → Wired L → Wired L → List (ℕ × Fate) → Type 0
 Answered faults asked kernel answers old new answered = Does faults asked (goes_back kernel) IsAnswer answered_by answers old new answered
 
@@ -59,7 +61,7 @@ pub record AnswersSo {L : Type 0} (faults asked : L → ℕ → ℕ → ℕ) (pa
   pub step : IsStep faults asked old act new
   pub told_so : told ≡ held ++ answered_by old.machine act
 
--- and an answer that goes out, or doesn't
+-- and an answer by its packet: one for which no one waits never goes out
 abbrev pub AnswersIf : {L : Type 0} → (L → ℕ → ℕ → ℕ) → (L → ℕ → ℕ → ℕ) → Option Packet → Wired L → Wired L → List (ℕ × Fate) → List (ℕ × Fate) → Type 0
-AnswersIf faults asked None old new held told = (new ≡ old) × (told ≡ held)
+AnswersIf faults asked None old new held told = ⊥
 AnswersIf faults asked (Some packet) old new held told = AnswersSo faults asked packet old new held told

@@ -6,7 +6,7 @@ ghost use Rattle.kernel_rpc.specs.Servers.{pairs};
 ghost use Rattle.link_plan.specs.Counts.{Asks};
 ghost use Rattle.cluster_wire.specs.Calling.{sent_as, BeginsIf, Begun};
 ghost use Rattle.cluster_wire.specs.Faults.{packets};
-ghost use Rattle.cluster_wire.specs.Goings.{broadcast_to, goes, goes_by, next_of, other_than, owner_of, server_in};
+ghost use Rattle.cluster_wire.specs.Goings.{AllGo, broadcast_to, goes, goes_by, next_of, other_than, owner_of, server_in};
 ghost use Rattle.cluster_wire.specs.Links.{AskedMore};
 ghost use Rattle.cluster_wire.specs.Replying.{asker, goes_back, Answered, AnswersIf};
 
@@ -35,7 +35,9 @@ pub fn next_call<L: Link>(wire: &Wire<Packet, L>) -> Result<TxNo, NoMemory>
 
 /// Begins the remote calls in their order, which takes them out of the list, and tells of each packet what the link made of it. A call
 /// goes to the first kernel of its list, and the broadcast of a prefix to all of it (Welch and Ousterhout 1986); no kernel calls
-/// itself, and a broadcast goes only where the server that is to answer is in its list. The one error is want of memory.
+/// itself, and a broadcast goes only where the server that is to answer is in its list. The one error is want of memory; it is also the
+/// answer where one of the calls has no one to go to, which never comes: so all of them begin, the first with the number of the next
+/// call.
 pub fn begin_all<L: Link>(
     alloc: Global,
     c: &Description,
@@ -45,6 +47,7 @@ pub fn begin_all<L: Link>(
 ) -> Result<Items<Sent>, NoMemory>
     requires lawful { Lawful c.now }
     ensures begun { IfOk result (Begun L.faults L.asked c.now kernel sends.old wire.old wire.new) }
+    ensures go { IfOk result (λ _. AllGo c.now kernel sends.old) }
     ensures asked { IfOk result (λ sent. Asks L.faults L.asked kernel wire.old.link wire.new.link (packets sent)) }
 {
     let mut sent = Items::new(alloc);
@@ -55,7 +58,8 @@ pub fn begin_all<L: Link>(
     Ok(sent)
 }
 
-// Begins a remote call with the next number at the least free port: the broadcast of a prefix, or a call of one kernel.
+// Begins a remote call with the next number at the least free port: the broadcast of a prefix, or a call of one kernel. Want of memory
+// is also the answer where it has no one to go to.
 fn begin<L: Link>(
     alloc: Global,
     c: &Description,
@@ -96,7 +100,6 @@ fn server_of(c: &Description, path: &Path) -> Kernel
 }
 
 // Calls one kernel. No kernel calls itself.
-#[tactic(auto, using(crate::proofs::CallLaws::none_begins))]
 fn call<L: Link>(
     alloc: Global,
     wire: &mut Wire<Packet, L>,
@@ -120,7 +123,7 @@ fn call<L: Link>(
         body,
     } = sending;
     let Some(to) = other_than(kernel, to.as_slice()) else {
-        return Ok(());
+        return Err(NoMemory);
     };
     let about = body.about();
     let packet = Packet {
@@ -145,7 +148,6 @@ fn other_than(kernel: Kernel, list: &[Kernel]) -> Option<Kernel>
 }
 
 // Asks the servers which of them has the domain of the path; the owner is to answer.
-#[tactic(auto, using(crate::proofs::CallLaws::none_begins))]
 fn broadcast<L: Link>(
     alloc: Global,
     wire: &mut Wire<Packet, L>,
@@ -171,7 +173,7 @@ fn broadcast<L: Link>(
     } = sending;
     let servers = to.as_slice();
     if !may_go_to(servers, kernel, owner) {
-        return Ok(());
+        return Err(NoMemory);
     }
     let about = body.about();
     let packet = Packet {
@@ -209,8 +211,8 @@ fn put_all(
 }
 
 /// Answers in their order, which takes the answers out of the list, and tells of each reply where it goes and what the link made of
-/// it. An answer goes out exactly where the kernel is the one that is to answer its call, was handed its request and has not answered
-/// it. The one error is want of memory.
+/// it. The one error is want of memory; it is also the answer where the kernel isn't the one that is to answer a call, wasn't handed its
+/// request or has answered it, which never comes: so all answers go out.
 pub fn answer_all<L: Link>(
     alloc: Global,
     wire: &mut Wire<Packet, L>,
@@ -228,7 +230,7 @@ pub fn answer_all<L: Link>(
     Ok(answered)
 }
 
-// Answers a remote call that the kernel was asked and has not answered; another one it can't answer.
+// Answers a remote call that the kernel was asked and has not answered. Want of memory is also the answer where no one waits for it.
 #[tactic(auto, using(crate::proofs::ReplyLaws::answer_goes, crate::proofs::ReplyLaws::answer_asks, crate::proofs::LinkLaws::one_more))]
 fn answer<L: Link>(
     alloc: Global,
@@ -242,7 +244,7 @@ fn answer<L: Link>(
     ensures asked { OnOk result (AskedMore L.faults L.asked kernel wire.old.link wire.new.link answered.old answered.new) }
 {
     let Some(to) = asker(wire, kernel, tx) else {
-        return Ok(());
+        return Err(NoMemory);
     };
     let packet = Packet {
         from: kernel,

@@ -1,5 +1,5 @@
-ghost use Rattle.std.specs.Prelude.{◌≡◌, [], None, OnOk};
-ghost use Rattle.cluster_wire.specs.Noted.{faulted, faulted_all, is_of, is_own, left_after, noted_all, noted_one, packet_of, untold};
+ghost use Rattle.std.specs.Prelude.{◌≡◌, ◌++◌, ◌∷◌, [], None, OnOk};
+ghost use Rattle.cluster_wire.specs.Noted.{faulted, faulted_all, is_of, is_own, left_after, noted_all, noted_one, packet_of, untold, without_faults};
 
 use crate::telling::Sent;
 use link_plan::Fate;
@@ -39,10 +39,10 @@ pub fn note_faults(
     Ok(())
 }
 
-/// Tells what the kernel did, which takes it out of the list, beside the packets that went out: a sending is told exactly where its
-/// packet went out, directly followed by the packet's fault, where the link made one. So each packet that went out is told. The one
-/// error is want of memory; it is also the answer where one of them isn't told, which never comes, since the kernel tells its sendings
-/// in the order in which its packets go out. Of bursts, timers, packets that come and faults no kernel tells.
+/// Tells all that the kernel did, which takes it out of the list, beside the packets that went out: each sending is directly followed by
+/// its packet's fault, where the link made one. The one error is want of memory; it is also the answer where a packet isn't told or a
+/// sending finds no packet, which never comes, since the kernel tells its sendings in the order in which its packets go out; and where
+/// the kernel tells of a burst, a timer, a packet that comes or a fault, which no kernel does.
 pub fn note_all(
     told: &mut Items<Event>,
     kernel: Kernel,
@@ -51,6 +51,7 @@ pub fn note_all(
 ) -> Result<(), NoMemory>
     ensures told { OnOk result (told.new ≡ noted_all kernel events.old sent.now told.old) }
     ensures whole { OnOk result (untold events.old sent.now ≡ []) }
+    ensures all { OnOk result (without_faults told.new ≡ without_faults told.old ++ events.old) }
 {
     let mut left = sent;
     'events: while !events.is_empty() {
@@ -66,13 +67,15 @@ pub fn note_all(
 }
 
 // Tells one thing that the kernel did.
+#[tactic(auto, using(crate::proofs::NotedLaws::packet_told))]
 fn note_one(
     told: &mut Items<Event>,
     kernel: Kernel,
     event: Event,
     sent: &[Sent],
 ) -> Result<(), NoMemory>
-    ensures { OnOk result (told.new ≡ noted_one kernel event (packet_of event sent.now) told.old) }
+    ensures told { OnOk result (told.new ≡ noted_one kernel event (packet_of event sent.now) told.old) }
+    ensures all { OnOk result (without_faults told.new ≡ without_faults told.old ++ event ∷ []) }
 {
     match packet_of(&event, sent) {
         Some(packet) => {
@@ -83,14 +86,16 @@ fn note_one(
     }
 }
 
-// Tells what the kernel alone tells, and else nothing.
+// Tells what the kernel alone tells. Want of memory is also the answer where it isn't the kernel that tells it.
+#[tactic(auto, using(crate::proofs::NotedLaws::own_told))]
 fn note_own(told: &mut Items<Event>, kernel: Kernel, event: Event) -> Result<(), NoMemory>
-    ensures { OnOk result (told.new ≡ noted_one kernel event None told.old) }
+    ensures told { OnOk result (told.new ≡ noted_one kernel event None told.old) }
+    ensures all { OnOk result (without_faults told.new ≡ without_faults told.old ++ event ∷ []) }
 {
     if is_own(&event) {
         return told.push(event);
     }
-    Ok(())
+    Err(NoMemory)
 }
 
 // Whether the kernel alone tells that.

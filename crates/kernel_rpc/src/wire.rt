@@ -94,6 +94,7 @@ impl<M: Message + Drop, L: Link> Wire<M, L> {
         ensures tx { IfOk result (λ call. call.0 ≡ record { 0 = self.old.machine.begun + 1 }) }
         ensures link { IfOk result (λ call. IsAsked (L.faults self.old.link) (L.asked self.old.link) (L.faults self.new.link) (L.asked self.new.link) from to call.1) }
         ensures machine { IfOk result (λ call. self.new.machine ≡ begun (new_call self.old.machine from port (to ∷ []) to (M.spelling body) tries about (L.faults self.old.link from to)) ((to, call.1) ∷ []) self.old.machine) }
+        ensures known { IfOk result (λ _. M.is_message body) }
         ensures err { OnErr result (self.new ≡ self.old) }
     {
         let receivers = waiting(alloc, &[to])?;
@@ -188,6 +189,7 @@ impl<M: Message + Drop, L: Link> Wire<M, L> {
         ensures fates { IfOk result (λ call. length call.1 ≡ length servers.now) }
         ensures link { IfOk result (λ call. Asks L.faults L.asked from self.old.link self.new.link (pairs servers.now call.1)) }
         ensures machine { IfOk result (λ call. self.new.machine ≡ begun (new_call self.old.machine from port servers.now owner (M.spelling body) Eight about (L.faults self.old.link from owner)) (pairs servers.now call.1) self.old.machine) }
+        ensures known { IfOk result (λ _. M.is_message body) }
         ensures err { OnErr result (self.new ≡ self.old) }
     {
         let receivers = waiting(alloc, servers)?;
@@ -256,6 +258,7 @@ impl<M: Message + Drop, L: Link> Wire<M, L> {
         requires taken { IsTrue (may_answer self.old.machine tx) }
         ensures link { IfOk result (λ fate. AsksBack L.faults L.asked self.old.link self.new.link fate (call_of self.old.machine tx)) }
         ensures machine { IfOk result (λ fate. self.new.machine ≡ answer tx (M.spelling body) fate self.old.machine) }
+        ensures known { IfOk result (λ _. M.is_message body) }
         ensures err { OnErr result (self.new ≡ self.old) }
     {
         let bytes = spelled(alloc, body)?;

@@ -4,7 +4,7 @@ use Rattle.kernel_steps.specs.declared.Sending.{Sending}
 use Rattle.cluster_wire.specs.Calling.{IsBegin, sent_by}
 use Rattle.cluster_wire.specs.Faults.{packets}
 use Rattle.cluster_wire.specs.Goings.{goes}
-use Rattle.cluster_wire.proofs.CallLaws.{did_begin}
+use Rattle.cluster_wire.proofs.CallLaws.{all_go, did_begin}
 use Rattle.cluster_wire.proofs.LinkLaws.{asks_more}
 use Rattle.cluster_wire.proofs.RanLaws.{leads_all, leads_on}
 use Rattle.cluster_wire.proofs.calls.begin_all.Goals as goal
@@ -19,3 +19,8 @@ sends-preserved g c = record {
 pub returns-clause-begun : goal.returns-clause-begun
 returns-clause-begun g c =
     leads_all g.L.Link.faults g.L.Link.asked (λ (machine : Machine) (sending : Sending). goes c.args.c.now c.args.kernel sending) (IsBegin c.args.kernel) sent_by c.args.sends.now c.args.wire.now c.sends.sends c.sends.wire c.sends.sent (search rules) c.sends.invariant.leads
+
+pub returns-clause-go : goal.returns-clause-go
+returns-clause-go g c =
+    let done = leads_all g.L.Link.faults g.L.Link.asked (λ (machine : Machine) (sending : Sending). goes c.args.c.now c.args.kernel sending) (IsBegin c.args.kernel) sent_by c.args.sends.now c.args.wire.now c.sends.sends c.sends.wire c.sends.sent (search rules) c.sends.invariant.leads in
+    all_go c.args.c.now c.args.kernel c.args.sends.now c.args.wire.now.machine done.steps done.each

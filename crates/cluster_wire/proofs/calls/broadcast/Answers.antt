@@ -12,7 +12,7 @@ returns-clause-begun g c =
     (broadcast_to (may_go_to c.args.sending.to c.args.kernel c.args.owner) c.args.owner c.args.sending) c.about-about.result c.in_ok-tx.fates c.args.wire.now c.broadcast.new.self c.args.sent.now c.put_all.new.sent
     (may_go c.args.kernel c.args.owner c.least_of.result c.args.sending c.as_slice-servers.result.now c.may_go_to.result c.as_slice-servers.ensures c.may_go_to.ensures.is c.if-not-may_go_to.false c.least_of.ensures)
     refl c.about-about.ensures c.requires.number (c.may_go_to.ensures.caller_apart c.if-not-may_go_to.false) (c.may_go_to.ensures.apart c.if-not-may_go_to.false) (c.may_go_to.ensures.owner_there c.if-not-may_go_to.false)
-    c.requires.free c.requires.least c.in_ok-tx.ensures.fates c.in_ok-tx.ensures.link c.in_ok-tx.ensures.machine c.in_ok-tx.ensures.tx
+    c.requires.free c.requires.least c.in_ok-tx.ensures.fates c.in_ok-tx.ensures.link c.in_ok-tx.ensures.machine c.in_ok-tx.ensures.known c.in_ok-tx.ensures.tx
     (grown ∙ ap (λ fates. c.args.sent.now ++ map (sent_as c.in_ok-tx.tx) (pairs c.as_slice-servers.result.now fates)) c.as_slice.ensures)) c.put_all.ensures
 
 pub returns-clause-asked : goal.returns-clause-asked
