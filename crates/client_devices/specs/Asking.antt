@@ -2,8 +2,6 @@
 use Rattle.std.specs.Prelude.{ℕ, ◌==◌, Bool, true, false, not, if◌then◌else◌, ◌&&◌, [], ◌∷◌, ◌++◌, Option, Some, None}
 use Rattle.sprite_ids.specs.declared.DeviceId.{DeviceId}
 use Rattle.sprite_ids.specs.declared.Errno.TheVariants as errnos
-use Rattle.sprite_ids.specs.declared.Mode.{Mode}
-use Rattle.sprite_ids.specs.declared.Mode.TheVariants as modes
 use Rattle.sprite_ids.specs.declared.Object.{Object}
 use Rattle.sprite_ids.specs.declared.Object.TheVariants as objects
 use Rattle.sprite_ids.specs.declared.TxNo.{TxNo}
@@ -20,6 +18,7 @@ use Rattle.stream_table.specs.declared.Stream.{Stream}
 use Rattle.unix_calls.specs.declared.About.{About}
 use Rattle.unix_calls.specs.declared.Event.TheVariants.{Enter}
 use Rattle.unix_calls.specs.declared.Part.TheVariants as parts
+use Rattle.unix_calls.specs.Opening.{reads, writes}
 use Rattle.client_homes.specs.declared.Proc.{Proc}
 use Rattle.client_homes.specs.declared.ProcState.TheVariants as states
 use Rattle.client_homes.specs.declared.Unfinished.TheVariants as unfinished
@@ -113,17 +112,6 @@ asks_by pid device None s = answers_here pid (Error errnos.Invalid) s
 abbrev pub asks_device : ℕ → DeviceId → ClientProcs → ClientProcs
 asks_device pid device s = asks_by pid device (own_ask pid s) s
 
--- whether a mode allows reads, and writes
-abbrev pub may_read : Mode → Bool
-may_read modes.Read = true
-may_read modes.Write = false
-may_read modes.Both = true
-
-abbrev pub may_write : Mode → Bool
-may_write modes.Read = false
-may_write modes.Write = true
-may_write modes.Both = true
-
 -- what a call is for
 abbrev pub device_aim : DeviceId → Bool → Aim
 device_aim device allowed = if allowed then Device device else Refused errnos.BadMode
@@ -134,11 +122,11 @@ data_aim (objects.File file) allowed = Files
 data_aim (objects.Master device) allowed = Files
 
 abbrev pub read_aim : Option Stream → Aim
-read_aim (Some stream) = data_aim stream.object (may_read stream.mode)
+read_aim (Some stream) = data_aim stream.object (reads stream.mode)
 read_aim None = Files
 
 abbrev pub write_aim : Option Stream → Aim
-write_aim (Some stream) = data_aim stream.object (may_write stream.mode)
+write_aim (Some stream) = data_aim stream.object (writes stream.mode)
 write_aim None = Files
 
 abbrev pub command_on : Object → Aim

@@ -46,16 +46,21 @@ gets_by pid max (Refused errno) s = answers_here pid (Error errno) s
 abbrev pub gets : ℕ → ℕ → ℕ → ClientProcs → ClientProcs
 gets pid fd max s = gets_by pid max (master_of pid fd s) s
 
--- the ask in hand ends with its answer
-abbrev pub gives_answer : ℕ → Answer → ClientProcs → ClientProcs
-gives_answer pid answer s = replies pid (value 0 0) (ends_ask answer.ask answer.reply (enters_own pid (value 0 0) s))
+-- the master's call takes effect, and the ask ends with its answer
+abbrev pub enters_put : ℕ → Answer → ClientProcs → ClientProcs
+enters_put pid answer s = ends_ask answer.ask answer.reply (enters_own pid (value 0 0) s)
 
-abbrev pub gives_if : ℕ → Option Answer → ClientProcs → ClientProcs
-gives_if pid (Some answer) s = gives_answer pid answer s
-gives_if pid None s = answers_here pid (Error errnos.Invalid) s
+-- with that the ask isn't in hand any more
+abbrev pub puts_and_ends : ℕ → ℕ → List ℕ → Option Errno → Answer → ClientProcs → ClientProcs
+puts_and_ends pid device bytes errno answer s = enters_put pid answer (puts_at device bytes errno s)
+
+-- where the ask in hand can have that answer
+abbrev pub puts_if : ℕ → ℕ → List ℕ → Option Errno → Option Answer → ClientProcs → ClientProcs
+puts_if pid device bytes errno (Some answer) s = replies pid (value 0 0) (puts_and_ends pid device bytes errno answer s)
+puts_if pid device bytes errno None s = answers_here pid (Error errnos.Invalid) (puts_at device bytes errno s)
 
 abbrev pub puts_with : ℕ → ℕ → List ℕ → Option Errno → ClientProcs → ClientProcs
-puts_with pid device bytes errno s = gives_if pid (answer_at device bytes errno s) (puts_at device bytes errno s)
+puts_with pid device bytes errno s = puts_if pid device bytes errno (answer_at device bytes errno s) s
 
 abbrev pub puts_error : ℕ → ℕ → List ℕ → Option Errno → ClientProcs → ClientProcs
 puts_error pid device bytes (Some errno) s = puts_with pid device bytes (Some errno) s

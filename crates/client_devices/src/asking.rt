@@ -1,8 +1,9 @@
 ghost use Rattle.std.specs.Prelude.{◌≡◌, true, IfOk, OnOk};
-ghost use Rattle.client_devices.specs.Asking.{about_ask, aim_of, ask_in, asks_device, command_aim, command_on, data_aim, device_aim, ends_ask, enters_ask, gives_to, goes_to, is_used_by, may_read, may_write, notes_ask, notes_end, own_ask, read_aim, request_about, sends_ask, serves_ask, uses_device, write_aim};
+ghost use Rattle.client_devices.specs.Asking.{about_ask, aim_of, ask_in, asks_device, command_aim, command_on, data_aim, device_aim, ends_ask, enters_ask, gives_to, goes_to, is_used_by, notes_ask, notes_end, own_ask, read_aim, request_about, sends_ask, serves_ask, uses_device, write_aim};
 ghost use Rattle.client_homes.specs.Procs.{answers_here, replies};
 ghost use Rattle.client_homes.specs.Words.{reply_of};
 ghost use Rattle.process_machine.specs.declared.Reply.TheVariants.{Error};
+ghost use Rattle.unix_calls.specs.Opening.{reads, writes};
 
 use crate::asks::{ask_of, call_of, carried_ask, packed_ask};
 use crate::getting::serve_getters;
@@ -292,7 +293,7 @@ fn read_aim(stream: Option<Stream>) -> Aim
     ensures { result ≡ read_aim stream }
 {
     match stream {
-        Some(stream) => data_aim(&stream.object, may_read(stream.mode)),
+        Some(stream) => data_aim(&stream.object, reads(stream.mode)),
         None => Aim::Files,
     }
 }
@@ -301,7 +302,7 @@ fn write_aim(stream: Option<Stream>) -> Aim
     ensures { result ≡ write_aim stream }
 {
     match stream {
-        Some(stream) => data_aim(&stream.object, may_write(stream.mode)),
+        Some(stream) => data_aim(&stream.object, writes(stream.mode)),
         None => Aim::Files,
     }
 }
@@ -327,8 +328,8 @@ fn device_aim(device: &DeviceId, allowed: bool) -> Aim
     }
 }
 
-fn may_read(mode: Mode) -> bool
-    ensures { result ≡ may_read mode }
+fn reads(mode: Mode) -> bool
+    ensures { result ≡ reads mode }
 {
     match mode {
         Mode::Read => true,
@@ -337,8 +338,8 @@ fn may_read(mode: Mode) -> bool
     }
 }
 
-fn may_write(mode: Mode) -> bool
-    ensures { result ≡ may_write mode }
+fn writes(mode: Mode) -> bool
+    ensures { result ≡ writes mode }
 {
     match mode {
         Mode::Read => false,

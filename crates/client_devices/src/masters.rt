@@ -1,5 +1,6 @@
 ghost use Rattle.std.specs.Prelude.{◌≡◌, OnOk};
-ghost use Rattle.client_devices.specs.Masters.{gets, gives_answer, master_in, master_of, most, puts, puts_to, puts_with, waits_for_ask};
+ghost use Rattle.client_devices.specs.Masters.{enters_put, gets, master_in, master_of, most, puts, puts_to, puts_with, waits_for_ask};
+ghost use Rattle.client_homes.specs.Procs.{replies};
 ghost use Rattle.client_homes.specs.Says.{value};
 ghost use Rattle.unix_calls.specs.DeviceCalls.{errno_of};
 
@@ -113,14 +114,15 @@ fn put_with(
     }
 }
 
-// The master's call takes effect, then the ask ends with its answer, and then the master's call is answered.
+// The ask isn't in hand any more: the master's call takes effect, then the ask ends with its answer, and then the master's call is
+// answered.
 fn give_answer(
     client: &mut ClientProcs,
     alloc: Global,
     pid: Pid,
     answer: Answer,
 ) -> Result<(), NoMemory>
-    ensures { OnOk result (client.new ≡ gives_answer pid answer client.old) }
+    ensures { OnOk result (client.new ≡ replies pid (value 0 0) (enters_put pid answer client.old)) }
 {
     let Answer { ask, reply } = answer;
     client.enter_own(alloc, pid, &nothing(alloc))?;

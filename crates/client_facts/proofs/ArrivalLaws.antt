@@ -1,10 +1,14 @@
 -- A process that arrives: where processes are is kept, and who is ready has neither a call nor a flag.
 use Rattle.std.proofs.Common.{◌≡◌, ℕ, ◌==◌, Bool, true, false, not, is_some, cond, List, Option, Some, None, option_map, refl, sym, ap, ◌∙◌, subst}
+use Rattle.std.proofs.lemmas.Bool.{and_parts}
 use Rattle.std.specs.BTreeMap.{is_at}
+use Rattle.std.specs.List.{list_any}
 use Rattle.std.specs.Map.{lookup}
 use Rattle.std.specs.Ordering.{nat_cmp}
 use Rattle.sprite_ids.specs.declared.TxNo.{TxNo}
 use Rattle.sprite_ids.specs.Pid.{home_of}
+use Rattle.sprite_ids.proofs.ListLaws.{some_is}
+use Rattle.kernel_steps.specs.Rows.{is_under}
 use Rattle.process_machine.specs.declared.Reply.{Reply}
 use Rattle.process_machine.specs.Machine.{Machine}
 use Rattle.packet_bodies.specs.declared.CarriedStream.{CarriedStream}
@@ -13,7 +17,7 @@ use Rattle.packet_bodies.specs.declared.Request.{Request}
 use Rattle.packet_bodies.specs.declared.Request.TheVariants as requests
 use Rattle.migrate_freeze.specs.declared.arrival.Arrival.{Arrival}
 use Rattle.migrate_freeze.specs.declared.process.Process.{Process}
-use Rattle.migrate_freeze.specs.Arriving.{launch_arrival, process_with, transfer_arrival}
+use Rattle.migrate_freeze.specs.Arriving.{arrived_of, launch_arrival, process_with, transfer_arrival}
 use Rattle.unix_calls.specs.declared.Event.TheVariants.{Thaw}
 use Rattle.client_homes.specs.declared.client.ClientProcs.{ClientProcs}
 use Rattle.client_homes.specs.declared.client.Unfinished.TheVariants as unfinished
@@ -25,14 +29,15 @@ use Rattle.client_homes.specs.Homes.{is_killed, is_native, moves_to}
 use Rattle.client_homes.specs.Killing.{forgets_waiting, is_waiting, kill_at}
 use Rattle.client_homes.specs.Pages.{fetches}
 use Rattle.client_homes.specs.Procs as procs
-use Rattle.client_homes.specs.Procs.{proc_at}
+use Rattle.client_homes.specs.Kills.{is_here}
+use Rattle.client_homes.specs.Procs.{is_pid, proc_at}
 use Rattle.client_homes.specs.Says.{answers, gives, next_tx, notes, sends, value}
 use Rattle.client_moves.specs.Paging as paging
 use Rattle.client_procs.specs.Arriving as arriving
 use Rattle.client_procs.specs.Launching.{fresh_image}
 use Rattle.client_facts.specs.ProcFacts.{is_free_in}
-use Rattle.client_facts.specs.Places.{ComesNew, IsNew, KeepsPlaces}
-use Rattle.client_facts.proofs.ComingLaws.{came_in, changed_kept, goes_between, new_same, returned_with}
+use Rattle.client_facts.specs.Places.{IsNew, KeepsPlaces}
+use Rattle.client_facts.proofs.ComingLaws.{came_in, changed_kept, goes_between, new_same, not_false, returned_with}
 use Rattle.client_facts.proofs.PlaceLaws.{Clean, Kept, and_true, by_bool, kept_if, kept_places, kept_same, never, places_kept, settled_state, settled_with, that}
 
 -- a process that comes: outside of its own `migrate` it has neither a call nor a fresh image
@@ -121,14 +126,33 @@ kept_launched (Some image) arrival program streams s moving new h =
     (λ _. kept_installs (process_with arrival image) true streams s new (λ still. absurd (let both = sym moving ∙ still in cc)) h)
 
 -- another kernel sends it
-kept_arrives : (body : Request) (tx : TxNo) (s : ClientProcs) → ComesNew body s → Kept never s → Kept never (arriving.arrives tx body s)
-kept_arrives (requests.Transfer request) tx s new h =
+kept_takes_if : (body : Request) (tx : TxNo) (pid : ℕ) (s : ClientProcs) → arriving.brought body ≡ Some pid → IsNew pid s → Kept never s → Kept never (arriving.takes_if tx (arrived_of body) s)
+kept_takes_if (requests.Transfer request) tx pid s e new h =
     let told : ClientProcs = answers tx Done s in
-    kept_installs (process_with (transfer_arrival request) request.image) false request.streams told (new_same request.pid s told refl refl new) (λ _. refl) (kept_same never s told refl refl h)
-kept_arrives (requests.Launch request) tx s new h =
+    let known : IsNew request.pid s = subst (λ (n : ℕ). IsNew n s) (sym (some_is request.pid pid e)) new in
+    kept_installs (process_with (transfer_arrival request) request.image) false request.streams told (new_same request.pid s told refl refl known) (λ _. refl) (kept_same never s told refl refl h)
+kept_takes_if (requests.Launch request) tx pid s e new h =
     let told : ClientProcs = answers tx Done s in
-    kept_launched (fresh_image s.programs request.program 0) (launch_arrival request) request.program request.streams told refl (new_same request.pid s told refl refl new) (kept_same never s told refl refl h)
-kept_arrives body tx s new h = h
+    let known : IsNew request.pid s = subst (λ (n : ℕ). IsNew n s) (sym (some_is request.pid pid e)) new in
+    kept_launched (fresh_image s.programs request.program 0) (launch_arrival request) request.program request.streams told refl (new_same request.pid s told refl refl known) (kept_same never s told refl refl h)
+kept_takes_if body tx pid s e new h = h
 
-pub arrivals_keep_places : (body : Request) (tx : TxNo) (s : ClientProcs) → ComesNew body s → KeepsPlaces s → KeepsPlaces (arriving.arrives tx body s)
-arrivals_keep_places body tx s new h = places_kept (arriving.arrives tx body s) (kept_arrives body tx s new (kept_places s h))
+-- where it is neither here nor on its way from here
+is_new_by : (pid : ℕ) (s : ClientProcs) → arriving.is_new pid s ≡ true → IsNew pid s
+is_new_by pid s h =
+    let parts = and_parts (not (is_here pid s)) (not (list_any (is_under is_pid pid) s.leaving)) h in
+    record { gone = not_false (is_here pid s) parts.0; stays = not_false (list_any (is_under is_pid pid) s.leaving) parts.1 }
+
+tested : (b : Bool) → not b ≡ false → b ≡ true
+tested true h = refl
+tested false h = absurd (cc)
+
+kept_arrives : (o : Option ℕ) (body : Request) (tx : TxNo) (s : ClientProcs) → arriving.brought body ≡ o → Kept never s → Kept never (arriving.arrives_if tx o body s)
+kept_arrives None body tx s e h = h
+kept_arrives (Some pid) body tx s e h =
+    by_bool (λ (t : ClientProcs). t) (Kept never) (not (arriving.is_new pid s)) _ _
+    (λ _. h)
+    (λ new. kept_takes_if body tx pid s e (is_new_by pid s (tested (arriving.is_new pid s) new)) h)
+
+pub arrivals_keep_places : (body : Request) (tx : TxNo) (s : ClientProcs) → KeepsPlaces s → KeepsPlaces (arriving.arrives tx body s)
+arrivals_keep_places body tx s h = places_kept (arriving.arrives tx body s) (kept_arrives (arriving.brought body) body tx s refl (kept_places s h))

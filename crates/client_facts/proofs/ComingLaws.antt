@@ -65,7 +65,7 @@ free_found p (row ∷ rows) proc h e =
     let parts = and_parts (is_free_if_ready row) (list_all is_free_if_ready rows) h in
     free_by row (lookup p rows) proc (p row.0) parts.0 (free_found p rows proc parts.1) e
 
-not_false : (b : Bool) → not b ≡ true → b ≡ false
+pub not_false : (b : Bool) → not b ≡ true → b ≡ false
 not_false true h = absurd (cc)
 not_false false h = refl
 
@@ -133,10 +133,6 @@ kept_answers_by (Some entry) pid reply s h =
 
 killed_by : (state : ProcState) (pid : ℕ) (proc : Proc) (s : ClientProcs) → proc.state ≡ state → proc_at pid s ≡ Some proc → is_free_in state proc ≡ true → Kept never s → Kept never (kills.meets_as pid (kills.meeting_in state) (record s { procs = set_value (is_at (nat_cmp pid)) s.procs (record proc { killed = true }) }))
 killed_by states.Ready pid proc s at e free h =
-    let new : Proc = record proc { killed = true } in
-    let t : ClientProcs = record s { procs = set_value (is_at (nat_cmp pid)) s.procs new } in
-    kept_dies pid new t (found_set (is_at (nat_cmp pid)) s.procs proc new e) (kept_set (that pid) pid new s (λ key at. ap (λ b. b || is_free_if_ready (key, new)) (sym (at_is pid key) ∙ at)) (kept_more pid s h))
-killed_by (states.PageWait tx page) pid proc s at e free h =
     let new : Proc = record proc { killed = true } in
     let t : ClientProcs = record s { procs = set_value (is_at (nat_cmp pid)) s.procs new } in
     kept_dies pid new t (found_set (is_at (nat_cmp pid)) s.procs proc new e) (kept_set (that pid) pid new s (λ key at. ap (λ b. b || is_free_if_ready (key, new)) (sym (at_is pid key) ∙ at)) (kept_more pid s h))

@@ -18,6 +18,7 @@ use Rattle.process_machine.specs.declared.Reply.{Reply}
 use Rattle.process_machine.specs.declared.Reply.TheVariants.{Error, Value}
 use Rattle.pseudo_device.specs.declared.ask.Ask.{Ask}
 use Rattle.pseudo_device.specs.Device.{Asks}
+use Rattle.stream_table.specs.declared.Carried.{Carried}
 use Rattle.stream_table.specs.declared.Place.{Place}
 use Rattle.migrate_freeze.specs.declared.frozen.MoveStep.{MoveStep}
 use Rattle.migrate_freeze.specs.declared.frozen.MoveStep.TheVariants as steps
@@ -46,7 +47,7 @@ use Rattle.client_homes.specs.Waits as waits
 use Rattle.client_devices.specs.Asking as asking
 use Rattle.client_devices.specs.Making as making
 use Rattle.client_devices.specs.Tables as tables
-use Rattle.client_moves.specs.Carrying.{holds_master}
+use Rattle.client_moves.specs.Carrying.{all_carried, holds_master}
 use Rattle.client_moves.specs.Freezing as freezing
 use Rattle.client_moves.specs.Leaving as leaving
 use Rattle.client_moves.specs.Returning as returning
@@ -258,13 +259,14 @@ module _ (skip : ℕ → Bool) where
       let left : ClientProcs = record s { waits = less (is_under is_pid parent) s.waits } in
       kept_wakes_if (first_under is_pid parent s.waits) parent left (kept_same skip s left refl refl h)
 
-  kept_ends_at_home : (pid : ℕ) (ending : Ending) (s : ClientProcs) → Kept skip s → Kept skip (waits.ends_at_home pid ending s)
-  kept_ends_at_home pid ending s h =
-      let ended : ClientProcs = homes.ends_at pid ending s in
-      let forgot : ClientProcs = forgets_waiting pid ended in
-      let first : Kept skip ended = kept_if skip (homes.is_native pid s) _ _ (kept_same skip s _ refl refl h) h in
-      let second : Kept skip forgot = kept_if skip (is_waiting (kill_at pid ended)) _ _ (kept_same skip ended _ refl refl first) first in
-      kept_wakes_parent (homes.parent_in pid forgot) forgot second
+  kept_ended : (pid : ℕ) (ending : Ending) (s : ClientProcs) → Kept skip s → Kept skip (homes.ends_at pid ending s)
+  kept_ended pid ending s h = kept_if skip (homes.is_native pid s) _ _ (kept_same skip s _ refl refl h) h
+
+  kept_wakes_after : (pid : ℕ) (s : ClientProcs) → Kept skip s → Kept skip (waits.wakes_after pid s)
+  kept_wakes_after pid s h =
+      let forgot : ClientProcs = forgets_waiting pid s in
+      let so : Kept skip forgot = kept_if skip (is_waiting (kill_at pid s)) _ _ (kept_same skip s _ refl refl h) h in
+      kept_wakes_parent (homes.parent_in pid forgot) forgot so
 
 -- Deaths
 
@@ -275,11 +277,12 @@ kept_closes_all skip pid about s h = kept_same skip s _ refl refl h
 kept_dies_as : (about : About) (s : ClientProcs) → Kept (that about.pid) s → Kept never (ends.dies_as about s)
 kept_dies_as about s h =
     let entered : ClientProcs = enters_death about s in
-    let ended : ClientProcs = waits.ends_at_home about.pid Killed entered in
-    let ending : ClientProcs = procs.in_state about.pid states.Ending ended in
+    let ended : ClientProcs = ends.ends_by_death about s in
+    let woken : ClientProcs = waits.wakes_after about.pid ended in
+    let ending : ClientProcs = procs.in_state about.pid states.Ending woken in
     let told : ClientProcs = ends.dies_elsewhere about s in
     kept_if never (homes.is_native about.pid s) _ _
-    (kept_closes_all never about.pid None ending (settled_state about.pid states.Ending ended (λ proc. refl) (kept_ends_at_home (that about.pid) about.pid Killed entered (kept_same (that about.pid) s entered refl refl h))))
+    (kept_closes_all never about.pid None ending (settled_state about.pid states.Ending woken (λ proc. refl) (kept_wakes_after (that about.pid) about.pid ended (kept_ended (that about.pid) about.pid Killed entered (kept_same (that about.pid) s entered refl refl h)))))
     (kept_dying about s h)
   where
     kept_dying : (about : About) (s : ClientProcs) → Kept (that about.pid) s → Kept never (ends.dies_elsewhere about s)
@@ -441,23 +444,21 @@ same_pages [] pid s = (refl, refl)
 same_pages (page ∷ pages) pid s = same_pages pages pid (freezing.puts_page pid page.0 page.1 s)
 
 -- a process that isn't here and doesn't leave begins to leave
-kept_sends_off : (pid : ℕ) (proc : Proc) (route : Route) (s : ClientProcs) → is_here pid s ≡ false → list_any (is_under is_pid pid) s.leaving ≡ false → Kept never s → Kept never (freezing.sends_off pid proc route s)
-kept_sends_off pid proc route s gone none h =
+kept_sends_off : (pid : ℕ) (proc : Proc) (route : Route) (streams : List Carried) (s : ClientProcs) → is_here pid s ≡ false → list_any (is_under is_pid pid) s.leaving ≡ false → Kept never s → Kept never (freezing.sends_off pid proc route streams s)
+kept_sends_off pid proc route streams s gone none h =
     let dropped : ClientProcs = freezing.drops_cwd pid s in
-    let so : Kept never dropped = kept_same never s dropped refl refl h in
-    kept_if never (not (can_move (freezing.process_of pid proc route s).streams)) _ _ so
-    (kept_leaves_on pid _ (kept_leaving pid _ route.about dropped gone none so))
+    kept_leaves_on pid _ (kept_leaving pid _ route.about dropped gone none (kept_same never s dropped refl refl h))
 
-kept_puts_out_if : (o : Option Proc) (pid : ℕ) (route : Route) (s : ClientProcs) → proc_at pid s ≡ o → Kept never s → Kept never (freezing.puts_out_if pid o route (freezing.takes_proc pid s))
-kept_puts_out_if None pid route s e h = kept_takes_proc pid s h
-kept_puts_out_if (Some proc) pid route s e h =
+kept_puts_out_if : (o : Option Proc) (pid : ℕ) (route : Route) (streams : List Carried) (s : ClientProcs) → proc_at pid s ≡ o → Kept never s → Kept never (freezing.puts_out_if pid o route streams (freezing.takes_proc pid s))
+kept_puts_out_if None pid route streams s e h = kept_takes_proc pid s h
+kept_puts_out_if (Some proc) pid route streams s e h =
     let taken : ClientProcs = freezing.takes_proc pid s in
     let pages = freezing.pages_for route.program proc.image in
     let put : ClientProcs = freezing.puts_pages pid pages taken in
     let same = same_pages pages pid taken in
     let gone : is_here pid taken ≡ false = listed_here pid (remove_entry (is_at (nat_cmp pid)) s.procs) ∙ removed_none pid s.procs h.once in
     let none : list_any (is_under is_pid pid) taken.leaving ≡ false = none_leaves pid s s.leaving (ap is_some e) h.apart in
-    kept_sends_off pid (freezing.without_pages route.program proc) route put
+    kept_sends_off pid (freezing.without_pages route.program proc) route streams put
     (ap (λ (rows : List (ℕ × Proc)). is_some (lookup (is_at (nat_cmp pid)) rows)) same.0 ∙ gone)
     (ap (λ (rows : List (ℕ × Leaving)). list_any (is_under is_pid pid) rows) same.1 ∙ none)
     (kept_puts_pages pages pid taken (kept_takes_proc pid s h))
@@ -474,7 +475,8 @@ kept_freezes : (pid : ℕ) (route : Route) (s : ClientProcs) → Kept never s �
 kept_freezes pid route s h =
     let noted : ClientProcs = notes (Freeze pid) s in
     let entered : ClientProcs = freezing.enters_move pid route.about noted in
-    kept_puts_out_if (proc_at pid entered) pid route entered refl (kept_enters_move route.about pid noted (kept_same never s noted refl refl h))
+    kept_if never (not (can_move (all_carried pid s))) _ _ h
+    (kept_puts_out_if (proc_at pid entered) pid route (all_carried pid s) entered refl (kept_enters_move route.about pid noted (kept_same never s noted refl refl h)))
 
 -- Calls that return
 

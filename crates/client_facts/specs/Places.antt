@@ -3,7 +3,6 @@ use Rattle.std.specs.Prelude.{◌≡◌, ℕ, false, List}
 use Rattle.std.specs.List.{list_any}
 use Rattle.sprite_ids.specs.declared.TxNo.{TxNo}
 use Rattle.packet_bodies.specs.declared.Request.{Request}
-use Rattle.packet_bodies.specs.declared.Request.TheVariants as requests
 use Rattle.kernel_steps.specs.Rows.{is_under}
 use Rattle.client_homes.specs.declared.client.ClientProcs.{ClientProcs}
 use Rattle.client_homes.specs.Births.{makes_child}
@@ -46,12 +45,6 @@ pub record IsNew (pid : ℕ) (s : ClientProcs) : Type 0 where
 abbrev pub BirthsKeepPlaces : Type 0
 BirthsKeepPlaces = (parent child : ℕ) (s : ClientProcs) → IsNew child s → KeepsPlaces s → KeepsPlaces (makes_child parent child s)
 
--- the process that a request brings, where it brings one, is such a one
-abbrev pub ComesNew : Request → ClientProcs → Type 0
-ComesNew (requests.Transfer request) s = IsNew request.pid s
-ComesNew (requests.Launch request) s = IsNew request.pid s
-ComesNew _ s = Unit {0}
-
--- its arrival keeps it, here or at its home, in its own `migrate` or not
+-- what a request brings keeps it: a process of which the kernel knows already isn't taken in; any other goes on here, or is told to its home
 abbrev pub ArrivalsKeepPlaces : Type 0
-ArrivalsKeepPlaces = (body : Request) (tx : TxNo) (s : ClientProcs) → ComesNew body s → KeepsPlaces s → KeepsPlaces (arrives tx body s)
+ArrivalsKeepPlaces = (body : Request) (tx : TxNo) (s : ClientProcs) → KeepsPlaces s → KeepsPlaces (arrives tx body s)

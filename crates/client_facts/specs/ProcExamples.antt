@@ -167,6 +167,7 @@ pub record ProcFactsCanFail (image : Machine) : Type 0 where
   pub settled : facts.NoneReturns (beside (inside states.Returning image) image) → ⊥
   pub calls : facts.WaitedCallsAreUnfinished (beside (inside (states.AtHome (call 30)) image) image) → ⊥
   pub wanted : facts.UnfinishedAreWaitedFor (record (busy_client image) { unfinished = (call 30, unfinished.Home 2005) ∷ [] }) → ⊥
+  pub wanted_page : facts.UnfinishedAreWaitedFor (record (busy_client image) { unfinished = (call 30, unfinished.PageIn 2005) ∷ [] }) → ⊥
   pub calls_once : facts.UnfinishedAreOnce (record (busy_client image) { unfinished = (call 11, unfinished.PageIn 2005) ∷ (busy_client image).unfinished }) → ⊥
   pub pages : facts.SentWaitForPages (record (busy_client image) { unfinished = [] }) → ⊥
   pub getting : facts.GettersWaitForAsks (record (busy_client image) { devices = (1, asked) ∷ [] }) → ⊥

@@ -237,11 +237,10 @@ is_for tx None = false
 abbrev pub waits_for : ℕ → TxNo → ProcState → Bool
 waits_for pid tx state = is_for tx (waited_call pid state)
 
--- whether it is known here for what the remote call is: the page that came too late for a process that died meanwhile, and a
--- process that was sent are nobody's
+-- whether it is known here for what the remote call is: a process that was sent is nobody's
 abbrev pub is_wanted : TxNo → Unfinished → ClientProcs → Bool
 is_wanted tx (unfinished.PageOut pid) s = is_some (leaving_at pid s)
-is_wanted tx (unfinished.PageIn pid) s = true
+is_wanted tx (unfinished.PageIn pid) s = is_in (waits_for pid tx) (proc_at pid s)
 is_wanted tx (unfinished.Home pid) s = is_in (waits_for pid tx) (proc_at pid s)
 is_wanted tx (unfinished.Ask pid) s = is_in (waits_for pid tx) (proc_at pid s)
 is_wanted tx (unfinished.Death pid) s = is_in (waits_for pid tx) (proc_at pid s)

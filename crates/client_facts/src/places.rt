@@ -26,7 +26,7 @@ pub fn births_keep_places()
     ensures { BirthsKeepPlaces }
 {}
 
-/// A law: the arrival of such a process keeps it, at its home or elsewhere, in its own `migrate` or not.
+/// A law: the arrival of any process keeps it, at its home or elsewhere, in its own `migrate` or not.
 pub fn arrivals_keep_places()
     ensures { ArrivalsKeepPlaces }
 {}

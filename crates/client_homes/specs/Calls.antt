@@ -11,17 +11,21 @@ use Rattle.packet_bodies.specs.declared.HomeRequest.{HomeRequest}
 use Rattle.client_homes.specs.declared.client.ClientProcs.{ClientProcs}
 use Rattle.client_homes.specs.Says.{value}
 use Rattle.client_homes.specs.Clusters.{name_of}
-use Rattle.client_homes.specs.Homes.{bears, born_pid, is_killed, kills_at, lives_at, parent_in, ticks}
-use Rattle.client_homes.specs.Waits.{about_of, ends_at_home, enters_home, wait_reply, waits}
+use Rattle.client_homes.specs.Homes.{bears, born_pid, ends_at, is_killed, kills_at, lives_at, parent_in, ticks}
+use Rattle.client_homes.specs.Waits.{about_of, enters_home, wait_reply, waits, wakes_after}
 use Rattle.client_homes.specs.Kills.{tells_kill}
 
 -- how a process ended that ended with that code
 abbrev pub ending_of : ℕ → Ending
 ending_of code = if code == 256 then Bad else Exit (code % 256)
 
--- the process ends
+-- the call takes effect: its process has ended
+abbrev pub ends_by_exit : HomeRequest → ℕ → ClientProcs → ClientProcs
+ends_by_exit request code s = ends_at request.pid (ending_of code) (enters_home request (value 0 0) s)
+
+-- and then its parent's parked `wait` looks again
 abbrev pub exits : HomeRequest → ℕ → ClientProcs → ClientProcs
-exits request code s = ends_at_home request.pid (ending_of code) (enters_home request (value 0 0) s)
+exits request code s = wakes_after request.pid (ends_by_exit request code s)
 
 -- the number of a looked-up process, 0 where there is none
 abbrev pub number_or_zero : Option ℕ → ℕ

@@ -15,8 +15,8 @@ use Rattle.client_homes.specs.declared.client.ClientProcs.{ClientProcs}
 use Rattle.client_file_tables.specs.Closes as files
 use Rattle.client_homes.specs.Says.{enters_death, next_tx, sends, with_files}
 use Rattle.client_homes.specs.Procs.{in_state, proc_at}
-use Rattle.client_homes.specs.Homes.{is_native}
-use Rattle.client_homes.specs.Waits.{ends_at_home}
+use Rattle.client_homes.specs.Homes.{ends_at, is_native}
+use Rattle.client_homes.specs.Waits.{wakes_after}
 
 -- the descriptors of the process are closed from now on
 unfoldable pub closes_all : ℕ → Option About → ClientProcs → ClientProcs
@@ -34,9 +34,13 @@ ends pid about s = closes_all pid about (in_state pid states.Ending s)
 abbrev pub next_call : ℕ → ClientProcs → Option ℕ
 next_call pid s = option_map {T = Proc} (λ proc. proc.number + 1) (proc_at pid s)
 
--- the death of a process of this home
+-- a process of this home has died: the entry, with its end
+abbrev pub ends_by_death : About → ClientProcs → ClientProcs
+ends_by_death about s = ends_at about.pid Killed (enters_death about s)
+
+-- the death of a process of this home that is here: what follows, and then its descriptors are closed
 abbrev pub dies_here : About → ClientProcs → ClientProcs
-dies_here about s = ends about.pid None (ends_at_home about.pid Killed (enters_death about s))
+dies_here about s = ends about.pid None (wakes_after about.pid (ends_by_death about s))
 
 -- what tells a home of the death
 abbrev pub death_call : About → HomeRequest

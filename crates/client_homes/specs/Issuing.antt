@@ -2,7 +2,6 @@
 use Rattle.std.specs.Prelude.{ℕ, ◌==◌, Bool, true, false, not, if◌then◌else◌, [], ◌∷◌, ◌++◌, Option, Some, None, option_map}
 use Rattle.sprite_ids.specs.Pid.{home_of}
 use Rattle.sprite_ids.specs.declared.TxNo.{TxNo}
-use Rattle.sprite_ids.specs.declared.Ending.TheVariants.{Killed}
 use Rattle.sprite_ids.specs.declared.Errno.TheVariants.{NoProcess}
 use Rattle.sprite_ids.specs.Lists.{less}
 use Rattle.kernel_steps.specs.Rows.{is_under}
@@ -18,12 +17,12 @@ use Rattle.client_homes.specs.declared.process.Proc.{Proc}
 use Rattle.client_homes.specs.declared.process.ProcState.TheVariants as states
 use Rattle.client_homes.specs.declared.client.Unfinished.TheVariants as unfinished
 use Rattle.client_homes.specs.declared.client.ClientProcs.{ClientProcs}
-use Rattle.client_homes.specs.Says.{answers, enters_death, next_tx, sends, value}
+use Rattle.client_homes.specs.Says.{answers, next_tx, sends, value}
 use Rattle.client_homes.specs.Words.{home_call_of, packet_of, pid_numbered, reply_of}
 use Rattle.client_homes.specs.Clusters.{is_client}
 use Rattle.client_homes.specs.Procs.{answers_here, in_state, is_call, proc_at, replies}
-use Rattle.client_homes.specs.Waits.{about_of, ends_at_home, parks}
-use Rattle.client_homes.specs.Ends.{ends, keeps_tx}
+use Rattle.client_homes.specs.Waits.{about_of, parks, wakes_after}
+use Rattle.client_homes.specs.Ends.{ends, ends_by_death, keeps_tx}
 use Rattle.client_homes.specs.Births.{forgets_early, makes_child}
 use Rattle.client_homes.specs.Pages.{fetches_for_fork, page_away}
 use Rattle.client_homes.specs.Calls.{does_at_home, home_reply}
@@ -151,7 +150,7 @@ hears_home tx pid body s = forgets_early tx (finishes_own pid (reply_of body) (f
 
 -- a process of this home has died elsewhere
 abbrev pub serves_death : TxNo → HomeRequest → ClientProcs → ClientProcs
-serves_death tx request s = answers tx (packet_of (value 0 0)) (ends_at_home request.pid Killed (enters_death (about_of request) s))
+serves_death tx request s = answers tx (packet_of (value 0 0)) (wakes_after request.pid (ends_by_death (about_of request) s))
 
 abbrev pub answers_or_parks : TxNo → Option Reply → HomeRequest → ClientProcs → ClientProcs
 answers_or_parks tx (Some reply) request s = answers tx (packet_of reply) s

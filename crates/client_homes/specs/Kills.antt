@@ -26,10 +26,9 @@ use Rattle.client_homes.specs.Killing.{forgets_kill, kill_at, notes_kill}
 use Rattle.client_homes.specs.Waits.{wakes}
 use Rattle.client_homes.specs.Ends.{dies, keeps_tx}
 
--- what the process in that state does when it meets a kill
+-- what the process in that state does when it meets a kill; who waits for a page meets it when the page has come
 abbrev pub meeting_in : ProcState → Meeting
 meeting_in states.Ready = Dies
-meeting_in (states.PageWait tx page) = Dies
 meeting_in (states.Getting device max) = Getting device
 meeting_in _ = Later
 

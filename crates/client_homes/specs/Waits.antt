@@ -1,7 +1,6 @@
 -- Ends of processes at their home, and the `wait`s that are told of them.
 use Rattle.std.specs.Prelude.{ℕ, [], ◌∷◌, ◌++◌, Option, Some, None}
 use Rattle.sprite_ids.specs.declared.TxNo.{TxNo}
-use Rattle.sprite_ids.specs.declared.Ending.{Ending}
 use Rattle.sprite_ids.specs.Lists.{less}
 use Rattle.kernel_steps.specs.Rows.{is_under, first_under}
 use Rattle.process_machine.specs.declared.Reply.{Reply}
@@ -13,7 +12,7 @@ use Rattle.client_homes.specs.declared.client.ClientProcs.{ClientProcs}
 use Rattle.client_homes.specs.Says.{answers, enters}
 use Rattle.client_homes.specs.Words.{call_of, packet_of, wait_told}
 use Rattle.client_homes.specs.Procs.{is_pid, replies}
-use Rattle.client_homes.specs.Homes.{ends_at, is_killed, parent_in, told_to_wait, waited_at}
+use Rattle.client_homes.specs.Homes.{is_killed, parent_in, told_to_wait, waited_at}
 use Rattle.client_homes.specs.Killing.{forgets_waiting}
 
 -- the process and the number of the call
@@ -67,6 +66,9 @@ abbrev pub wakes_parent : Option ℕ → ClientProcs → ClientProcs
 wakes_parent (Some parent) s = wakes parent s
 wakes_parent None s = s
 
--- the process has ended, a kill of it that waits is forgotten, and its parent's parked `wait` looks again
-abbrev pub ends_at_home : ℕ → Ending → ClientProcs → ClientProcs
-ends_at_home pid ending s = wakes_parent (parent_in pid (forgets_waiting pid (ends_at pid ending s))) (forgets_waiting pid (ends_at pid ending s))
+abbrev pub wakes_parent_of : ℕ → ClientProcs → ClientProcs
+wakes_parent_of pid s = wakes_parent (parent_in pid s) s
+
+-- what follows the end of the process: a kill of it that waits is forgotten, and its parent's parked `wait` looks again
+abbrev pub wakes_after : ℕ → ClientProcs → ClientProcs
+wakes_after pid s = wakes_parent_of pid (forgets_waiting pid s)

@@ -1,5 +1,5 @@
 ghost use Rattle.std.specs.Prelude.{◌≡◌, IfOk, OnOk, Some};
-ghost use Rattle.client_homes.specs.Calls.{born_reply, does_at_home, ending_of, exits, forks, home_reply, host_reply, host_told, kill_reply, kills, number_or_zero, parent_reply, tick_reply, ticks_for};
+ghost use Rattle.client_homes.specs.Calls.{born_reply, does_at_home, ending_of, ends_by_exit, exits, forks, home_reply, host_reply, host_told, kill_reply, kills, number_or_zero, parent_reply, tick_reply, ticks_for};
 ghost use Rattle.client_homes.specs.Homes.{born_pid};
 ghost use Rattle.client_homes.specs.Says.{value};
 ghost use Rattle.client_homes.specs.Waits.{enters_home};
@@ -50,9 +50,23 @@ impl ClientProcs {
         ensures state { OnOk result (self.new ≡ exits request.now code self.old) }
         ensures reply { IfOk result (λ reply. reply ≡ Some (value 0 0)) }
     {
-        self.enter_home(alloc, request, value(alloc, 0, 0))?;
-        self.end_at_home(alloc, request.pid, ending_of(code))?;
+        self.end_by_exit(alloc, request, code)?;
+        self.wake_after(alloc, request.pid)?;
         Ok(Some(value(alloc, 0, 0)))
+    }
+
+    // The entry that ends the process, with the end of it. Of places: from here on it is a process that has ended.
+    fn end_by_exit(
+        &mut self,
+        alloc: Global,
+        request: &HomeRequest,
+        code: u64,
+    ) -> Result<(), NoMemory>
+        ensures { OnOk result (self.new ≡ ends_by_exit request.now code self.old) }
+    {
+        self.enter_home(alloc, request, value(alloc, 0, 0))?;
+        self.note_end(request.pid, ending_of(code));
+        Ok(())
     }
 
     fn getppid(&mut self, alloc: Global, request: &HomeRequest) -> Result<Option<Reply>, NoMemory>

@@ -1,5 +1,5 @@
 ghost use Rattle.std.specs.Prelude.{◌≡◌, IfOk, OnOk};
-ghost use Rattle.client_homes.specs.Ends.{closes_all, dies, dies_as, dies_elsewhere, dies_here, ends, keeps_tx, next_call};
+ghost use Rattle.client_homes.specs.Ends.{closes_all, dies, dies_as, dies_elsewhere, dies_here, ends, ends_by_death, keeps_tx, next_call};
 
 use crate::client::{ClientProcs, Unfinished};
 use crate::process::ProcState;
@@ -72,9 +72,18 @@ impl ClientProcs {
     fn die_here(&mut self, alloc: Global, about: &About) -> Result<(), NoMemory>
         ensures { OnOk result (self.new ≡ dies_here about.now self.old) }
     {
-        self.enter_death(about)?;
-        self.end_at_home(alloc, about.pid, Ending::Killed)?;
+        self.end_by_death(about)?;
+        self.wake_after(alloc, about.pid)?;
         self.end(alloc, about.pid, &None)
+    }
+
+    // The entry of the death of a process of this home, with the end of it. Of places: from here on it is a process that has ended.
+    pub(crate) fn end_by_death(&mut self, about: &About) -> Result<(), NoMemory>
+        ensures { OnOk result (self.new ≡ ends_by_death about.now self.old) }
+    {
+        self.enter_death(about)?;
+        self.note_end(about.pid, Ending::Killed);
+        Ok(())
     }
 
     fn die_elsewhere(&mut self, alloc: Global, about: &About) -> Result<(), NoMemory>

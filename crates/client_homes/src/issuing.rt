@@ -9,7 +9,7 @@ use crate::waits::about_of;
 use crate::words::{home_call_of, packet_of, pid_of, reply_of};
 use packet_bodies::{HomeCall, HomeRequest, ReplyBody, Request};
 use process_machine::{Call, Reply};
-use sprite_ids::{Copying, Ending, Errno, Kernel, NoMemory, Pid, TxNo};
+use sprite_ids::{Copying, Errno, Kernel, NoMemory, Pid, TxNo};
 use std::alloc::Global;
 
 impl ClientProcs {
@@ -219,8 +219,8 @@ impl ClientProcs {
     ) -> Result<(), NoMemory>
         ensures { OnOk result (self.new ≡ serves_death tx request.now self.old) }
     {
-        self.enter_death(&about_of(request))?;
-        self.end_at_home(alloc, request.pid, Ending::Killed)?;
+        self.end_by_death(&about_of(request))?;
+        self.wake_after(alloc, request.pid)?;
         self.answer(tx, packet_of(value(alloc, 0, 0)))
     }
 }

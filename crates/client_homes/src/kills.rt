@@ -13,11 +13,11 @@ use unix_calls::About;
 
 /// What a process is doing when it meets a kill.
 pub(crate) enum Meeting {
-    /// It is between two calls.
+    /// It is between two calls, and waits for no page.
     Dies,
     /// It waits in `pd_get`, for that device.
     Getting(u32),
-    /// It is inside a call that ends first, or has ended.
+    /// It waits for a page, or is inside a call that ends first, or has ended.
     Later,
 }
 
@@ -67,8 +67,8 @@ impl ClientProcs {
         self.note_kill(pid, KillState::Out { placed: false })
     }
 
-    // A process that is here meets a kill: it dies where it is between two calls, and a `pd_get` is broken off; any other call
-    // ends first.
+    // A process that is here meets a kill: it dies where it is between two calls, or, where it waits for a page then, when that
+    // has come; a `pd_get` is broken off; any other call ends first.
     fn meet_kill(&mut self, alloc: Global, pid: Pid) -> Result<(), NoMemory>
         ensures { OnOk result (self.new ≡ meets_kill pid self.old) }
     {
@@ -193,7 +193,6 @@ fn meeting_in(state: &ProcState) -> Meeting
 {
     match state {
         ProcState::Ready => Meeting::Dies,
-        ProcState::PageWait { .. } => Meeting::Dies,
         ProcState::Getting { device, .. } => Meeting::Getting(*device),
         _ => Meeting::Later,
     }

@@ -1,11 +1,11 @@
 ghost use Rattle.std.specs.Prelude.{◌≡◌, IfOk, OnOk, Some};
-ghost use Rattle.client_homes.specs.Waits.{about_of, ends_at_home, ends_wait, enters_home, looks_again, parks, wait_reply, waits, wakes};
+ghost use Rattle.client_homes.specs.Waits.{about_of, ends_wait, enters_home, looks_again, parks, wait_reply, waits, wakes, wakes_after, wakes_parent_of};
 
 use crate::client::{ClientProcs, Parked};
 use crate::words::{call_of, packet_of, wait_told};
 use packet_bodies::{HomeCall, HomeRequest};
 use process_machine::Reply;
-use sprite_ids::{Copying, Ending, NoMemory, Pid, TxNo};
+use sprite_ids::{Copying, NoMemory, Pid, TxNo};
 use std::alloc::Global;
 use unix_calls::About;
 
@@ -84,18 +84,18 @@ impl ClientProcs {
         }
     }
 
-    // The entry that ends the process is made here, at its home: a kill of it that waits is forgotten, and the parked `wait`
-    // of its parent looks again. Of places: from here on it is a process that has ended.
-    pub(crate) fn end_at_home(
-        &mut self,
-        alloc: Global,
-        pid: Pid,
-        ending: Ending,
-    ) -> Result<(), NoMemory>
-        ensures { OnOk result (self.new ≡ ends_at_home pid ending self.old) }
+    // What follows the end of a process of this home: a kill of it that waits is forgotten, and the parked `wait` of its parent
+    // looks again.
+    pub(crate) fn wake_after(&mut self, alloc: Global, pid: Pid) -> Result<(), NoMemory>
+        ensures { OnOk result (self.new ≡ wakes_after pid self.old) }
     {
-        self.note_end(pid, ending);
         self.forget_waiting(pid);
+        self.wake_parent_of(alloc, pid)
+    }
+
+    fn wake_parent_of(&mut self, alloc: Global, pid: Pid) -> Result<(), NoMemory>
+        ensures { OnOk result (self.new ≡ wakes_parent_of pid self.old) }
+    {
         match self.parent_of(pid) {
             Some(parent) => self.wake(alloc, parent),
             None => Ok(()),

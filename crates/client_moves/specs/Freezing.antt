@@ -8,6 +8,7 @@ use Rattle.process_machine.specs.Memory.{there}
 use Rattle.packet_bodies.specs.declared.Request.TheVariants as requests
 use Rattle.unix_calls.specs.declared.About.{About}
 use Rattle.unix_calls.specs.declared.Event.TheVariants.{Freeze}
+use Rattle.stream_table.specs.declared.Carried.{Carried}
 use Rattle.migrate_freeze.specs.declared.Process.{Process}
 use Rattle.migrate_freeze.specs.Moves.{frozen_for, step_of}
 use Rattle.migrate_freeze.specs.Packing.{can_move}
@@ -70,45 +71,52 @@ cwd_or_root None = []
 abbrev pub drops_cwd : ℕ → ClientProcs → ClientProcs
 drops_cwd pid s = record s { files = record s.files { cwds = less_of pid s.files.cwds } }
 
--- the process with all that belongs to it
-abbrev pub process_of : ℕ → Proc → Route → ClientProcs → Process
-process_of pid proc route s =
+-- the process with all that belongs to it, and those streams
+abbrev pub process_of : ℕ → Proc → Route → List Carried → ClientProcs → Process
+process_of pid proc route streams s =
     record {
       pid = pid;
       number = proc.number;
       image = proc.image;
       cwd = cwd_or_root (first_of pid s.files.cwds);
-      streams = all_carried pid s;
+      streams = streams;
       killed = proc.killed;
       moving = is_some route.about;
     }
 
 -- it begins to leave
 abbrev pub begins_to_leave : ℕ → Process → Route → ClientProcs → ClientProcs
-begins_to_leave pid process route s =
-    if not (can_move process.streams) then s else leaves_on pid (keeps_leaving pid (step_of (frozen_for process route.to route.program)) route.about s)
+begins_to_leave pid process route s = leaves_on pid (keeps_leaving pid (step_of (frozen_for process route.to route.program)) route.about s)
 
-abbrev pub sends_off : ℕ → Proc → Route → ClientProcs → ClientProcs
-sends_off pid proc route s = begins_to_leave pid (process_of pid proc route s) route (drops_cwd pid s)
+abbrev pub sends_off : ℕ → Proc → Route → List Carried → ClientProcs → ClientProcs
+sends_off pid proc route streams s = begins_to_leave pid (process_of pid proc route streams s) route (drops_cwd pid s)
 
 -- its pages go, and then its streams
 abbrev pub without_pages : Option ℕ → Proc → Proc
 without_pages program proc = record proc { image = image_without program proc.image }
 
-abbrev pub puts_out : ℕ → Proc → Route → ClientProcs → ClientProcs
-puts_out pid proc route s = sends_off pid (without_pages route.program proc) route (puts_pages pid (pages_for route.program proc.image) s)
+abbrev pub puts_out : ℕ → Proc → Route → List Carried → ClientProcs → ClientProcs
+puts_out pid proc route streams s = sends_off pid (without_pages route.program proc) route streams (puts_pages pid (pages_for route.program proc.image) s)
 
-abbrev pub puts_out_if : ℕ → Option Proc → Route → ClientProcs → ClientProcs
-puts_out_if pid (Some proc) route s = puts_out pid proc route s
-puts_out_if pid None route s = s
+abbrev pub puts_out_if : ℕ → Option Proc → Route → List Carried → ClientProcs → ClientProcs
+puts_out_if pid (Some proc) route streams s = puts_out pid proc route streams s
+puts_out_if pid None route streams s = s
 
 -- the process isn't here any more
 abbrev pub takes_proc : ℕ → ClientProcs → ClientProcs
 takes_proc pid s = record s { procs = remove_entry (is_at (nat_cmp pid)) s.procs }
 
-abbrev pub takes_out : ℕ → Route → ClientProcs → ClientProcs
-takes_out pid route s = puts_out_if pid (proc_at pid s) route (takes_proc pid s)
+abbrev pub takes_out : ℕ → Route → List Carried → ClientProcs → ClientProcs
+takes_out pid route streams s = puts_out_if pid (proc_at pid s) route streams (takes_proc pid s)
+
+-- the process is frozen, with those streams
+abbrev pub freezes_with : ℕ → Route → List Carried → ClientProcs → ClientProcs
+freezes_with pid route streams s = takes_out pid route streams (enters_move pid route.about (notes (Freeze pid) s))
+
+-- unless they can't move: then it stays
+abbrev pub freezes_if : ℕ → Route → List Carried → ClientProcs → ClientProcs
+freezes_if pid route streams s = if not (can_move streams) then s else freezes_with pid route streams s
 
 -- the process is frozen
 abbrev pub freezes : ℕ → Route → ClientProcs → ClientProcs
-freezes pid route s = takes_out pid route (enters_move pid route.about (notes (Freeze pid) s))
+freezes pid route s = freezes_if pid route (all_carried pid s) s

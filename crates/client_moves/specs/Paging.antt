@@ -1,11 +1,12 @@
 -- Pages that are fetched.
-use Rattle.std.specs.Prelude.{ℕ, ◌==◌, nat_lt, ◌&&◌, if◌then◌else◌, List, length, Option, Some, None, option_map, slice_set}
+use Rattle.std.specs.Prelude.{ℕ, ◌==◌, nat_lt, Bool, false, ◌&&◌, not, if◌then◌else◌, List, length, Option, Some, None, is_some, option_map, slice_set}
 use Rattle.sprite_ids.specs.declared.TxNo.{TxNo}
 use Rattle.packet_bodies.specs.declared.ReplyBody.{ReplyBody}
 use Rattle.packet_bodies.specs.declared.ReplyBody.TheVariants.{Page}
 use Rattle.process_machine.specs.declared.Program.{Program}
 use Rattle.process_machine.specs.declared.Reply.{Reply}
 use Rattle.process_machine.specs.Machine.{Machine}
+use Rattle.process_machine.specs.Memory.{page_of}
 use Rattle.process_machine.specs.Steps.{Step, Moved, AtCall, AtBadStep, AtPage, step_of}
 use Rattle.unix_calls.specs.declared.ProgramLine.{ProgramLine}
 use Rattle.client_homes.specs.declared.Proc.{Proc}
@@ -19,11 +20,30 @@ use Rattle.client_homes.specs.Pages.{fetches}
 use Rattle.client_homes.specs.Issuing.{issues_home}
 use Rattle.client_moves.specs.declared.paging.PageFor.{PageFor}
 use Rattle.client_moves.specs.declared.paging.PageFor.TheVariants.{Nothing, Burst, Fork, Answer}
+use Rattle.client_moves.specs.Evicting.{is_ready_in}
 use Rattle.client_moves.specs.Returning.{goes_between}
 
+-- whether a page of an image is away
+abbrev pub is_away : ℕ → List (Option (List ℕ)) → Bool
+is_away page pages = nat_lt page (length pages) && not (is_some (page_of pages page))
+
+-- whether the process is between two calls, and that page is away
+abbrev pub lacks_in : ℕ → Proc → Bool
+lacks_in page proc = is_ready_in proc.state && is_away page proc.image.pages
+
+abbrev pub lacks_if : ℕ → Option Proc → Bool
+lacks_if page (Some proc) = lacks_in page proc
+lacks_if page None = false
+
+abbrev pub lacks : ℕ → ℕ → ClientProcs → Bool
+lacks pid page s = lacks_if page (proc_at pid s)
+
 -- the process waits for a page
+abbrev pub waits_for_page : ℕ → ℕ → ClientProcs → ClientProcs
+waits_for_page pid page s = in_state pid (states.PageWait (next_tx s) page) (fetches pid page s)
+
 abbrev pub needs_page : ℕ → ℕ → ClientProcs → ClientProcs
-needs_page pid page s = in_state pid (states.PageWait (next_tx s) page) (fetches pid page s)
+needs_page pid page s = if not (lacks pid page s) then s else waits_for_page pid page s
 
 -- for what that remote call fetched a page
 abbrev pub page_in : TxNo → ProcState → PageFor

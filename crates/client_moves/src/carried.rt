@@ -1,10 +1,12 @@
-ghost use Rattle.std.specs.Prelude.{◌≡◌, IfOk, OnOk};
+ghost use Rattle.std.specs.Prelude.{◌≡◌, IfOk, OnOk, is_some};
 ghost use Rattle.client_moves.specs.Carrying.{all_carried, carried_at, holds_master, is_master, with_item};
-ghost use Rattle.std.specs.List.{list_any};
+ghost use Rattle.migrate_freeze.specs.Packing.{can_move, can_travel, target_of};
+ghost use Rattle.std.specs.List.{list_all, list_any};
 ghost use Rattle.stream_table.specs.Entries.{stream_of};
 ghost use Rattle.stream_table.specs.Streams.{carried_as};
 
 use client_homes::ClientProcs;
+use packet_bodies::CarriedMode;
 use sprite_ids::{Items, NoMemory, Object, Pid, StreamNo};
 use std::alloc::Global;
 use stream_table::Carried;
@@ -54,6 +56,38 @@ fn carried_as(client: &ClientProcs, fd: u8, number: &StreamNo) -> Option<Carried
             stream,
         }),
         None => None,
+    }
+}
+
+// Whether a process with those descriptors can go to another kernel: it has at most 16, and a packet can tell of each.
+pub(crate) fn can_move(items: &[Carried]) -> bool
+    ensures { result ≡ can_move items.now }
+{
+    items.len() <= 16 && all_travel(items)
+}
+
+fn all_travel(items: &[Carried]) -> bool
+    ensures { result ≡ list_all can_travel items.now }
+{
+    items.iter().all(|item| can_travel(item))
+}
+
+fn can_travel(item: &Carried) -> bool
+    ensures { result ≡ can_travel item.now }
+{
+    item.fd < 16
+        && has_target(item.stream.object)
+        && CarriedMode::new(item.stream.mode, item.stream.append).is_some()
+}
+
+// Whether a packet can tell what a stream leads to: not so of a master's end.
+fn has_target(object: Object) -> bool
+    ensures { result ≡ is_some (target_of object) }
+{
+    match object {
+        Object::File(_) => true,
+        Object::Device(_) => true,
+        Object::Master(_) => false,
     }
 }
 

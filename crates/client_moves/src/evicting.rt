@@ -85,7 +85,7 @@ pub fn is_ready(client: &ClientProcs, pid: Pid) -> bool
     }
 }
 
-fn is_ready_in(state: &ProcState) -> bool
+pub(crate) fn is_ready_in(state: &ProcState) -> bool
     ensures { result ≡ is_ready_in state.now }
 {
     matches!(state, ProcState::Ready)

@@ -1,11 +1,11 @@
 ghost use Rattle.std.specs.Prelude.{◌≡◌, IfOk, OnOk, IsTrue, length};
 ghost use Rattle.client_homes.specs.Says.{value};
-ghost use Rattle.client_moves.specs.Freezing.{begins_to_leave, cwd_or_root, drops_cwd, enters_move, freezes, image_without, pages_for, pages_upto, process_of, puts_out, puts_page, puts_pages, sends_off, taken_upto, takes_out, with_page};
+ghost use Rattle.client_moves.specs.Freezing.{begins_to_leave, cwd_or_root, drops_cwd, enters_move, freezes, freezes_with, image_without, pages_for, pages_upto, process_of, puts_out, puts_page, puts_pages, sends_off, taken_upto, takes_out, with_page};
 ghost use Rattle.client_file_tables.specs.Rows.{first_of};
 ghost use Rattle.migrate_freeze.specs.Moves.{frozen_for, step_of};
 ghost use Rattle.migrate_freeze.specs.Packing.{can_move};
 
-use crate::carried::carried;
+use crate::carried::{can_move, carried};
 use crate::leaving::{keep_leaving, leave_on};
 use crate::route::Route;
 use client_homes::{ClientProcs, Proc, Unfinished};
@@ -15,11 +15,13 @@ use process_machine::{Image, Reply};
 use sprite_ids::{Bytes, Copying, Items, NoMemory, Pid};
 use sprite_paths::Path;
 use std::alloc::Global;
+use stream_table::Carried;
 use unix_calls::{About, Event};
 
 /// Freezes a process that is here (Douglis and Ousterhout 1991). The call that it moves by takes effect; its pages that are here
 /// go to the server that keeps them, in ascending order (unless it starts its next program there), and its streams begin to
-/// move. The one error is want of memory, which is also the answer where no number is left for a remote call.
+/// move. Where they can't move, as one is the master's end of a pseudo-device, nothing is done. The one error is want of memory,
+/// which is also the answer where no number is left for a remote call.
 ///
 /// Of places: the process is on its way from here, and its pages are in the requests that put them.
 pub fn freeze(
@@ -30,9 +32,26 @@ pub fn freeze(
 ) -> Result<(), NoMemory>
     ensures { OnOk result (client.new ≡ freezes pid route.now client.old) }
 {
+    let streams = carried(client, alloc, pid)?;
+    if !can_move(streams.as_slice()) {
+        return Ok(());
+    }
+    freeze_with(client, alloc, pid, route, streams)
+}
+
+fn freeze_with(
+    client: &mut ClientProcs,
+    alloc: Global,
+    pid: Pid,
+    route: &Route,
+    streams: Items<Carried>,
+) -> Result<(), NoMemory>
+    requires { IsTrue (can_move streams) }
+    ensures { OnOk result (client.new ≡ freezes_with pid route.now streams client.old) }
+{
     client.note(Event::Freeze { pid })?;
     enter_move(client, alloc, pid, &route.about)?;
-    take_out(client, alloc, pid, route)
+    take_out(client, alloc, pid, route, streams)
 }
 
 // The process isn't here any more.
@@ -41,11 +60,13 @@ fn take_out(
     alloc: Global,
     pid: Pid,
     route: &Route,
+    streams: Items<Carried>,
 ) -> Result<(), NoMemory>
-    ensures { OnOk result (client.new ≡ takes_out pid route.now client.old) }
+    requires { IsTrue (can_move streams) }
+    ensures { OnOk result (client.new ≡ takes_out pid route.now streams client.old) }
 {
     match client.procs.take(&pid) {
-        Some(proc) => put_out(client, alloc, pid, proc, route),
+        Some(proc) => put_out(client, alloc, pid, proc, route, streams),
         None => Ok(()),
     }
 }
@@ -83,13 +104,15 @@ fn put_out(
     pid: Pid,
     proc: Proc,
     route: &Route,
+    streams: Items<Carried>,
 ) -> Result<(), NoMemory>
-    ensures { OnOk result (client.new ≡ puts_out pid proc route.now client.old) }
+    requires { IsTrue (can_move streams) }
+    ensures { OnOk result (client.new ≡ puts_out pid proc route.now streams client.old) }
 {
     let mut proc = proc;
     let pages = pages_of(alloc, &mut proc.image, route.program)?;
     put_pages(client, alloc, pid, pages.as_slice())?;
-    send_off(client, alloc, pid, proc, route)
+    send_off(client, alloc, pid, proc, route, streams)
 }
 
 // The pages that go, with their numbers, which the image has no more: none where the process starts its next program.
@@ -165,27 +188,29 @@ fn send_off(
     pid: Pid,
     proc: Proc,
     route: &Route,
+    streams: Items<Carried>,
 ) -> Result<(), NoMemory>
-    ensures { OnOk result (client.new ≡ sends_off pid proc route.now client.old) }
+    requires { IsTrue (can_move streams) }
+    ensures { OnOk result (client.new ≡ sends_off pid proc route.now streams client.old) }
 {
-    let process = gather(client, alloc, pid, proc, route)?;
+    let process = gather(client, alloc, pid, proc, route, streams);
     leave(client, alloc, pid, process, route)
 }
 
-// All that belongs to the process.
+// All that belongs to the process, with those streams.
 fn gather(
     client: &mut ClientProcs,
     alloc: Global,
     pid: Pid,
     proc: Proc,
     route: &Route,
-) -> Result<Process, NoMemory>
-    ensures process { IfOk result (λ process. process ≡ process_of pid proc route.now client.old) }
-    ensures state { OnOk result (client.new ≡ drops_cwd pid client.old) }
+    streams: Items<Carried>,
+) -> Process
+    ensures process { result ≡ process_of pid proc route.now streams client.old }
+    ensures state { client.new ≡ drops_cwd pid client.old }
 {
-    let streams = carried(client, alloc, pid)?;
     let cwd = take_cwd(client, alloc, pid);
-    Ok(Process {
+    Process {
         pid,
         number: proc.number,
         image: proc.image,
@@ -193,10 +218,9 @@ fn gather(
         streams,
         killed: proc.killed,
         moving: route.about.is_some(),
-    })
+    }
 }
 
-// The process leaves. It can: it has no master's end.
 fn leave(
     client: &mut ClientProcs,
     alloc: Global,
@@ -204,11 +228,9 @@ fn leave(
     process: Process,
     route: &Route,
 ) -> Result<(), NoMemory>
+    requires { IsTrue (can_move process.streams) }
     ensures { OnOk result (client.new ≡ begins_to_leave pid process route.now client.old) }
 {
-    if !process.can_move() {
-        return Ok(());
-    }
     keep_leaving(client, pid, first_step(process, route), &route.about)?;
     leave_on(client, alloc, pid)
 }

@@ -1,6 +1,7 @@
 ghost use Rattle.std.specs.Prelude.{◌≡◌, IfOk, OnOk};
-ghost use Rattle.client_moves.specs.Paging.{answers_on, answers_with_pages, fetches_for_answer, forks_on, goes_on, has_bytes, has_page, kept_reply, named_by, named_in, needs_page, page_comes, page_for, page_in, page_named, reply_in, with_page_in};
+ghost use Rattle.client_moves.specs.Paging.{answers_on, answers_with_pages, fetches_for_answer, forks_on, goes_on, has_bytes, has_page, is_away, kept_reply, lacks, lacks_in, named_by, named_in, needs_page, page_comes, page_for, page_in, page_named, reply_in, waits_for_page, with_page_in};
 
+use crate::evicting::is_ready_in;
 use crate::returning::between_calls;
 use client_homes::{ClientProcs, Proc, ProcState};
 use packet_bodies::ReplyBody;
@@ -12,7 +13,7 @@ use unix_calls::ProgramLine;
 /// For what a page of a process was fetched.
 #[derive(Clone, Copy, Debug, PartialEq, Eq)]
 pub(crate) enum PageFor {
-    /// For nothing any more: the process has died, or isn't here.
+    /// For nothing: no process that is here waits for it.
     Nothing,
     /// For its next instruction.
     Burst(u8),
@@ -22,8 +23,9 @@ pub(crate) enum PageFor {
     Answer(u8),
 }
 
-/// A process that is between two calls came to a page that is away: it is fetched (Nelson, Welch and Ousterhout 1988). The one
-/// error is want of memory, which is also the answer where no number is left for a remote call.
+/// A process that is between two calls came to a page that is away: it is fetched (Nelson, Welch and Ousterhout 1988). Where no
+/// such process is here, or the page isn't one of its image's that are away, nothing is done. The one error is want of memory,
+/// which is also the answer where no number is left for a remote call.
 ///
 /// Of places: what `fetch_page` says.
 pub fn page_needed(
@@ -34,14 +36,50 @@ pub fn page_needed(
 ) -> Result<(), NoMemory>
     ensures { OnOk result (client.new ≡ needs_page pid page client.old) }
 {
+    if !lacks(client, pid, page) {
+        return Ok(());
+    }
+    wait_for_page(client, alloc, pid, page)
+}
+
+// Whether the process is between two calls, and that page is away.
+fn lacks(client: &ClientProcs, pid: Pid, page: u8) -> bool
+    ensures { result ≡ lacks pid page client.now }
+{
+    match client.procs.get(&pid) {
+        Some(proc) => lacks_in(proc, page),
+        None => false,
+    }
+}
+
+fn lacks_in(proc: &Proc, page: u8) -> bool
+    ensures { result ≡ lacks_in page proc.now }
+{
+    is_ready_in(&proc.state) && is_away(&proc.image, page)
+}
+
+fn is_away(image: &Image, page: u8) -> bool
+    ensures { result ≡ is_away page image.now.pages }
+{
+    page < image.page_count() && image.page(page).is_none()
+}
+
+fn wait_for_page(
+    client: &mut ClientProcs,
+    alloc: Global,
+    pid: Pid,
+    page: u8,
+) -> Result<(), NoMemory>
+    ensures { OnOk result (client.new ≡ waits_for_page pid page client.old) }
+{
     let tx = client.fetch_page(alloc, pid, page)?;
     client.set_state(pid, ProcState::PageWait { tx, page });
     Ok(())
 }
 
-/// A page of the process was fetched, for its next instruction, for its `fork` or for the reply of its `migrate`: it goes on. Where the process waits for no page
-/// of that remote call any more, nothing is done. The one error is want of memory, which is also the answer where a counter has
-/// come to its limit.
+/// A page of the process was fetched, for its next instruction, for its `fork` or for the reply of its `migrate`: it goes on, or meets
+/// a kill that has come meanwhile. Where the process waits for no page of that remote call, nothing is done. The one error is want of
+/// memory, which is also the answer where a counter has come to its limit.
 ///
 /// Of places: the page is in the process's image, and was in the answer; and what `between_calls` and `issue_home` say.
 pub fn page_came(

@@ -1,12 +1,14 @@
 -- Processes that arrive.
-use Rattle.std.specs.Prelude.{ℕ, ◌==◌, Bool, true, false, not, if◌then◌else◌, List, Option, Some, None, option_map}
+use Rattle.std.specs.Prelude.{ℕ, ◌==◌, Bool, true, false, ◌&&◌, not, if◌then◌else◌, List, Option, Some, None, option_map}
+use Rattle.std.specs.List.{list_any}
 use Rattle.sprite_ids.specs.Pid.{home_of}
 use Rattle.sprite_ids.specs.declared.TxNo.{TxNo}
+use Rattle.kernel_steps.specs.Rows.{is_under}
 use Rattle.process_machine.specs.Machine.{Machine}
 use Rattle.packet_bodies.specs.declared.CarriedStream.{CarriedStream}
 use Rattle.packet_bodies.specs.declared.ReplyBody.TheVariants.{Done}
 use Rattle.packet_bodies.specs.declared.Request.{Request}
-use Rattle.packet_bodies.specs.declared.Request.TheVariants.{Place}
+use Rattle.packet_bodies.specs.declared.Request.TheVariants.{Launch, Place, Transfer}
 use Rattle.unix_calls.specs.declared.Event.TheVariants.{Thaw}
 use Rattle.unix_calls.specs.declared.ProgramLine.{ProgramLine}
 use Rattle.migrate_freeze.specs.declared.Arrival.{Arrival}
@@ -18,9 +20,10 @@ use Rattle.client_homes.specs.declared.ProcState.TheVariants as states
 use Rattle.client_homes.specs.declared.Unfinished.TheVariants as unfinished
 use Rattle.client_homes.specs.declared.ClientProcs.{ClientProcs}
 use Rattle.client_homes.specs.Says.{answers, next_tx, notes, sends, value, with_files}
-use Rattle.client_homes.specs.Procs.{in_state, killed_at, proc_at, replies}
+use Rattle.client_homes.specs.Procs.{in_state, is_pid, killed_at, proc_at, replies}
 use Rattle.client_homes.specs.Homes.{is_killed, is_native, moves_to}
 use Rattle.client_homes.specs.Killing.{forgets_waiting}
+use Rattle.client_homes.specs.Kills.{is_here}
 use Rattle.client_homes.specs.Ends.{keeps_tx}
 use Rattle.client_homes.specs.Births.{puts_proc}
 use Rattle.client_files.specs.Arrivals as files
@@ -113,8 +116,26 @@ abbrev pub takes_if : TxNo → Option Arrival → ClientProcs → ClientProcs
 takes_if tx (Some arrival) s = takes_in tx arrival s
 takes_if tx None s = s
 
+-- the process that a request brings
+abbrev pub brought : Request → Option ℕ
+brought (Transfer request) = Some request.pid
+brought (Launch request) = Some request.pid
+brought _ = None
+
+-- whether the process is neither here nor on its way from here
+abbrev pub is_new : ℕ → ClientProcs → Bool
+is_new pid s = not (is_here pid s) && not (list_any (is_under is_pid pid) s.leaving)
+
+-- it arrives, where it is so
+abbrev pub arrives_as : TxNo → ℕ → Request → ClientProcs → ClientProcs
+arrives_as tx pid body s = if not (is_new pid s) then s else takes_if tx (arrived_of body) s
+
+abbrev pub arrives_if : TxNo → Option ℕ → Request → ClientProcs → ClientProcs
+arrives_if tx (Some pid) body s = arrives_as tx pid body s
+arrives_if tx None body s = s
+
 abbrev pub arrives : TxNo → Request → ClientProcs → ClientProcs
-arrives tx body s = takes_if tx (arrived_of body) s
+arrives tx body s = arrives_if tx (brought body) body s
 
 -- the home of a process that arrived has answered
 abbrev pub moving_in : ProcState → Option Bool

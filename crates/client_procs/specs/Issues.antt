@@ -1,5 +1,5 @@
 -- Calls that processes come to.
-use Rattle.std.specs.Prelude.{ℕ, Bool, true, false, if◌then◌else◌, Option, Some, None, option_map}
+use Rattle.std.specs.Prelude.{ℕ, ◌+◌, ◌==◌, Bool, true, false, ◌&&◌, not, if◌then◌else◌, Option, Some, None, option_map}
 use Rattle.sprite_ids.specs.declared.DeviceId.{DeviceId}
 use Rattle.process_machine.specs.declared.Call.{Call}
 use Rattle.process_machine.specs.declared.Call.TheVariants as calls
@@ -16,8 +16,18 @@ use Rattle.client_devices.specs.Asking.{aim_of, is_used_by, uses_device}
 use Rattle.client_devices.specs.Making.{makes_device, next_device}
 use Rattle.client_devices.specs.Masters.{gets, puts}
 use Rattle.client_files.specs.CallIssues as files
-use Rattle.client_moves.specs.Evicting.{counts_issue}
+use Rattle.client_moves.specs.Evicting.{counts_issue, is_ready}
+use Rattle.client_moves.specs.Returning.{number_at}
 use Rattle.client_procs.specs.Moving.{execs, migrates, rexecs}
+
+-- whether the number is the next one behind a looked-up one
+abbrev pub is_behind : ℕ → Option ℕ → Bool
+is_behind number (Some last) = number == last + 1
+is_behind number None = false
+
+-- whether the process is between two calls, and that one is its next
+abbrev pub is_next : About → ClientProcs → Bool
+is_next about s = is_ready about.pid s && is_behind about.number (number_at about.pid s)
 
 -- the process is inside the call
 abbrev pub inside : ℕ → Call → Proc → Proc
@@ -81,5 +91,9 @@ begins about (calls.Refused errno) s = answers_here about.pid (Error errno) s
 begins about call s = begins_other about call s
 
 -- the process comes to that call
+abbrev pub issues_next : About → Call → ClientProcs → ClientProcs
+issues_next about call s = begins about call (counts_issue (notes_issue about call (comes_to about call s)))
+
+-- where it may
 abbrev pub issues : About → Call → ClientProcs → ClientProcs
-issues about call s = begins about call (counts_issue (notes_issue about call (comes_to about call s)))
+issues about call s = if not (is_next about s) then s else issues_next about call s

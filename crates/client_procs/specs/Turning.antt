@@ -32,7 +32,7 @@ gives_of (row ∷ rest) s = finishes_call row.0 row.1 (with_files (record s.file
 abbrev pub gives_first : ClientProcs → ClientProcs
 gives_first s = gives_of s.files.out.replies s
 
--- all replies are given, in order
+-- the replies are given, in order, as many as processes are here
 abbrev pub gives_turns : ℕ → ClientProcs → ClientProcs
 gives_turns zero s = s
 gives_turns (suc count) s = gives_first (gives_turns count s)
@@ -61,7 +61,7 @@ abbrev pub turns : ℕ → ClientProcs → ClientProcs
 turns zero s = s
 turns (suc count) s = turned (turns count s)
 
--- so many are enough
+-- how many there are, for the processes that are here or leave
 abbrev pub rounds_for : ClientProcs → ℕ
 rounds_for s = (length s.procs + length s.leaving) * 64 + 64
 

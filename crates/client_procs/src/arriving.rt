@@ -1,5 +1,5 @@
 ghost use Rattle.std.specs.Prelude.{◌≡◌, IfOk, OnOk, Some};
-ghost use Rattle.client_procs.specs.Arriving.{arrived_proc, arrives, arriving, comes_home, coming, has_streams, hears_place, installs, is_fresh, is_settled, knows_kill, launched, moving_in, puts_in, takes_arrived, takes_in, tells_home, thaws};
+ghost use Rattle.client_procs.specs.Arriving.{arrived_proc, arrives, arrives_as, arriving, brought, comes_home, coming, has_streams, hears_place, installs, is_fresh, is_new, is_settled, knows_kill, launched, moving_in, puts_in, takes_arrived, takes_in, tells_home, thaws};
 ghost use Rattle.client_homes.specs.Births.{puts_proc};
 ghost use Rattle.migrate_freeze.specs.Arriving.{launched_of};
 
@@ -22,8 +22,8 @@ pub(crate) struct Coming {
     pub fresh: bool,
 }
 
-// Another kernel sends a process (Douglis and Ousterhout 1991). Of places: the process is here from now on, with all that came
-// with it, and was in the request.
+// Another kernel sends a process (Douglis and Ousterhout 1991). Where it is here, or on its way from here, nothing is done. Of
+// places: the process is here from now on, with all that came with it, and was in the request.
 pub(crate) fn arrive(
     client: &mut ClientProcs,
     alloc: Global,
@@ -32,6 +32,42 @@ pub(crate) fn arrive(
 ) -> Result<(), NoMemory>
     ensures { OnOk result (client.new ≡ arrives tx body.now client.old) }
 {
+    match brought(body) {
+        Some(pid) => arrive_as(client, alloc, tx, pid, body),
+        None => Ok(()),
+    }
+}
+
+// The process that the request brings.
+fn brought(body: &Request) -> Option<Pid>
+    ensures { result ≡ brought body.now }
+{
+    match body {
+        Request::Transfer(request) => Some(request.pid),
+        Request::Launch(request) => Some(request.pid),
+        _ => None,
+    }
+}
+
+// Whether the process is neither here nor on its way from here.
+fn is_new(client: &ClientProcs, pid: Pid) -> bool
+    ensures { result ≡ is_new pid client.now }
+{
+    !client.procs.has(&pid) && !client.leaving.has(&pid)
+}
+
+fn arrive_as(
+    client: &mut ClientProcs,
+    alloc: Global,
+    tx: TxNo,
+    pid: Pid,
+    body: &Request,
+) -> Result<(), NoMemory>
+    ensures { OnOk result (client.new ≡ arrives_as tx pid body.now client.old) }
+{
+    if !is_new(client, pid) {
+        return Ok(());
+    }
     match Arrived::read(alloc, body.copy(alloc)?)? {
         Some(arrived) => take_in(client, alloc, tx, arrived),
         None => Ok(()),

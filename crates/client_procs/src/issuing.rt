@@ -1,17 +1,18 @@
 ghost use Rattle.std.specs.Prelude.{◌≡◌, OnOk};
 ghost use Rattle.client_homes.specs.Says.{value};
-ghost use Rattle.client_procs.specs.Issues.{begins, begins_other, comes_to, inside, is_of_home, issues, makes, notes_issue, uses_files, uses_stream};
+ghost use Rattle.client_procs.specs.Issues.{begins, begins_other, comes_to, inside, is_behind, is_next, is_of_home, issues, issues_next, makes, notes_issue, uses_files, uses_stream};
 
 use crate::moving::{exec, migrate, rexec};
+use crate::readers::number_of;
 use client_devices::{make_device, pd_get, pd_put, use_device};
 use client_homes::{ClientProcs, Proc, ProcState};
-use client_moves::count_issue;
+use client_moves::{count_issue, is_ready};
 use process_machine::{Call, Reply};
 use sprite_ids::{Bytes, Copying, DeviceId, NoMemory};
 use std::alloc::Global;
 use unix_calls::{About, Event};
 
-// The process comes to that call: the processes that are due to leave do so, and then the call takes its first step.
+// The process comes to that call, where it is between two calls and that one is its next; else nothing is done.
 pub(crate) fn issue(
     client: &mut ClientProcs,
     alloc: Global,
@@ -19,6 +20,38 @@ pub(crate) fn issue(
     call: &Call,
 ) -> Result<(), NoMemory>
     ensures { OnOk result (client.new ≡ issues about.now call.now client.old) }
+{
+    if !is_next(client, about) {
+        return Ok(());
+    }
+    issue_next(client, alloc, about, call)
+}
+
+// Whether the process is between two calls, and that one is its next.
+fn is_next(client: &ClientProcs, about: &About) -> bool
+    ensures { result ≡ is_next about.now client.now }
+{
+    is_ready(client, about.pid) && is_behind(about.number, number_of(client, about.pid))
+}
+
+// Whether the number is the next one behind the last.
+fn is_behind(number: u32, last: Option<u32>) -> bool
+    ensures { result ≡ is_behind number last }
+{
+    match last {
+        Some(last) => u64::from(number) == u64::from(last) + 1,
+        None => false,
+    }
+}
+
+// The processes that are due to leave do so, and then the call takes its first step.
+fn issue_next(
+    client: &mut ClientProcs,
+    alloc: Global,
+    about: &About,
+    call: &Call,
+) -> Result<(), NoMemory>
+    ensures { OnOk result (client.new ≡ issues_next about.now call.now client.old) }
 {
     come_to(client, alloc, about, call)?;
     note_issue(client, alloc, about, call)?;

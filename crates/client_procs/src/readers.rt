@@ -79,7 +79,8 @@ pub fn number(client: &ClientProcs, pid: Pid) -> Option<u32>
     number_of(client, pid)
 }
 
-fn number_of(client: &ClientProcs, pid: Pid) -> Option<u32>
+// The number of the call that the process came to last.
+pub(crate) fn number_of(client: &ClientProcs, pid: Pid) -> Option<u32>
     ensures { result ≡ number_at pid client.now }
 {
     match client.procs.get(&pid) {

@@ -9,12 +9,11 @@ use client_moves::{finish, stream_moved};
 use sprite_ids::{NoMemory, Pid};
 use std::alloc::Global;
 
-// How many rounds there are at most for each process that is here or leaves: each ends a call, a close or a move of it, or begins
-// one (this project).
+// How many rounds there are for each process that is here or leaves, and how many besides (this project).
 const ROUNDS: usize = 64;
 
-// Runs what is ready, gives the replies and takes the reports of the files' side, in this order, until nothing is left. So many
-// rounds are enough.
+// Runs what is ready, gives the replies and takes the reports of the files' side, in this order, that many rounds. Where nothing
+// is left, further rounds change nothing.
 pub(crate) fn go_on(client: &mut ClientProcs, alloc: Global) -> Result<(), NoMemory>
     ensures { OnOk result (client.new ≡ goes_on client.old) }
 {
@@ -58,7 +57,7 @@ fn is_quiet(client: &ClientProcs) -> bool
         && client.files.results.len() == 0
 }
 
-// Gives all replies, in order, also those that come by it: each process that is here has at most one.
+// Gives the replies, in order, also those that come by it: as many as processes are here.
 fn give_all(client: &mut ClientProcs, alloc: Global) -> Result<(), NoMemory>
     ensures { OnOk result (client.new ≡ gives_all client.old) }
 {

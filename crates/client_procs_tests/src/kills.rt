@@ -300,8 +300,9 @@ fn kills_that_follow_a_process(rt: HostRuntime) {
     is_none(&rt, first_other(rt.alloc(), 0, &CHASED));
 }
 
-// A process waits for a page and goes on with it; another one is killed while its page is on its way.
-static PAGES: [Row; 5] = [
+// A process waits for a page and goes on with it; another one is killed, twice, while its page is on its way, and dies when that
+// has come.
+static PAGES: [Row; 6] = [
     (
         Needs(2002),
         [1, 2, 0, 1],
@@ -315,15 +316,54 @@ static PAGES: [Row; 5] = [
     (Answer(1, 1, Page), [0, 2, 0, 1], Silence),
     (
         Issue(2002, Home(Kill(2001))),
-        [4, 1, 0, 1],
-        Two(Dies(2001), Gives(2002, 0, 0)),
+        [3, 2, 0, 1],
+        One(Gives(2002, 0, 0)),
     ),
-    (Answer(2, 1, Page), [0, 1, 0, 0], Silence),
+    (
+        Issue(2002, Home(Kill(2001))),
+        [3, 2, 0, 1],
+        One(Gives(2002, 0, 0)),
+    ),
+    (Answer(2, 1, Page), [1, 1, 0, 0], One(Dies(2001))),
 ];
 
 #[test]
 fn pages(rt: HostRuntime) {
     is_none(&rt, first_other(rt.alloc(), 0, &PAGES));
+}
+
+// A process of another home is killed while its page is on its way: its home is told of its death when that has come.
+static FOREIGN_PAGE: [Row; 6] = [
+    (
+        Asked(1, Comes(3001, 4)),
+        [1, 2, 0, 1],
+        Two(
+            Calls(Ask::Place(3001, 2), 3, false),
+            Answers(1, Given::Done),
+        ),
+    ),
+    (Answer(1, 3, Done), [1, 3, 0, 0], One(Thaws(3001))),
+    (
+        Needs(3001),
+        [1, 3, 0, 1],
+        One(Calls(Ask::PageIn(3001, 0), 1, false)),
+    ),
+    (
+        Asked(2, Killed(3001)),
+        [0, 3, 0, 1],
+        One(Answers(2, Given::Done)),
+    ),
+    (
+        Answer(2, 1, Page),
+        [1, 2, 0, 1],
+        One(Calls(Ask::Home(3001, 5, Death), 3, false)),
+    ),
+    (Answer(3, 3, Value(0, 0)), [0, 2, 0, 0], Silence),
+];
+
+#[test]
+fn a_kill_of_a_foreign_process_that_waits_for_a_page(rt: HostRuntime) {
+    is_none(&rt, first_other(rt.alloc(), 0, &FOREIGN_PAGE));
 }
 
 // The kernel that is told of the kill knows the process no more, and it comes home next, where it dies.

@@ -12,6 +12,9 @@
 //! comes home, or that waits for its home's word; a kill and a page on its way; a kill and a parked `wait`; an eviction and a process
 //! that is frozen, inside its own `migrate`, not yet thawed, or killed too; an ask and the making of its device; asks behind the exit
 //! of their master; and two masters that wait for one ask.
+//!
+//! Of what no right cluster brings to a kernel: a call of a process that is inside one, or whose number isn't the next; a page of such
+//! a process, one that is here, and one that is none of the image's; and a process that is here already, or on its way from here.
 #![tactic(auto)]
 
 #[cfg(test)]
@@ -26,6 +29,8 @@ mod kills;
 mod moves;
 #[cfg(test)]
 mod script;
+#[cfg(test)]
+mod strange;
 #[cfg(test)]
 mod told;
 #[cfg(test)]

@@ -21,6 +21,10 @@ pub(crate) enum Step {
     GiveUp(u32),
     /// The process has run until its page is away, behind its one instruction, and comes to that page.
     Needs(u64),
+    /// The process comes to the call that it came to last.
+    Again(u64, Does),
+    /// The process comes to that page, as its image is.
+    Turns(u64, u8),
 }
 
 /// A step; how many records it makes, and how many processes are kept behind it, how many leave, and how many remote calls for
@@ -66,6 +70,11 @@ fn input_of(client: &mut ClientProcs, alloc: Global, step: Step) -> Result<Input
             let last = number(client, pid).ok_or(NoMemory)?;
             issued(alloc, pid, last.saturating_add(1), does)
         }
+        Step::Again(who, does) => {
+            let pid = pid(who)?;
+            let last = number(client, pid).ok_or(NoMemory)?;
+            issued(alloc, pid, last, does)
+        }
         Step::Asked(tx, wants) => asked(alloc, tx, wants),
         Step::Answer(tx, from, says) => answered(alloc, tx, from, says),
         Step::GiveUp(tx) => Ok(Input::GaveUp { tx: TxNo(tx) }),
@@ -73,6 +82,10 @@ fn input_of(client: &mut ClientProcs, alloc: Global, step: Step) -> Result<Input
             let pid = pid(who)?;
             set_image(client, pid, image_away(alloc, 1)?);
             Ok(Input::PageNeeded { pid, page: 0 })
+        }
+        Step::Turns(who, page) => {
+            let pid = pid(who)?;
+            Ok(Input::PageNeeded { pid, page })
         }
     }
 }

@@ -125,21 +125,33 @@ changes_directory tx r s = changes_found tx r (found_in r.path s) s
 abbrev pub forgets_closed : FileId → Server → Server
 forgets_closed file s = if is_any (kept_of file s).opens then s else forgotten file s
 
--- unlink: a file or device has the name no more; a file's streams keep it
-abbrev pub unlinked_file : TxNo → NameRequest → FileId → Server → Server
-unlinked_file tx r file s = forgets_closed file (marked file (gives_name tx r (value 0 0) s))
+-- unlink: a file or device has the name no more; a file is marked, for its streams keep it
+abbrev pub takes_name_by : TxNo → NameRequest → Result Node NameEnd → Server → Server
+takes_name_by tx r (Ok (File file)) s = marked file (gives_name tx r (value 0 0) (with_removed r.path s))
+takes_name_by tx r (Ok Dir) s = gives_name tx r (value 0 0) (with_removed r.path s)
+takes_name_by tx r (Ok (Device device)) s = gives_name tx r (value 0 0) (with_removed r.path s)
+takes_name_by tx r (Err end) s = ends_name tx r end s
 
-abbrev pub unlinked : TxNo → NameRequest → Node → Server → Server
-unlinked tx r Dir s = gives_name tx r (value 0 0) s
-unlinked tx r (Device device) s = gives_name tx r (value 0 0) s
-unlinked tx r (File file) s = unlinked_file tx r file s
+abbrev pub takes_name : TxNo → NameRequest → Server → Server
+takes_name tx r s = takes_name_by tx r (remove_in r.path false s) s
 
-abbrev pub takes_away_by : TxNo → NameRequest → Result Node NameEnd → Server → Server
-takes_away_by tx r (Ok node) s = unlinked tx r node (with_removed r.path s)
-takes_away_by tx r (Err end) s = ends_name tx r end s
+-- the file that has its name no more
+abbrev pub unnamed_by : Result Node NameEnd → Option FileId
+unnamed_by (Ok (File file)) = Some file
+unnamed_by (Ok Dir) = None
+unnamed_by (Ok (Device device)) = None
+unnamed_by (Err end) = None
+
+abbrev pub unnamed : NameRequest → Server → Option FileId
+unnamed r s = unnamed_by (remove_in r.path false s)
+
+-- it is forgotten where nobody has it open
+abbrev pub forgets_unnamed : Option FileId → Server → Server
+forgets_unnamed (Some file) s = forgets_closed file s
+forgets_unnamed None s = s
 
 abbrev pub takes_away : TxNo → NameRequest → Server → Server
-takes_away tx r s = takes_away_by tx r (remove_in r.path false s) s
+takes_away tx r s = forgets_unnamed (unnamed r s) (takes_name tx r s)
 
 -- the name of a busy file waits: an open that waits for callbacks is entered by it
 abbrev pub unlinks_file : Asked → NameRequest → FileId → Server → Server

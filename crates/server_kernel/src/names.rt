@@ -1,5 +1,5 @@
 ghost use Rattle.std.specs.Prelude.{◌≡◌, IfOk, OnOk};
-ghost use Rattle.server_kernel.specs.Names.{name_call, text_or_none, refuses_name, gives_name, names, stats, stats_node, makes_directory, removes_directory, removes_empty, lists, lists_text, changes_directory, changes_to, unlinks, unlinks_file, takes_away, unlinked, unlinked_file, forgets_closed, renames, renames_to, renames_here, renames_file, renames_now, refuses_apart, makes_device};
+ghost use Rattle.server_kernel.specs.Names.{name_call, text_or_none, refuses_name, gives_name, names, stats, stats_node, makes_directory, removes_directory, removes_empty, lists, lists_text, changes_directory, changes_to, unlinks, unlinks_file, takes_away, takes_name, unnamed, forgets_closed, renames, renames_to, renames_here, renames_file, renames_now, refuses_apart, makes_device};
 
 use crate::asked::{Asked, Caller};
 use crate::saying::value;
@@ -203,47 +203,50 @@ impl Server {
         self.take_away(alloc, asked.tx, request)
     }
 
+    // Takes the name away, and forgets a file that nobody has open.
     fn take_away(&mut self, alloc: Global, tx: TxNo, request: &NameRequest) -> Result<(), NoMemory>
         ensures { OnOk result (self.new ≡ takes_away tx request.now self.old) }
     {
+        if let Some(file) = self.take_name(alloc, tx, request)? {
+            self.forget_closed(&file);
+        }
+        Ok(())
+    }
+
+    // What had the name has it no more, and a file is marked. Answers that file.
+    fn take_name(
+        &mut self,
+        alloc: Global,
+        tx: TxNo,
+        request: &NameRequest,
+    ) -> Result<Option<FileId>, NoMemory>
+        ensures new { OnOk result (self.new ≡ takes_name tx request.now self.old) }
+        ensures file { IfOk result (λ file. file ≡ unnamed request.now self.old) }
+    {
         match self.remove(&request.path, false) {
-            Ok(node) => self.unlinked(alloc, tx, request, node),
-            Err(NameEnd::Errno(errno)) => self.refuse_name(alloc, tx, request, errno),
-            Err(NameEnd::Redirect(path)) => self.answer(tx, ReplyBody::Redirect { path }),
+            Ok(Node::File(file)) => {
+                self.give_name(alloc, tx, request, value(alloc, 0, 0))?;
+                self.mark(&file)?;
+                Ok(Some(file))
+            }
+            Ok(Node::Dir) => {
+                self.give_name(alloc, tx, request, value(alloc, 0, 0))?;
+                Ok(None)
+            }
+            Ok(Node::Device(_)) => {
+                self.give_name(alloc, tx, request, value(alloc, 0, 0))?;
+                Ok(None)
+            }
+            Err(NameEnd::Errno(errno)) => {
+                self.refuse_name(alloc, tx, request, errno)?;
+                Ok(None)
+            }
+            Err(NameEnd::Redirect(path)) => {
+                self.answer(tx, ReplyBody::Redirect { path })?;
+                Ok(None)
+            }
             Err(NameEnd::NoMemory) => Err(NoMemory),
         }
-    }
-
-    // What had the name has it no more.
-    fn unlinked(
-        &mut self,
-        alloc: Global,
-        tx: TxNo,
-        request: &NameRequest,
-        node: Node,
-    ) -> Result<(), NoMemory>
-        ensures { OnOk result (self.new ≡ unlinked tx request.now node self.old) }
-    {
-        match node {
-            Node::Dir => self.give_name(alloc, tx, request, value(alloc, 0, 0)),
-            Node::Device(_) => self.give_name(alloc, tx, request, value(alloc, 0, 0)),
-            Node::File(file) => self.unlinked_file(alloc, tx, request, &file),
-        }
-    }
-
-    fn unlinked_file(
-        &mut self,
-        alloc: Global,
-        tx: TxNo,
-        request: &NameRequest,
-        file: &FileId,
-    ) -> Result<(), NoMemory>
-        ensures { OnOk result (self.new ≡ unlinked_file tx request.now file.now self.old) }
-    {
-        self.give_name(alloc, tx, request, value(alloc, 0, 0))?;
-        self.mark(file)?;
-        self.forget_closed(file);
-        Ok(())
     }
 
     // Forgets the file, which has no name, where nobody has it open.

@@ -18,6 +18,7 @@ returns c = λ image. record {
   settled = λ h. absurd (cc);
   calls = λ h. absurd (cc);
   wanted = λ h. absurd (cc);
+  wanted_page = λ h. absurd (cc);
   calls_once = λ h. absurd (cc);
   pages = λ h. absurd (cc);
   getting = λ h. absurd (cc);
