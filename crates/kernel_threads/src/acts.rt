@@ -1,11 +1,14 @@
 #![tactic(auto, using(crate::proofs::ActLaws::acts_stays, crate::proofs::ActLaws::acts_adds, crate::proofs::ActLaws::acts_on))]
 
-ghost use Rattle.std.specs.Prelude.{◌≡◌, IfOk, IfSome, OnErr, OnOk, Some};
+ghost use Rattle.std.specs.Prelude.{◌≡◌, ◌≢◌, IfOk, IfSome, OnErr, OnOk, Some};
 ghost use Rattle.kernel_threads.specs.Steps.{Acts, BeganOf, Closes, IsAmong};
 
 use crate::stepped::Stepped;
 use sprite_ids::{Finish, Kernel, NoMemory};
 use std::alloc::Global;
+
+/// How many of a kernel's choices may happen in one turn of its worker.
+const MOST_STEPS: u32 = 32;
 
 /// What a kernel's turn came to.
 pub(crate) enum Act<J> {
@@ -13,10 +16,20 @@ pub(crate) enum Act<J> {
     Over,
     /// Nothing can happen at the kernel.
     Idle,
-    /// Something happened, and no process of the kernel can run.
+    /// Something happened, and no burst begins; more may be able to happen.
     Moved,
     /// A process of the kernel is to run.
     Began(J),
+}
+
+impl<J> Act<J> {
+    /// Whether nothing can happen at the kernel.
+    pub(crate) fn is_idle(&self) -> bool {
+        match self {
+            Act::Idle => true,
+            Act::Over | Act::Moved | Act::Began(_) => false,
+        }
+    }
 }
 
 /// The first of the kernel's choices happens, where it has one, and then a burst begins, where a process of it can run.
@@ -92,6 +105,81 @@ fn begin<V: Stepped>(alloc: Global, value: &mut V, kernel: Kernel, moved: bool) 
         Ok(None) => { if moved { Act::Moved } else { Act::Idle } }
         Err(NoMemory) => Act::Over,
     }
+}
+
+/// The first of the kernel's choices happens, time after time while it has one, up to a bound. Then a burst begins, where no choice is left
+/// and a process of the kernel can run. It is `Idle` where nothing more can happen at the kernel, whatever has happened.
+pub(crate) fn go_far<V: Stepped>(alloc: Global, value: &mut V, kernel: Kernel) -> Act<V::Job>
+    requires { V.holds value.old }
+    ensures acts { Acts V.origin V.log V.holds kernel value.old value.new }
+    ensures may_end { BeganOf V.is_done (V.may_end (V.origin value.new)) result }
+{
+    for _ in 0..MOST_STEPS {
+        match first_step(alloc, value, kernel) {
+            Outcome::Over => return Act::Over,
+            Outcome::Nothing => return begin(alloc, value, kernel, false),
+            Outcome::Happened => {}
+        }
+    }
+    Act::Moved
+}
+
+// What became of a kernel's first choice.
+enum Outcome {
+    // The value isn't `Running`.
+    Over,
+    // There is none, and the value is `Running`.
+    Nothing,
+    // It happened.
+    Happened,
+}
+
+// The first of the kernel's choices happens, where it has one.
+fn first_step<V: Stepped>(alloc: Global, value: &mut V, kernel: Kernel) -> Outcome
+    requires { V.holds value.old }
+    ensures acts { Acts V.origin V.log V.holds kernel value.old value.new }
+    ensures running { result ≡ Outcome.Nothing → V.finish_of value.new ≡ Finish.Running }
+{
+    if value.finish(alloc) != Finish::Running {
+        return Outcome::Over;
+    }
+    match first_choice(alloc, value, kernel) {
+        Ok(Some(choice)) => happen(alloc, value, kernel, choice),
+        Ok(None) => Outcome::Nothing,
+        Err(NoMemory) => Outcome::Over,
+    }
+}
+
+// The choice happens.
+fn happen<V: Stepped>(alloc: Global, value: &mut V, kernel: Kernel, choice: V::Choice) -> Outcome
+    requires holds { V.holds value.old }
+    requires running { V.finish_of value.old ≡ Finish.Running }
+    requires among { IsAmong choice (V.choices_at value.old kernel) }
+    ensures acts { Acts V.origin V.log V.holds kernel value.old value.new }
+    ensures some { result ≢ Outcome.Nothing }
+{
+    match value.step(alloc, kernel, choice) {
+        Ok(()) => Outcome::Happened,
+        Err(NoMemory) => Outcome::Over,
+    }
+}
+
+/// The burst of the kernel ends, where the value is `Running`, and then it goes on, as by `go_far`.
+pub(crate) fn end_and_go_far<V: Stepped>(
+    alloc: Global,
+    value: &mut V,
+    kernel: Kernel,
+    burst: V::Burst,
+) -> Act<V::Job>
+    requires holds { V.holds value.old }
+    requires may_end { V.may_end (V.origin value.old) burst }
+    ensures acts { Acts V.origin V.log V.holds kernel value.old value.new }
+    ensures may_end { BeganOf V.is_done (V.may_end (V.origin value.new)) result }
+{
+    if !end(alloc, value, kernel, burst) {
+        return Act::Over;
+    }
+    go_far(alloc, value, kernel)
 }
 
 /// The burst of the kernel ends, where the value is `Running`. False where it isn't `Running` any more.

@@ -2,11 +2,12 @@
 
 ghost use Rattle.std.specs.Prelude.{◌≡◌, All, map, vec_capacity, vec_len};
 ghost use Rattle.turn_gate.specs.Steps.{Later};
-ghost use Rattle.kernel_threads.specs.Steps.{BeganOf};
-ghost use Rattle.kernel_threads.specs.Seats.{AreLater, MayEndAt};
+ghost use Rattle.kernel_threads.specs.Seats.{AreLater};
 
-use crate::acts::{Act, end, move_on};
+use crate::acts::Act;
+use crate::sleepers::Sleepers;
 use crate::stepped::Stepped;
+use crate::taking::{end_burst, take_turn};
 use crate::watch::{Point, Watch};
 use sprite_ids::Kernel;
 use std::alloc::Global;
@@ -14,14 +15,15 @@ use std::sync::Wait;
 use std::thread;
 use turn_gate::{Gate, Seat};
 
-/// How often a kernel where nothing can happen leaves the processor to others before its next turn.
+/// How often a worker where nothing can happen leaves the processor to others before its kernel's next turn.
 const RESTS: u32 = 16;
 
 /// Serves the kernels of the seats, turn after turn, until the value isn't `Running` any more. It may wait for ever.
 ///
-/// In a kernel's turn the first of its choices happens, where it has one, and then a burst begins, where a process of it can run;
-/// the burst is done outside of the turns, and ends in the kernel's next turn. Between two turns, and inside each burst, `watch` is
-/// told. A kernel where nothing can happen leaves the processor to others for a while before its next turn.
+/// In a kernel's turn the first of its choices happens, time after time while it has one, up to a bound, and then a burst begins, where
+/// no choice is left and a process of it can run; the burst is done outside of the turns, and ends in the kernel's next turn. Between two
+/// turns, and inside each burst, `watch` is told. A kernel where nothing can happen leaves the processor to others for a while before its
+/// next turn.
 ///
 /// The seats come back in their order. Each is the same, some turns later.
 pub fn serve<R: Wait, V: Stepped, W: Watch>(
@@ -37,9 +39,28 @@ pub fn serve<R: Wait, V: Stepped, W: Watch>(
     ensures len { vec_len result ≡ vec_len seats }
     ensures capacity { vec_capacity result ≡ vec_capacity seats }
 {
+    serve_beside(rt, alloc, gate, seats, watch, &Sleepers::none())
+}
+
+/// The same beside workers on threads of their own, which are called where something can happen at their kernels; and while nothing can
+/// happen at any of these kernels this thread sleeps until one of them is called.
+pub(crate) fn serve_beside<R: Wait, V: Stepped, W: Watch>(
+    rt: &R,
+    alloc: Global,
+    gate: &Gate<V>,
+    seats: Vec<Seat<V>>,
+    watch: &W,
+    sleepers: &Sleepers,
+) -> Vec<Seat<V>>
+    requires { All (λ s. s.token.table_id ≡ gate.now.table.shared.table_id) seats.items }
+    ensures table { All (λ s. s.token.table_id ≡ gate.now.table.shared.table_id) result.items }
+    ensures later { AreLater (map (λ s. s.token.me.0) seats.items) (map (λ s. s.token.me.0) result.items) }
+    ensures len { vec_len result ≡ vec_len seats }
+    ensures capacity { vec_capacity result ≡ vec_capacity seats }
+{
     let mut seats = seats;
     for _ in rt.forever() {
-        let (back, more) = serve_once(rt, alloc, gate, seats, watch);
+        let (back, more) = serve_once(rt, alloc, gate, seats, watch, sleepers);
         seats = back;
         if !more {
             return seats;
@@ -55,6 +76,7 @@ fn serve_once<R: Wait, V: Stepped, W: Watch>(
     gate: &Gate<V>,
     seats: Vec<Seat<V>>,
     watch: &W,
+    sleepers: &Sleepers,
 ) -> (Vec<Seat<V>>, bool)
     requires { All (λ s. s.token.table_id ≡ gate.now.table.shared.table_id) seats.items }
     ensures table { All (λ s. s.token.table_id ≡ gate.now.table.shared.table_id) result.0.items }
@@ -66,33 +88,10 @@ fn serve_once<R: Wait, V: Stepped, W: Watch>(
     let Some(seat) = seats.pop() else {
         return (seats, false);
     };
-    let (seat, more) = visit(rt, alloc, gate, seat, watch);
-    let (mut seats, others) = serve_once(rt, alloc, gate, seats, watch);
+    let (seat, more) = visit(rt, alloc, gate, seat, watch, sleepers);
+    let (mut seats, others) = serve_once(rt, alloc, gate, seats, watch, sleepers);
     seats.push_reserved(seat);
     (seats, more || others)
-}
-
-/// Serves the kernel of the seat until the value isn't `Running` any more. It may wait for ever.
-pub(crate) fn serve_seat<R: Wait, V: Stepped, W: Watch>(
-    rt: &R,
-    alloc: Global,
-    gate: &Gate<V>,
-    seat: Seat<V>,
-    watch: &W,
-) -> Seat<V>
-    requires { seat.token.table_id ≡ gate.now.table.shared.table_id }
-    ensures table { result.token.table_id ≡ seat.token.table_id }
-    ensures later { Later seat.token.me.0 result.token.me.0 }
-{
-    let mut seat = seat;
-    for _ in rt.forever() {
-        let (back, more) = visit(rt, alloc, gate, seat, watch);
-        seat = back;
-        if !more {
-            return seat;
-        }
-    }
-    unreachable!()
 }
 
 // A turn of the seat's kernel, and where a burst begins in it the burst, and a turn in which it ends. False where the value isn't
@@ -103,6 +102,7 @@ fn visit<R: Wait, V: Stepped, W: Watch>(
     gate: &Gate<V>,
     seat: Seat<V>,
     watch: &W,
+    sleepers: &Sleepers,
 ) -> (Seat<V>, bool)
     requires { seat.token.table_id ≡ gate.now.table.shared.table_id }
     ensures table { result.0.token.table_id ≡ seat.token.table_id }
@@ -112,18 +112,19 @@ fn visit<R: Wait, V: Stepped, W: Watch>(
         return (seat, false);
     };
     watch.at(kernel, Point::Turn);
-    let (seat, act) = take_turn(rt, alloc, gate, seat, kernel);
+    let (seat, act) = take_turn(rt, alloc, gate, seat, kernel, sleepers);
     match act {
         Act::Over => (seat, false),
         Act::Moved => (seat, true),
         Act::Idle => {
             rest();
+            sleepers.sleep(rt, kernel);
             (seat, true)
         }
         Act::Began(job) => {
             watch.at(kernel, Point::InBurst);
             let burst = V::run_job(job);
-            end_burst(rt, alloc, gate, seat, kernel, burst)
+            end_burst(rt, alloc, gate, seat, kernel, burst, sleepers)
         }
     }
 }
@@ -133,43 +134,4 @@ fn rest() {
     for _ in 0..RESTS {
         thread::yield_now();
     }
-}
-
-// A turn of the kernel.
-fn take_turn<R: Wait, V: Stepped>(
-    rt: &R,
-    alloc: Global,
-    gate: &Gate<V>,
-    seat: Seat<V>,
-    kernel: Kernel,
-) -> (Seat<V>, Act<V::Job>)
-    requires table { seat.token.table_id ≡ gate.now.table.shared.table_id }
-    requires number { seat.token.me.0.number ≡ kernel }
-    ensures table { result.0.token.table_id ≡ seat.token.table_id }
-    ensures later { Later seat.token.me.0 result.0.token.me.0 }
-    ensures may_end { BeganOf V.is_done (MayEndAt V.may_end result.0.token.me.0.origin) result.1 }
-{
-    let mut turn = gate.take(rt, seat);
-    let act = move_on(alloc, &mut turn.value, kernel);
-    (gate.put(turn), act)
-}
-
-// A turn of the kernel in which its burst ends. False where the value isn't `Running` any more.
-fn end_burst<R: Wait, V: Stepped>(
-    rt: &R,
-    alloc: Global,
-    gate: &Gate<V>,
-    seat: Seat<V>,
-    kernel: Kernel,
-    burst: V::Burst,
-) -> (Seat<V>, bool)
-    requires table { seat.token.table_id ≡ gate.now.table.shared.table_id }
-    requires number { seat.token.me.0.number ≡ kernel }
-    requires may_end { MayEndAt V.may_end seat.token.me.0.origin burst }
-    ensures table { result.0.token.table_id ≡ seat.token.table_id }
-    ensures later { Later seat.token.me.0 result.0.token.me.0 }
-{
-    let mut turn = gate.take(rt, seat);
-    let more = end(alloc, &mut turn.value, kernel, burst);
-    (gate.put(turn), more)
 }

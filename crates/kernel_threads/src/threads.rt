@@ -4,14 +4,15 @@ ghost use Rattle.kernel_threads.specs.Steps.{Ran};
 ghost use Rattle.kernel_threads.specs.Seats.{AreLater, backwards};
 
 use crate::rounds::run_rounds;
-use crate::serving::{serve, serve_seat};
+use crate::serving::serve_beside;
+use crate::sleepers::Sleepers;
 use crate::stepped::Stepped;
 use crate::watch::Watch;
+use crate::workers::serve_seat;
 use sprite_ids::Finish;
 use std::alloc::Global;
 use std::snapshot::Snapshot;
 use std::sync::Wait;
-use std::sync::atomic::{AtomicU64, Ordering};
 use std::thread;
 use std::thread::{Promise, PromisedHandle, Threads};
 use turn_gate::{Book, Gate, Seat};
@@ -30,7 +31,9 @@ impl<V: Book> Promise<Seat<V>> for ComesBack<V> {
 }
 
 /// Runs the value by a worker for each of its kernels, each on a thread of its own, until it isn't `Running` any more. Where a thread
-/// can't be started, the calling thread serves that kernel too, together with all others that have none. It may wait for ever.
+/// can't be started, the calling thread serves that kernel too, together with all others that have none. A worker that has its turn goes
+/// on with its kernel's choices, up to a bound; one with nothing to do sleeps until another's turn gives it something, or the run is
+/// over. It may wait for ever.
 ///
 /// The kernels are all of the value. The log grows by items of the kernels alone, and what is always true of the value stays true.
 /// The one error is want of memory before any thread is started, and hands the value back.
@@ -86,8 +89,8 @@ where
     ensures table { All (λ s. s.token.table_id ≡ gate.now.table.shared.table_id) result.items }
     ensures later { AreLater (map (λ s. s.token.me.0) seats.items) (map (λ s. s.token.me.0) result.items) }
 {
-    let without = AtomicU64::new(0);
-    let without = &without;
+    let sleepers = Sleepers::new();
+    let sleepers = &sleepers;
     thread::scope(
         thread::scope_env(),
         rt,
@@ -112,13 +115,13 @@ where
                         requires { seat.token.table_id ≡ gate.now.table.shared.table_id }
                         ensures table { result.token.table_id ≡ seat.token.table_id }
                         ensures later { Later seat.token.me.0 result.token.me.0 }
-                    { serve_unless(rt, alloc, gate, seat, watch, without) },
+                    { serve_unless(rt, alloc, gate, seat, watch, sleepers) },
                 ) {
                     Ok(worker) => workers.push_reserved(worker),
                     Err(refused) => {
-                        without.store(u64::from(number), Ordering::SeqCst);
+                        sleepers.leave_out(number);
                         seats.push_reserved((refused.value)());
-                        let seats = serve(rt, alloc, gate, seats, watch);
+                        let seats = serve_beside(rt, alloc, gate, seats, watch, sleepers);
                         return join_all(rt, gate, seats, workers);
                     }
                 }
@@ -176,14 +179,14 @@ fn serve_unless<R: Wait, V: Stepped, W: Watch>(
     gate: &Gate<V>,
     seat: Seat<V>,
     watch: &W,
-    without: &AtomicU64,
+    sleepers: &Sleepers,
 ) -> Seat<V>
     requires { seat.token.table_id ≡ gate.now.table.shared.table_id }
     ensures table { result.token.table_id ≡ seat.token.table_id }
     ensures later { Later seat.token.me.0 result.token.me.0 }
 {
-    if u64::from(seat.number()) <= without.load(Ordering::SeqCst) {
+    if sleepers.leaves_out(seat.number()) {
         return seat;
     }
-    serve_seat(rt, alloc, gate, seat, watch)
+    serve_seat(rt, alloc, gate, seat, watch, sleepers)
 }

@@ -43,8 +43,21 @@ impl Ledger {
     }
 }
 
-// That many turns, each with its number as a line.
-fn serve<R: Wait>(rt: &R, gate: &Gate<Ledger>, mut seat: Seat<Ledger>, turns: u32) -> Seat<Ledger>
+// Leaves the processor to others, that often.
+fn hold(looks: u32) {
+    for _ in 0..looks {
+        thread::yield_now();
+    }
+}
+
+// That many turns, each with its number as a line, and each held for so many looks.
+fn serve<R: Wait>(
+    rt: &R,
+    gate: &Gate<Ledger>,
+    mut seat: Seat<Ledger>,
+    turns: u32,
+    looks: u32,
+) -> Seat<Ledger>
     requires { seat.token.table_id ≡ gate.now.table.shared.table_id }
     ensures table { result.token.table_id ≡ seat.token.table_id }
     ensures later { Later seat.token.me.0 result.token.me.0 }
@@ -53,6 +66,7 @@ fn serve<R: Wait>(rt: &R, gate: &Gate<Ledger>, mut seat: Seat<Ledger>, turns: u3
         let mut turn = gate.take(rt, seat);
         let number = turn.number();
         turn.value.write(number, line);
+        hold(looks);
         seat = gate.put(turn);
     }
     seat
@@ -64,6 +78,7 @@ fn all_serve<R: Threads + Wait + Sync>(
     seats: Vec<Seat<Ledger>>,
     each: u32,
     more: u32,
+    looks: u32,
 ) -> Result<Vec<Seat<Ledger>>, AllocError>
     requires table { All (λ s. s.token.table_id ≡ gate.now.table.shared.table_id) seats.items }
     requires all { IsAll (map (λ s. s.token.me.0) seats.items) }
@@ -79,7 +94,7 @@ fn all_serve<R: Threads + Wait + Sync>(
             ensures later { Later seat.token.me.0 result.token.me.0 }
         {
             let turns = each.saturating_add(more.saturating_mul(u32::from(seat.number())));
-            serve(rt, gate, seat, turns)
+            serve(rt, gate, seat, turns, looks)
         },
     )
 }
@@ -91,6 +106,7 @@ fn written<R: Threads + Wait + Abort + Sync>(
     seats: u8,
     each: u32,
     more: u32,
+    looks: u32,
 ) -> Ledger
     requires { (1 ≤ seats) × (seats ≤ 16) }
     ensures { result.title ≡ 7 }
@@ -101,7 +117,7 @@ fn written<R: Threads + Wait + Abort + Sync>(
     };
     match Gate::start(alloc, ledger, seats) {
         Err(ledger) => ledger,
-        Ok((gate, row)) => match all_serve(rt, &gate, row, each, more) {
+        Ok((gate, row)) => match all_serve(rt, &gate, row, each, more, looks) {
             Ok(row) => gate.finish(row),
             Err(_) => panic!(rt; "no memory for the threads"),
         },
@@ -124,7 +140,7 @@ fn in_order(lines: &[(u8, u32)], seat: u8) -> Option<u32> {
 
 #[test]
 fn two_threads_of_a_thousand_turns(rt: HostRuntime) -> Result<(), Fail> {
-    let ledger = written(&rt, rt.alloc(), 2, 1000, 0);
+    let ledger = written(&rt, rt.alloc(), 2, 1000, 0, 0);
     assert_eq!(rt; ledger.title, 7);
     assert_eq!(rt; ledger.lines.len(), 2000);
     assert_eq!(rt; in_order(&ledger.lines, 1), Some(1000));
@@ -134,11 +150,22 @@ fn two_threads_of_a_thousand_turns(rt: HostRuntime) -> Result<(), Fail> {
 
 #[test]
 fn four_threads_of_different_numbers_of_turns(rt: HostRuntime) -> Result<(), Fail> {
-    let ledger = written(&rt, rt.alloc(), 4, 50, 100);
+    let ledger = written(&rt, rt.alloc(), 4, 50, 100, 0);
     assert_eq!(rt; ledger.lines.len(), 1200);
     let expected = [(1, 150), (2, 250), (3, 350), (4, 450), (5, 0)];
     for (seat, count) in expected {
         assert_eq!(rt; in_order(&ledger.lines, seat), Some(count), "seat {seat}");
+    }
+    Ok(())
+}
+
+// Each turn is held so long that the others sleep meanwhile; a seat that is not woken would hang it.
+#[test]
+fn sixteen_threads_of_turns_that_are_held(rt: HostRuntime) -> Result<(), Fail> {
+    let ledger = written(&rt, rt.alloc(), 16, 50, 0, 200);
+    assert_eq!(rt; ledger.lines.len(), 800);
+    for seat in 1..17 {
+        assert_eq!(rt; in_order(&ledger.lines, seat), Some(50), "seat {seat}");
     }
     Ok(())
 }

@@ -10,7 +10,9 @@ use atomic_table::{Refused, Table};
 use std::alloc::Global;
 use std::snapshot::Snapshot;
 use std::sync::Wait;
-use std::thread;
+use std::sync::atomic::{AtomicU64, Ordering};
+use std::thread::Parker;
+use std::{array, hint};
 
 // The next ticket, the ticket that is served and the number of items in the log, each modulo 2^64.
 const TICKET: usize = 0;
@@ -19,9 +21,23 @@ const SERVING: usize = 1;
 
 const COUNT: usize = 2;
 
+// How often a seat looks before it sleeps.
+const LOOKS: u32 = 64;
+
+// How often a seat that has no ticket lets others go first before it draws one.
+const YIELDS: u32 = 4;
+
+// How many tickets can wait, since no seat has two.
+const PLACES: u64 = 16;
+
 /// A value that threads share, each in its turn. Every seat comes back, and `finish` gives the value back.
 pub struct Gate<V: Book> {
     table: Table<Option<V>, View<V::Origin, V::Item>, Snapshot<V>, Turns, Global>,
+    // Where the seats sleep that have tickets, each at the place of its ticket.
+    parkers: [Parker; 16],
+    // Where the others sleep: how many do, and how often one of them was woken.
+    outside: AtomicU64,
+    woken: AtomicU64,
     ghost sized: { (table.shared.table_id.words ≡ 3) × (table.shared.table_id.slots ≡ 1) },
 }
 
@@ -49,7 +65,12 @@ impl<V: Book> Gate<V> {
         slots.push_reserved(Some(value));
         match Table::new(alloc, &[0, 0, count], slots, &about) {
             Ok((table, first)) => {
-                let gate = Gate { table };
+                let gate = Gate {
+                    table,
+                    parkers: array::from_fn(|_| Parker::new()),
+                    outside: AtomicU64::new(0),
+                    woken: AtomicU64::new(0),
+                };
                 let row = gate.seat_all(first, row, seats);
                 Ok((gate, row))
             }
@@ -94,9 +115,10 @@ impl<V: Book> Gate<V> {
         row
     }
 
-    /// The seat draws a ticket and waits for its turn; it may wait for ever, and takes no memory. The value then has the
-    /// origin of the start, and its log is no shorter than the seat saw; past the opening log it has of this seat's items
-    /// those that the seat added, in order. What is always true of the value is true of it.
+    /// The seat draws a ticket and waits for its turn: it looks for a while, and then sleeps until it is woken by `put`. It may
+    /// wait for ever, and takes no memory. The value then has the origin of the start, and its log is no shorter than the seat
+    /// saw; past the opening log it has of this seat's items those that the seat added, in order. What is always true of the
+    /// value is true of it.
     pub fn take<R: Wait>(&self, rt: &R, seat: Seat<V>) -> Turn<V>
         requires { seat.token.table_id ≡ self.now.table.shared.table_id }
         ensures table { result.token.table_id ≡ seat.token.table_id }
@@ -105,8 +127,10 @@ impl<V: Book> Gate<V> {
         ensures later { Later seat.token.me.0 result.token.me.0 }
     {
         let Seat { number, mut token } = seat;
+        self.let_others_first(rt);
         let words = &self.table.shared;
         let ticket = words.fetch_add::<Draw>(&mut token, TICKET, 1);
+        let mut looks = 0;
         for _ in rt.forever() {
             if words.load::<Look>(&mut token, SERVING) == ticket {
                 match words.exchange(&mut token, 0, None) {
@@ -122,13 +146,72 @@ impl<V: Book> Gate<V> {
                     None => unreachable!(),
                 }
             }
-            thread::yield_now();
+            if looks < LOOKS {
+                looks += 1;
+                hint::spin_loop();
+            } else {
+                self.parker_of(ticket).park(rt);
+            }
         }
         unreachable!()
     }
 
-    /// The value goes back, and the turn to the next ticket. The value must have kept its origin and what is always true of
-    /// it, and its log must have grown by items of this seat's number alone. These are then the seat's, and it has seen the whole log.
+    // Lets the seats that have tickets go first, for a while, so that it is rare that a seat sleeps with a ticket: such a seat holds
+    // others up while it wakes.
+    fn let_others_first<R: Wait>(&self, rt: &R) {
+        for _ in 0..YIELDS {
+            if self.gets_free() {
+                return;
+            }
+            self.sleep_outside(rt);
+        }
+    }
+
+    // Whether the gate is free, or gets free while one looks.
+    fn gets_free(&self) -> bool {
+        for _ in 0..LOOKS {
+            if self.is_free() {
+                return true;
+            }
+            hint::spin_loop();
+        }
+        false
+    }
+
+    // Whether no seat has a ticket.
+    fn is_free(&self) -> bool {
+        let words = &self.table.shared;
+        words.peek(TICKET) == words.peek(SERVING)
+    }
+
+    // Sleeps while a seat has a ticket, until woken. The seat notes that it sleeps before it looks, and who puts the value back looks
+    // for such notes behind the raise: so one of the two sees the other.
+    fn sleep_outside<R: Wait>(&self, rt: &R) {
+        self.outside.fetch_add(1, Ordering::SeqCst);
+        let seen = self.woken.load(Ordering::SeqCst) & 0xffff_ffff;
+        if !self.is_free() {
+            self.woken.park(rt, seen as u32);
+        }
+        self.outside.fetch_sub(1, Ordering::SeqCst);
+    }
+
+    // Wakes the seat with that ticket, or, where no seat has a ticket, one that sleeps without.
+    fn wake_next(&self, ticket: u64) {
+        self.parker_of(ticket).unpark();
+        if self.outside.load(Ordering::SeqCst) != 0 && self.is_free() {
+            self.woken.fetch_add(1, Ordering::SeqCst);
+            self.woken.wake_one();
+        }
+    }
+
+    // Where the seat with the ticket sleeps.
+    fn parker_of(&self, ticket: u64) -> &Parker {
+        &self.parkers[(ticket % PLACES) as usize]
+    }
+
+    /// The value goes back, and the turn to the next ticket, whose seat is woken where it sleeps. The value must have kept its
+    /// origin and what is always true of it, and its log must have grown by items of this seat's number alone. These are then the
+    /// seat's, and it has seen the whole log.
     pub fn put(&self, turn: Turn<V>) -> Seat<V>
         requires table { turn.token.table_id ≡ self.now.table.shared.table_id }
         requires origin { Some (V.origin turn.value) ≡ turn.token.me.0.origin }
@@ -151,7 +234,8 @@ impl<V: Book> Gate<V> {
             Some(_) => unreachable!(),
         }
         words.fetch_add::<Count>(&mut token, COUNT, more);
-        words.fetch_add::<Raise>(&mut token, SERVING, 1);
+        let ticket = words.fetch_add::<Raise>(&mut token, SERVING, 1);
+        self.wake_next(ticket.wrapping_add(1));
         Seat { number, token }
     }
 
@@ -164,7 +248,12 @@ impl<V: Book> Gate<V> {
         ensures ended { Ended (V.origin self.table.shared.key.value) (V.log self.table.shared.key.value) (V.origin result) (V.log result) (map (λ s. s.token.me.0) seats.items) }
         ensures holds { V.holds result }
     {
-        let Gate { table } = self;
+        let Gate {
+            table,
+            parkers: _,
+            outside: _,
+            woken: _,
+        } = self;
         let Seat {
             number: _,
             mut token,

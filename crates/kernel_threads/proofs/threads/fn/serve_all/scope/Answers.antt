@@ -22,8 +22,8 @@ returns-in_default g c = record {
 pub spawn_with-requires-clause-runs : goal.spawn_with-requires-clause-runs
 spawn_with-requires-clause-runs g c = let last : c.in-Some.seat.token.table_id ≡ c.captures.gate.now.table.shared.table_id = every_last (λ s. s.token.table_id ≡ c.captures.gate.now.table.shared.table_id) c.loop.seats.items c.pop.new.self.items c.in-Some.seat c.in-Some.ensures.items c.loop.invariant.here in search (rules, last)
 
-pub serve-seats-requires : goal.serve-seats-requires
-serve-seats-requires g c =
+pub serve_beside-seats-requires : goal.serve_beside-seats-requires
+serve_beside-seats-requires g c =
     let last : c.in-Some.seat.token.table_id ≡ c.captures.gate.now.table.shared.table_id = every_last (λ s. s.token.table_id ≡ c.captures.gate.now.table.shared.table_id) c.loop.seats.items c.pop.new.self.items c.in-Some.seat c.in-Some.ensures.items c.loop.invariant.here in
     let one : c.spawn_with-in-Err.result.token.table_id ≡ c.captures.gate.now.table.shared.table_id = search (rules, last) in
     every_pushed (λ s. s.token.table_id ≡ c.captures.gate.now.table.shared.table_id) c.pop.new.self.items c.push_reserved-in-Err.new.self.items c.spawn_with-in-Err.result c.push_reserved-in-Err.ensures.items
@@ -36,7 +36,7 @@ returns-in-Err g c = record {
   later =
       let one : Later c.in-Some.seat.token.me.0 c.spawn_with-in-Err.result.token.me.0 = search (rules, c.spawn_with-in-Err.ensures.later) in
       let kept = parted_kept (λ s. s.token.me.0) (λ h. h.promise.was.value.token.me.0) c.captures.seats.items c.loop.seats.items c.pop.new.self.items c.push_reserved-in-Err.new.self.items c.loop.workers.items c.in-Some.seat c.spawn_with-in-Err.result c.in-Some.ensures.items c.push_reserved-in-Err.ensures.items one c.loop.invariant.parted in
-      parted_served (λ s. s.token.me.0) (λ h. h.promise.was.value.token.me.0) c.captures.seats.items c.push_reserved-in-Err.new.self.items c.serve-seats.result.items c.join_all-in-Err.result.items c.loop.workers.items c.serve-seats.ensures.later c.join_all-in-Err.ensures.later kept;
+      parted_served (λ s. s.token.me.0) (λ h. h.promise.was.value.token.me.0) c.captures.seats.items c.push_reserved-in-Err.new.self.items c.serve_beside-seats.result.items c.join_all-in-Err.result.items c.loop.workers.items c.serve_beside-seats.ensures.later c.join_all-in-Err.ensures.later kept;
 }
 
 pub loop-preserved : goal.loop-preserved

@@ -1,6 +1,6 @@
 use Rattle.std.proofs.Common.{◌≡◌, All, map, vec_capacity, vec_len}
 use Rattle.kernel_threads.specs.Seats.{AreLater}
-use Rattle.kernel_threads.proofs.serving.serve.Given as goal
+use Rattle.kernel_threads.proofs.serving.serve_beside.Given as goal
 
 abbrev pub invariant-loop : goal.invariant-loop
 invariant-loop g l = record {

@@ -1,6 +1,6 @@
 use Rattle.std.proofs.Common.{rules, map}
 use Rattle.kernel_threads.proofs.SeatLaws.{are_later_begin, are_later_on}
-use Rattle.kernel_threads.proofs.serving.serve.Goals as goal
+use Rattle.kernel_threads.proofs.serving.serve_beside.Goals as goal
 
 pub loop-init : goal.loop-init
 loop-init g c = record {
