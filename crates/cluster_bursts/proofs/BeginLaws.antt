@@ -1,4 +1,4 @@
--- A burst that begins would count.
+-- A burst that begins would count, and does what its program says.
 use Rattle.std.proofs.Common.{◌≡◌, ℕ, ◌<◌, ◌==◌, Bool, true, false, ◌&&◌, ◌||◌, not, cond, List, [], ◌∷◌, ◌++◌, zero, suc, Option, Some, None, refl, sym, ap, ap₂, subst, ◌∙◌, length, nat_eq, nat_lt, slice_get, arith}
 use Rattle.std.proofs.lemmas.Bool.{and_parts, eq-eqb, eqb-true}
 use Rattle.std.proofs.lemmas.List.Quantifiers.{position-Some}
@@ -8,13 +8,14 @@ use Rattle.std.specs.Cmp.Lexicographic.{pointwise}
 use Rattle.sprite_ids.proofs.ListLaws.{get_found, some_is}
 use Rattle.process_machine.specs.Machine.{Machine}
 use Rattle.process_machine.specs.declared.Program.{Program}
+use Rattle.process_machine.specs.Runs.{ahead}
 use Rattle.unix_calls.specs.declared.Description.{Description}
 use Rattle.unix_calls.specs.Answers.{program_at}
 use Rattle.cluster_kernels.specs.declared.State.{State}
 use Rattle.cluster_kernels.specs.States.{count_at, image_at, is_ready_at, pids_at}
 use Rattle.cluster_bursts.specs.declared.job.Burst.{Burst}
 use Rattle.cluster_bursts.specs.declared.job.Job.{Job}
-use Rattle.cluster_bursts.specs.Bursts.{IsDone, begun_by, counts, is_as_it_was, is_image, is_out, is_runnable, job_at, job_by, job_over, job_with, next_after, or_first, runnable_at, same_image}
+use Rattle.cluster_bursts.specs.Bursts.{Did, IsDone, begun_by, counts, is_as_it_was, is_image, is_out, is_runnable, job_at, job_by, job_over, job_with, next_after, or_first, runnable_at, same_image}
 
 -- a place that was found has an item, and the first of a list that isn't empty is there
 found_some : (p : ℕ → Bool) (xs : List ℕ) (at : ℕ) → position p xs ≡ Some at → is_some (slice_get xs at) ≡ true
@@ -80,28 +81,42 @@ put_is_out kernel pid (row ∷ rows) = ap (λ rest. is_out kernel pid row || res
     or_true true = refl
     or_true false = refl
 
--- the parts of a job
-record Begins (kernel : ℕ) (job : Job) (s : State) : Type 0 where
+-- the parts of a job: its process can run and has the image that it begins with, which is one of the program
+record Begins (c : Description) (kernel : ℕ) (job : Job) (s : State) : Type 0 where
   runs : is_runnable kernel s job.pid ≡ true
   image_is : image_at kernel job.pid s ≡ Some job.from
+  program_is : program_at c.programs job.from.number ≡ Some job.program
+  same : job.to ≡ job.from
 
-begins_over : (kernel pid : ℕ) (image : Machine) (o : Option Program) (job : Job) (s : State) → is_runnable kernel s pid ≡ true → image_at kernel pid s ≡ Some image → job_over pid image o ≡ Some job → Begins kernel job s
-begins_over kernel pid image None job s runs has is = absurd (cc)
-begins_over kernel pid image (Some program) job s runs has is = subst (λ job. Begins kernel job s) (some_is (record { pid = pid; program = program; from = image; to = image }) job is) (record { runs = runs; image_is = has })
+begins_over : (c : Description) (kernel pid : ℕ) (image : Machine) (o : Option Program) (job : Job) (s : State) → is_runnable kernel s pid ≡ true → image_at kernel pid s ≡ Some image → program_at c.programs image.number ≡ o → job_over pid image o ≡ Some job → Begins c kernel job s
+begins_over c kernel pid image None job s runs has found is = absurd (cc)
+begins_over c kernel pid image (Some program) job s runs has found is = subst (λ job. Begins c kernel job s) (some_is (record { pid = pid; program = program; from = image; to = image }) job is) (record { runs = runs; image_is = has; program_is = found; same = refl })
 
-begins_with : (c : Description) (kernel pid : ℕ) (o : Option Machine) (job : Job) (s : State) → is_runnable kernel s pid ≡ true → image_at kernel pid s ≡ o → job_with c pid o ≡ Some job → Begins kernel job s
+begins_with : (c : Description) (kernel pid : ℕ) (o : Option Machine) (job : Job) (s : State) → is_runnable kernel s pid ≡ true → image_at kernel pid s ≡ o → job_with c pid o ≡ Some job → Begins c kernel job s
 begins_with c kernel pid None job s runs has is = absurd (cc)
-begins_with c kernel pid (Some image) job s runs has is = begins_over kernel pid image (program_at c.programs image.number) job s runs has is
+begins_with c kernel pid (Some image) job s runs has is = begins_over c kernel pid image (program_at c.programs image.number) job s runs has refl is
 
-begins_by : (c : Description) (kernel : ℕ) (o : Option ℕ) (job : Job) (s : State) → next_after (count_at s.last kernel) (runnable_at kernel s) ≡ o → job_by c kernel o s ≡ Some job → Begins kernel job s
+begins_by : (c : Description) (kernel : ℕ) (o : Option ℕ) (job : Job) (s : State) → next_after (count_at s.last kernel) (runnable_at kernel s) ≡ o → job_by c kernel o s ≡ Some job → Begins c kernel job s
 begins_by c kernel None job s next is = absurd (cc)
 begins_by c kernel (Some pid) job s next is = begins_with c kernel pid (image_at kernel pid s) job s (next_runs kernel pid s next) refl is
 
+begins_at : (c : Description) (kernel : ℕ) (job : Job) (s : State) → job_at c kernel s ≡ Some job → Begins c kernel job s
+begins_at c kernel job s is = begins_by c kernel (next_after (count_at s.last kernel) (runnable_at kernel s)) job s refl is
+
 -- the job of the kernel that was begun, done, would count: its process is what it was
-counts_so : (kernel : ℕ) (job : Job) (b : Burst) (s : State) → Begins kernel job s → b.pid ≡ job.pid → b.from ≡ job.from → counts kernel b (begun_by kernel (Some job) s) ≡ true
-counts_so kernel job burst s begins pid from =
+counts_so : (c : Description) (kernel : ℕ) (job : Job) (b : Burst) (s : State) → Begins c kernel job s → b.pid ≡ job.pid → b.from ≡ job.from → counts kernel b (begun_by kernel (Some job) s) ≡ true
+counts_so c kernel job burst s begins pid from =
     ap₂ (λ (pid : ℕ) (from : Machine). list_any (is_out kernel pid) (s.out ++ (kernel, job.pid) ∷ []) && (is_image (image_at kernel pid s) from && is_ready_at kernel pid s)) pid from
     ∙ ap₂ (λ one rest. one && rest) (put_is_out kernel job.pid s.out) (ap₂ (λ one rest. one && rest) (ap (λ (o : Option Machine). is_image o job.from) begins.image_is ∙ same_as_itself job.from) (and_parts (is_ready_at kernel job.pid s) (not (list_any (is_out kernel job.pid) s.out)) begins.runs).0)
 
 pub counts_begun : (c : Description) (kernel : ℕ) (job : Job) (b : Burst) (s : State) → job_at c kernel s ≡ Some job → IsDone job b → counts kernel b (begun_by kernel (Some job) s) ≡ true
-counts_begun c kernel job burst s is done = counts_so kernel job burst s (begins_by c kernel (next_after (count_at s.last kernel) (runnable_at kernel s)) job s refl is) done.pid done.from
+counts_begun c kernel job burst s is done = counts_so c kernel job burst s (begins_at c kernel job s is) done.pid done.from
+
+-- and did its instructions of the image's program
+pub did_begun : (c : Description) (kernel : ℕ) (job : Job) (b : Burst) (s : State) → job_at c kernel s ≡ Some job → IsDone job b → Did c b
+did_begun c kernel job burst s is done = (let begins = begins_at c kernel job s is in
+    record {
+      program = ap (λ (image : Machine). program_at c.programs image.number) done.from ∙ begins.program_is ∙ ap Some (sym done.program);
+      moved = ap₂ (λ (program : Program) (image : Machine). ahead program image burst.count) done.program (done.from ∙ sym begins.same) ∙ done.moved;
+      ends = done.ends;
+    })

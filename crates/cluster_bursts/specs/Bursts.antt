@@ -19,8 +19,8 @@ use Rattle.unix_calls.specs.declared.Event.TheVariants as events
 use Rattle.unix_calls.specs.Answers.{program_at}
 use Rattle.cluster_bursts.specs.declared.job.Burst.{Burst}
 use Rattle.cluster_bursts.specs.declared.job.Job.{Job}
-use Rattle.cluster_bursts.specs.declared.ended.Ended.{Ended}
-use Rattle.cluster_bursts.specs.declared.ended.Ended.TheVariants as ended
+use Rattle.cluster_bursts.specs.declared.outcome.BurstOutcome.{BurstOutcome}
+use Rattle.cluster_bursts.specs.declared.outcome.BurstOutcome.TheVariants as outcome
 use Rattle.cluster_kernels.specs.declared.State.{State}
 use Rattle.cluster_kernels.specs.States.{count_at, image_at, is_ready_at, noted_step, numbered_at, pids_at, put_image, put_out, with_last}
 use Rattle.cluster_steps.specs.Steps.{TakesSo}
@@ -29,6 +29,12 @@ use Rattle.kernel_rpc.specs.Sound.{Wired}
 -- a burst ended where it says so
 abbrev pub EndsSo : Burst → Type 0
 EndsSo b = EndsBy b.program b.to b.count 10000 b.end
+
+-- the burst is of a program of the description, that of its image, and did so many instructions of it, up to where it ended
+pub record Did (c : Description) (b : Burst) : Type 0 where
+  pub program : program_at c.programs b.from.number ≡ Some b.program
+  pub moved : ahead b.program b.from b.count ≡ Some b.to
+  pub ends : EndsSo b
 
 -- a burst is what became of a job
 pub record IsDone (job : Job) (b : Burst) : Type 0 where
@@ -125,19 +131,19 @@ abbrev pub recorded : ℕ → Burst → State → State
 recorded kernel b s = noted_step kernel (events.Burst b.pid b.count) (taken_back kernel b.pid s)
 
 -- the kernel goes on with what the process came to, where it came to something, over a wire that goes from here to there
-abbrev pub GoesOn : {L : Type 0} → (L → ℕ → ℕ → ℕ) → (L → ℕ → ℕ → ℕ) → Description → ℕ → Option Input → Ended → Wired L → Wired L → State → State → Type 0
-GoesOn faults asked c kernel (Some input) (ended.Took said) old new s t = TakesSo faults asked c kernel input said old new s t
-GoesOn faults asked c kernel None ended.Done old new s t = (new ≡ old) × (t ≡ s)
+abbrev pub GoesOn : {L : Type 0} → (L → ℕ → ℕ → ℕ) → (L → ℕ → ℕ → ℕ) → Description → ℕ → Option Input → BurstOutcome → Wired L → Wired L → State → State → Type 0
+GoesOn faults asked c kernel (Some input) (outcome.Took said) old new s t = TakesSo faults asked c kernel input said old new s t
+GoesOn faults asked c kernel None outcome.Done old new s t = (new ≡ old) × (t ≡ s)
 GoesOn faults asked c kernel input what old new s t = ⊥
 
 -- what becomes of a burst of the kernel: it is lost exactly where it doesn't count; else it is recorded, the process has the image
 -- that it came to, and the kernel takes what the process came to
-abbrev pub EndsAs : {L : Type 0} → (L → ℕ → ℕ → ℕ) → (L → ℕ → ℕ → ℕ) → Description → ℕ → Burst → Ended → Wired L → Wired L → State → State → Type 0
-EndsAs faults asked c kernel b ended.Stale old new s t = (counts kernel b s ≡ false) × (new ≡ old) × (t ≡ taken_back kernel b.pid s)
+abbrev pub EndsAs : {L : Type 0} → (L → ℕ → ℕ → ℕ) → (L → ℕ → ℕ → ℕ) → Description → ℕ → Burst → BurstOutcome → Wired L → Wired L → State → State → Type 0
+EndsAs faults asked c kernel b outcome.Stale old new s t = (counts kernel b s ≡ false) × (new ≡ old) × (t ≡ taken_back kernel b.pid s)
 EndsAs faults asked c kernel b what old new s t =
     (counts kernel b s ≡ true) × GoesOn faults asked c kernel (came_to kernel b b.end (recorded kernel b s)) what old new (put_image kernel b.pid b.to (recorded kernel b s)) t
 
 -- whether a burst that ended so counted
-abbrev pub has_counted : Ended → Bool
-has_counted ended.Stale = false
+abbrev pub has_counted : BurstOutcome → Bool
+has_counted outcome.Stale = false
 has_counted what = true

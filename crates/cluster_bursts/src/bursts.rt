@@ -3,13 +3,13 @@ ghost use Rattle.std.specs.List.{filter, position};
 ghost use Rattle.std.specs.Option.{is_some};
 ghost use Rattle.unix_calls.specs.Answers.{program_at};
 ghost use Rattle.unix_calls.specs.Lawful.{Lawful};
-ghost use Rattle.cluster_bursts.specs.Bursts.{begun_by, came_to, has_counted, has_job_at, is_as_it_was, is_image, is_runnable, issued, job_at, job_by, job_with, next_after, runnable_at, EndsAs, EndsSo, GoesOn, same_image};
-ghost use Rattle.cluster_bursts.specs.Ends.{Ends};
+ghost use Rattle.cluster_bursts.specs.Bursts.{begun_by, came_to, has_counted, has_job_at, is_as_it_was, is_image, is_runnable, issued, job_at, job_by, job_with, next_after, runnable_at, Did, EndsAs, EndsSo, GoesOn, same_image};
+ghost use Rattle.cluster_bursts.specs.Ends.{EndsBurst};
 ghost use Rattle.cluster_kernels.specs.States.{image_at, put_image};
 ghost use Rattle.unix_calls.specs.declared.Event.TheVariants.{Burst as Ran};
 
-use crate::ended::Ended;
 use crate::job::{Burst, Job};
+use crate::outcome::BurstOutcome;
 use cluster_kernels::State;
 use cluster_steps::take;
 use kernel_rpc::Wire;
@@ -194,20 +194,20 @@ pub fn end_burst<L: Link>(
     burst: Burst,
 ) -> Result<bool, NoMemory>
     requires lawful { Lawful c.now }
-    requires ends { EndsSo burst }
-    ensures { IfOk result (λ counted. Ends L.faults L.asked c.now kernel burst counted wire.old wire.new state.old state.new) }
+    requires did { Did c.now burst }
+    ensures { IfOk result (λ counted. EndsBurst L.faults L.asked c.now kernel burst counted wire.old wire.new state.old state.new) }
 {
     let ended = end_as(alloc, c, state, wire, kernel, burst)?;
     Ok(has_counted(&ended))
 }
 
 // Whether the burst counted.
-fn has_counted(ended: &Ended) -> bool
+fn has_counted(ended: &BurstOutcome) -> bool
     ensures { result ≡ has_counted ended.now }
 {
     match ended {
-        Ended::Stale => false,
-        Ended::Done | Ended::Took(_) => true,
+        BurstOutcome::Stale => false,
+        BurstOutcome::Done | BurstOutcome::Took(_) => true,
     }
 }
 
@@ -219,7 +219,7 @@ fn end_as<L: Link>(
     wire: &mut Wire<Packet, L>,
     kernel: Kernel,
     burst: Burst,
-) -> Result<Ended, NoMemory>
+) -> Result<BurstOutcome, NoMemory>
     requires lawful { Lawful c.now }
     requires ends { EndsSo burst }
     ensures { IfOk result (λ ended. EndsAs L.faults L.asked c.now kernel burst ended wire.old wire.new state.old state.new) }
@@ -227,7 +227,7 @@ fn end_as<L: Link>(
     let was_out = state.out.take_row(&kernel, &burst.pid);
     let stays = is_as_it_was(state, kernel, burst.pid, &burst.from);
     if !was_out || !stays {
-        return Ok(Ended::Stale);
+        return Ok(BurstOutcome::Stale);
     }
     state.note_step(kernel, event_of(&burst))?;
     let input = came_to(alloc, state, kernel, &burst)?;
@@ -253,16 +253,16 @@ fn go_on<L: Link>(
     wire: &mut Wire<Packet, L>,
     kernel: Kernel,
     input: Option<Input>,
-) -> Result<Ended, NoMemory>
+) -> Result<BurstOutcome, NoMemory>
     requires lawful { Lawful c.now }
     ensures { IfOk result (λ ended. GoesOn L.faults L.asked c.now kernel input ended wire.old wire.new state.old state.new) }
 {
     match input {
         Some(input) => {
             let said = take(alloc, c, state, wire, kernel, input)?;
-            Ok(Ended::Took(said))
+            Ok(BurstOutcome::Took(said))
         }
-        None => Ok(Ended::Done),
+        None => Ok(BurstOutcome::Done),
     }
 }
 

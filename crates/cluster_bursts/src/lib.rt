@@ -2,11 +2,11 @@
 #![tactic(auto)]
 
 mod bursts;
-mod ended;
 mod job;
+mod outcome;
 mod running;
 
 pub use bursts::{begin_burst, end_burst, has_job};
-pub use ended::Ended;
 pub use job::{Burst, Job};
+pub use outcome::BurstOutcome;
 pub use running::run_job;

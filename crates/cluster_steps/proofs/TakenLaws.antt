@@ -1,17 +1,19 @@
 -- What a kernel takes tells of no more faults than the link counts.
-use Rattle.std.proofs.Common.{arith, ◌≡◌, ℕ, false, List, [], Option, Some, None, Result, Ok, Err, IfOk, refl, sym, ap, subst}
+use Rattle.std.proofs.Common.{arith, ◌≡◌, ℕ, false, List, [], ◌++◌, Option, Some, None, Result, Ok, Err, IfOk, refl, sym, ap, subst, ◌∙◌}
 use Rattle.sprite_ids.specs.declared.TxNo.{TxNo}
+use Rattle.link_plan.specs.declared.Fate.{Fate}
 use Rattle.kernel_steps.specs.declared.Input.{Input}
 use Rattle.cluster_kernels.specs.declared.KernelState.{KernelState}
 use Rattle.cluster_wire.specs.declared.Said.{Said}
 use Rattle.cluster_kernels.specs.declared.State.{State}
 use Rattle.unix_calls.specs.declared.Event.{Event}
 use Rattle.cluster_kernels.specs.States.{kernel_at, noted_step, stepped, stepped_by}
-use Rattle.cluster_wire.specs.Noted.{noted_all, untold}
+use Rattle.cluster_wire.specs.Noted.{faulted_all, noted_all, untold, without_faults}
 use Rattle.cluster_wire.specs.Faults.{FaultsTold, faults_told, is_fault_between}
 use Rattle.cluster_wire.proofs.FaultLaws.{other_more, told_all, told_faults}
+use Rattle.cluster_wire.proofs.NotedLaws.{packet_faults}
 use Rattle.cluster_wire.specs.Links.{AskedFor}
-use Rattle.cluster_wire.specs.Goings.{next_of}
+use Rattle.cluster_wire.specs.Goings.{AllGo, next_of}
 use Rattle.cluster_wire.specs.Ran.{RanOn}
 use Rattle.cluster_wire.proofs.RanLaws.{on_join}
 use Rattle.kernel_rpc.specs.Sound.{Wired}
@@ -72,10 +74,27 @@ whole_after kernel input next s between out (Ok said) made number whole =
     subst (λ (n : TxNo). untold (stepped kernel input n s).1.events said.sent ≡ []) (sym number) (subst (λ (out : Out). untold out.events said.sent ≡ []) (sym (ap (λ (made : State × Out). made.1) made)) whole)
 whole_after kernel input next s between out (Err e) made number whole = tt
 
+-- all its requests go out
+pub go_after : (c : Description) (kernel : ℕ) (input : Input) (next : TxNo) (s between : State) (out : Out) (r : Result Said NoMemory) → stepped kernel input next s ≡ (between, out) → IfOk r (λ said. said.next ≡ next) → IfOk r (λ said. AllGo c kernel out.sends) → IfOk r (λ said. AllGo c kernel (stepped kernel input said.next s).1.sends)
+go_after c kernel input next s between out (Ok said) made number go =
+    subst (λ (n : TxNo). AllGo c kernel (stepped kernel input n s).1.sends) (sym number) (subst (λ (out : Out). AllGo c kernel out.sends) (sym (ap (λ (made : State × Out). made.1) made)) go)
+go_after c kernel input next s between out (Err e) made number go = tt
+
+-- with the faults of its answers all that it did is told
+pub all_told : (kernel : ℕ) (answered : List (ℕ × Fate)) (events old between new : List Event) → without_faults between ≡ without_faults old ++ events → new ≡ faulted_all kernel answered between → without_faults new ≡ without_faults old ++ events
+all_told kernel answered events old between new told faults = ap without_faults faults ∙ packet_faults kernel answered between ∙ told
+
+-- so is all that its kernel's machine does with that number
+pub all_after : (kernel : ℕ) (input : Input) (next : TxNo) (s between t : State) (out : Out) (r : Result Said NoMemory) → stepped kernel input next s ≡ (between, out) → IfOk r (λ said. said.next ≡ next) → IfOk r (λ said. without_faults t.told ≡ without_faults between.told ++ out.events) → IfOk r (λ said. without_faults t.told ≡ without_faults s.told ++ (stepped kernel input said.next s).1.events)
+all_after kernel input next s between t out (Ok said) made number told =
+    subst (λ (n : TxNo). without_faults t.told ≡ without_faults s.told ++ (stepped kernel input n s).1.events) (sym number)
+    (told ∙ ap (λ (made : State × Out). without_faults made.0.told ++ made.1.events) (sym made) ∙ ap (λ (old : List Event). without_faults old ++ (stepped kernel input next s).1.events) (told_stays kernel input next s))
+all_after kernel input next s between t out (Err e) made number told = tt
+
 -- the parts of what a kernel takes
-pub takes_so : {L : Type 0} (faults asked : L → ℕ → ℕ → ℕ) (c : Description) (kernel : ℕ) (input : Input) (old new : Wired L) (s t : State) (r : Result Said NoMemory) → IfOk r (λ said. t ≡ took kernel input said s) → IfOk r (λ said. said.next ≡ next_of old.machine) → IfOk r (λ said. GoesOut faults asked c kernel (stepped kernel input said.next s).1 old new said) → IfOk r (λ said. untold (stepped kernel input said.next s).1.events said.sent ≡ []) → IfOk r (AskedFor faults asked kernel old.link new.link) → IfOk r (λ said. TakesSo faults asked c kernel input said old new s t)
-takes_so faults asked c kernel input old new s t (Ok said) state next says whole asks = record { next = next; state = state; goes_out = says; whole = whole; asks = asks }
-takes_so faults asked c kernel input old new s t (Err e) state next says whole asks = tt
+pub takes_so : {L : Type 0} (faults asked : L → ℕ → ℕ → ℕ) (c : Description) (kernel : ℕ) (input : Input) (old new : Wired L) (s t : State) (r : Result Said NoMemory) → IfOk r (λ said. t ≡ took kernel input said s) → IfOk r (λ said. said.next ≡ next_of old.machine) → IfOk r (λ said. GoesOut faults asked c kernel (stepped kernel input said.next s).1 old new said) → IfOk r (λ said. AllGo c kernel (stepped kernel input said.next s).1.sends) → IfOk r (λ said. untold (stepped kernel input said.next s).1.events said.sent ≡ []) → IfOk r (λ said. without_faults t.told ≡ without_faults s.told ++ (stepped kernel input said.next s).1.events) → IfOk r (AskedFor faults asked kernel old.link new.link) → IfOk r (λ said. TakesSo faults asked c kernel input said old new s t)
+takes_so faults asked c kernel input old new s t (Ok said) state next says go whole all asks = record { next = next; state = state; goes_out = says; go = go; whole = whole; all = all; asks = asks }
+takes_so faults asked c kernel input old new s t (Err e) state next says go whole all asks = tt
 
 -- the wire went on by steps of its runs
 pub takes_ran : {L : Type 0} (faults asked : L → ℕ → ℕ → ℕ) (c : Description) (kernel : ℕ) (input : Input) (said : Said) (old new : Wired L) (s t : State) → TakesSo faults asked c kernel input said old new s t → RanOn faults asked old new

@@ -20,7 +20,7 @@ use Rattle.cluster_wire.specs.Calling.{IsBegin, sent_as, sent_by}
 use Rattle.cluster_wire.specs.declared.telling.Sent.{Sent}
 use Rattle.cluster_wire.specs.Goings.{Going, next_of}
 use Rattle.cluster_wire.specs.Noted.{faulted, faulted_all, is_of, is_own, noted_all, noted_one, untold}
-use Rattle.cluster_wire.specs.Ran.{EachDone, FirstDone, told_of}
+use Rattle.cluster_wire.specs.Ran.{EachDone, told_of}
 use Rattle.cluster_wire.specs.Replying.{IsAnswer, answered_by, asker, asker_by, caller_of, goes_back, reply_packet}
 use Rattle.cluster_wire_laws.specs.Links.{all_told_by, answer_told, bare, bare_event, fault_told, faults_told, is_of_link, of_link, sent_told}
 use Rattle.cluster_wire_laws.specs.Orders.{records_by}
@@ -119,16 +119,12 @@ record Tells {A P X : Type 0} (plan : Machine → A → Option P) (is : Machine 
   more : (xs ys : List X) → says (xs ++ ys) ≡ says xs ++ says ys
   one : (machine : Machine) (x : A) (p : P) (act : Act) → plan machine x ≡ Some p → is machine p act → says (tells machine act) ≡ all_told_by machine act
 
-first_tells : {A P X : Type 0} (plan : Machine → A → Option P) (is : Machine → P → Act → Type 0) (tells : Machine → Act → List X) (says : List X → List Rec) → Tells plan is tells says → (machine : Machine) (x : A) (o : Option P) (Rest : Machine → List (Act × Counts) → Type 0) (steps : List (Act × Counts)) → plan machine x ≡ o → ((machine : Machine) (steps : List (Act × Counts)) → Rest machine steps → says (told_of tells machine steps) ≡ told_of all_told_by machine steps) → FirstDone is o machine Rest steps → says (told_of tells machine steps) ≡ told_of all_told_by machine steps
-first_tells plan is tells says given machine x None Rest steps planned rest done = rest machine steps done
-first_tells plan is tells says given machine x (Some p) Rest [] planned rest done = absurd done
-first_tells plan is tells says given machine x (Some p) Rest (step ∷ steps) planned rest done =
-    given.more (tells machine step.0) (told_of tells (after machine step.0) steps)
-    ∙ ap₂ (λ (xs ys : List Rec). xs ++ ys) (given.one machine x p step.0 planned done.0) (rest (after machine step.0) steps done.1)
-
 each_tells : {A P X : Type 0} (plan : Machine → A → Option P) (is : Machine → P → Act → Type 0) (tells : Machine → Act → List X) (says : List X → List Rec) → Tells plan is tells says → (xs : List A) (machine : Machine) (steps : List (Act × Counts)) → EachDone plan is xs machine steps → says (told_of tells machine steps) ≡ told_of all_told_by machine steps
 each_tells plan is tells says given [] machine steps done = subst (λ (steps : List (Act × Counts)). says (told_of tells machine steps) ≡ told_of all_told_by machine steps) (sym done) given.none
-each_tells plan is tells says given (x ∷ xs) machine steps done = first_tells plan is tells says given machine x (plan machine x) (λ machine steps. EachDone plan is xs machine steps) steps refl (λ machine steps. each_tells plan is tells says given xs machine steps) done
+each_tells plan is tells says given (x ∷ xs) machine [] done = absurd done
+each_tells plan is tells says given (x ∷ xs) machine (step ∷ steps) done =
+    given.more (tells machine step.0) (told_of tells (after machine step.0) steps)
+    ∙ ap₂ (λ (xs ys : List Rec). xs ++ ys) (given.one machine x done.0.way step.0 done.0.planned done.0.done) (each_tells plan is tells says given xs (after machine step.0) steps done.1)
 
 -- calls that begin
 packets_join : (kernel : ℕ) (xs ys : List Sent) → packets_told kernel (xs ++ ys) ≡ packets_told kernel xs ++ packets_told kernel ys
@@ -186,8 +182,8 @@ answer_tells kernel machine answer packet act planned is =
     (let plan = planned_by kernel machine answer packet (asker kernel machine answer.0) refl planned in
     let asks = asker_owns kernel (may_answer machine answer.0) (call_of machine answer.0) plan.to plan.asks in
     let found : call_of machine packet.tx ≡ Some asks.call = ap (λ (p : Packet). call_of machine p.tx) plan.is ∙ asks.found in
-    subst (λ (act : Act). faults_told kernel (answered_by machine act) ≡ all_told_by machine act) (sym is.1)
-    (subst (λ (o : Option Call). faults_told kernel ((caller_of o, is.0) ∷ []) ≡ answer_told is.0 o) (sym found) (answered_tells kernel is.0 asks.call asks.owns)))
+    subst (λ (act : Act). faults_told kernel (answered_by machine act) ≡ all_told_by machine act) (sym is.is)
+    (subst (λ (o : Option Call). faults_told kernel ((caller_of o, is.given) ∷ []) ≡ answer_told is.given o) (sym found) (answered_tells kernel is.given asks.call asks.owns)))
 
 pub answers_tell : (kernel : ℕ) (xs : List (TxNo × ReplyBody)) (machine : Machine) (steps : List (Act × Counts)) → EachDone (goes_back kernel) IsAnswer xs machine steps → faults_told kernel (told_of answered_by machine steps) ≡ told_of all_told_by machine steps
 answers_tell kernel = each_tells (goes_back kernel) IsAnswer answered_by (faults_told kernel) (record { none = refl; more = faults_join kernel; one = λ machine x packet act planned is. answer_tells kernel machine x packet act planned is })

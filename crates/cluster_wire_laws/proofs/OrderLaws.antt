@@ -14,7 +14,7 @@ use Rattle.kernel_steps.specs.declared.Input.{Input}
 use Rattle.cluster_wire.specs.declared.Said.{Said}
 use Rattle.cluster_wire.specs.declared.telling.Sent.{Sent}
 use Rattle.cluster_wire.specs.Noted.{faulted, faulted_all, is_of, is_own, noted_all, noted_one}
-use Rattle.cluster_wire.specs.Ran.{EachDone, FirstDone, told_of}
+use Rattle.cluster_wire.specs.Ran.{EachDone, told_of}
 use Rattle.cluster_kernels.specs.declared.KernelState.{KernelState}
 use Rattle.cluster_kernels.specs.declared.State.{State}
 use Rattle.cluster_kernels.specs.States.{kernel_at, stepped, stepped_by}
@@ -101,11 +101,7 @@ told_join [] ys machine = refl
 told_join (x ∷ xs) ys machine = ap (λ rest. told_by machine x.0 ++ rest) (told_join xs ys (after machine x.0)) ∙ sym (append_assoc (told_by machine x.0) (told_of told_by (after machine x.0) xs) (told_of told_by (reached (after machine x.0) xs) ys))
 
 -- acts for the things of a list, of none of which anything is told
-first_none : {P : Type 0} (is : Machine → P → Act → Type 0) (o : Option P) (machine : Machine) (Rest : Machine → List (Act × Counts) → Type 0) (steps : List (Act × Counts)) → ((machine : Machine) (p : P) (act : Act) → is machine p act → told_by machine act ≡ []) → ((machine : Machine) (steps : List (Act × Counts)) → Rest machine steps → told_of told_by machine steps ≡ []) → FirstDone is o machine Rest steps → told_of told_by machine steps ≡ []
-first_none is None machine Rest steps none rest done = rest machine steps done
-first_none is (Some p) machine Rest [] none rest done = refl
-first_none is (Some p) machine Rest (step ∷ steps) none rest done = ap₂ (λ (xs ys : List Rec). xs ++ ys) (none machine p step.0 done.0) (rest (after machine step.0) steps done.1)
-
 pub each_none : {A P : Type 0} (plan : Machine → A → Option P) (is : Machine → P → Act → Type 0) → ((machine : Machine) (p : P) (act : Act) → is machine p act → told_by machine act ≡ []) → (xs : List A) (machine : Machine) (steps : List (Act × Counts)) → EachDone plan is xs machine steps → told_of told_by machine steps ≡ []
 each_none plan is none [] machine steps done = ap (told_of told_by machine) done
-each_none plan is none (x ∷ xs) machine steps done = first_none is (plan machine x) machine (λ machine steps. EachDone plan is xs machine steps) steps none (λ machine steps. each_none plan is none xs machine steps) done
+each_none plan is none (x ∷ xs) machine [] done = refl
+each_none plan is none (x ∷ xs) machine (step ∷ steps) done = ap₂ (λ (xs ys : List Rec). xs ++ ys) (none machine done.0.way step.0 done.0.done) (each_none plan is none xs (after machine step.0) steps done.1)

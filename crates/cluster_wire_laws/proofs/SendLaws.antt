@@ -15,7 +15,7 @@ use Rattle.cluster_wire.specs.Calling.{IsBegin, sent_as, sent_by}
 use Rattle.cluster_wire.specs.Faults.{packets}
 use Rattle.cluster_wire.specs.Goings.{Going, next_of}
 use Rattle.cluster_wire.specs.Noted.{faulted, faulted_all, is_of, is_own, noted_all, noted_one}
-use Rattle.cluster_wire.specs.Ran.{EachDone, FirstDone, told_of}
+use Rattle.cluster_wire.specs.Ran.{EachDone, told_of}
 use Rattle.cluster_wire_laws.specs.Asks.{all_sent_between, packets_between, sent_between, tells_sending}
 
 -- how many sendings between the two a kernel told
@@ -87,17 +87,13 @@ packets_as a b kernel tx (fate ∷ fates) = (let rest = packets_as a b kernel tx
 begin_packets : (a b kernel : ℕ) (machine : Machine) (going : Going) (act : Act) → IsBegin kernel machine going act → packets_between a b kernel (packets (sent_by machine act)) ≡ sent_between a b act
 begin_packets a b kernel machine going act is = subst (λ (act : Act). packets_between a b kernel (packets (sent_by machine act)) ≡ sent_between a b act) (sym is.is) (packets_as a b kernel (next_of machine) is.fates)
 
-first_packets : (a b kernel : ℕ) (o : Option Going) (machine : Machine) (Rest : Machine → List (Act × Counts) → Type 0) (steps : List (Act × Counts)) → ((machine : Machine) (steps : List (Act × Counts)) → Rest machine steps → packets_between a b kernel (packets (told_of sent_by machine steps)) ≡ all_sent_between a b steps) → FirstDone (IsBegin kernel) o machine Rest steps → packets_between a b kernel (packets (told_of sent_by machine steps)) ≡ all_sent_between a b steps
-first_packets a b kernel None machine Rest steps rest done = rest machine steps done
-first_packets a b kernel (Some going) machine Rest [] rest done = refl
-first_packets a b kernel (Some going) machine Rest (step ∷ steps) rest done =
-    (let all = packets_join a b kernel (sent_by machine step.0) (told_of sent_by (after machine step.0) steps) in
-    let here = begin_packets a b kernel machine going step.0 done.0 in
-    let others = rest (after machine step.0) steps done.1 in omega arith)
-
 pub each_packets : {A : Type 0} (a b kernel : ℕ) (plan : Machine → A → Option Going) (xs : List A) (machine : Machine) (steps : List (Act × Counts)) → EachDone plan (IsBegin kernel) xs machine steps → packets_between a b kernel (packets (told_of sent_by machine steps)) ≡ all_sent_between a b steps
 each_packets a b kernel plan [] machine steps done = subst (λ (steps : List (Act × Counts)). packets_between a b kernel (packets (told_of sent_by machine steps)) ≡ all_sent_between a b steps) (sym done) refl
-each_packets a b kernel plan (x ∷ xs) machine steps done = first_packets a b kernel (plan machine x) machine (λ machine steps. EachDone plan (IsBegin kernel) xs machine steps) steps (λ machine steps. each_packets a b kernel plan xs machine steps) done
+each_packets a b kernel plan (x ∷ xs) machine [] done = refl
+each_packets a b kernel plan (x ∷ xs) machine (step ∷ steps) done =
+    (let all = packets_join a b kernel (sent_by machine step.0) (told_of sent_by (after machine step.0) steps) in
+    let here = begin_packets a b kernel machine done.0.way step.0 done.0.done in
+    let others = each_packets a b kernel plan xs (after machine step.0) steps done.1 in omega arith)
 
 pub all_sent_join : (a b : ℕ) (xs ys : List (Act × Counts)) → all_sent_between a b (xs ++ ys) ≡ all_sent_between a b xs + all_sent_between a b ys
 all_sent_join a b [] ys = omega arith

@@ -120,7 +120,7 @@ begin_none : (kernel : ℕ) (machine : Machine) (going : Going) (act : Act) → 
 begin_none kernel machine going act is = ap (told_by machine) is.is
 
 answer_none : (machine : Machine) (packet : Packet) (act : Act) → IsAnswer machine packet act → told_by machine act ≡ []
-answer_none machine packet act is = ap (told_by machine) is.1
+answer_none machine packet act is = ap (told_by machine) is.is
 
 -- what a kernel did, with the packets that it sent, before the faults of its answers are told
 abbrev did : ℕ → Input → Said → State → List Event

@@ -9,7 +9,7 @@ use Rattle.cluster_kernels.specs.declared.State.{State}
 use Rattle.cluster_choices.specs.declared.Choice.{Choice}
 use Rattle.cluster_choices.specs.Acts.{Happens}
 use Rattle.cluster_bursts.specs.declared.Burst.{Burst}
-use Rattle.cluster_bursts.specs.Ends.{Ends}
+use Rattle.cluster_bursts.specs.Ends.{EndsBurst}
 use Rattle.cluster_wire_laws.specs.Links.{all_told_by, of_link}
 use Rattle.cluster_wire_laws.specs.Orders.{of_wire, records_by, told_by}
 use Rattle.cluster_wire_laws.specs.Asks.{all_sent_between, tells_sending}
@@ -29,4 +29,4 @@ HappeningIsTold {L} faults asked = (c : Description) (kernel : ℕ) (choice : Ch
 
 -- whatever becomes of a burst is told
 abbrev pub EndIsTold : {L : Type 0} → (L → ℕ → ℕ → ℕ) → (L → ℕ → ℕ → ℕ) → Type 0
-EndIsTold {L} faults asked = (c : Description) (kernel : ℕ) (b : Burst) (counted : Bool) (old new : Wired L) (s t : State) → Ends faults asked c kernel b counted old new s t → RanSo faults asked kernel old new s.told t.told
+EndIsTold {L} faults asked = (c : Description) (kernel : ℕ) (b : Burst) (counted : Bool) (old new : Wired L) (s t : State) → EndsBurst faults asked c kernel b counted old new s t → RanSo faults asked kernel old new s.told t.told

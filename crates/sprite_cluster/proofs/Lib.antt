@@ -1,3 +1,6 @@
+pub mod BootLaws
+pub mod FinishLaws
+pub mod ReachedLaws
 pub mod SendCalls
 pub mod SendClients
 pub mod SendCluster

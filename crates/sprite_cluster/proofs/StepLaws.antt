@@ -36,12 +36,14 @@ use Rattle.std.specs.declared.snapshot.Snapshot.{Snapshot}
 use Rattle.sprite_ids.specs.declared.NoMemory.{NoMemory}
 use Rattle.kernel_threads.specs.Steps.{Adds, Stays}
 use Rattle.cluster_bursts.specs.declared.Job.{Job}
-use Rattle.cluster_bursts.specs.Bursts.{IsDone, begun_by, counts, job_at}
-use Rattle.cluster_bursts.specs.Ends.{Ends}
-use Rattle.cluster_bursts.proofs.BeginLaws.{counts_begun}
+use Rattle.cluster_bursts.specs.Bursts.{Did, IsDone, begun_by, counts, job_at}
+use Rattle.cluster_bursts.specs.Ends.{EndsBurst}
+use Rattle.cluster_bursts.proofs.BeginLaws.{counts_begun, did_begun}
 use Rattle.sprite_cluster.specs.declared.cluster.Cluster.{Cluster}
 use Rattle.sprite_cluster.specs.declared.origin.Origin.{Origin}
-use Rattle.sprite_cluster.specs.Steps.{Moved, TookBurst, begun_turn}
+use Rattle.sprite_cluster.specs.Reached.{At, Change, Goes, Reached, Chose, Began, Took, Lost}
+use Rattle.sprite_cluster.specs.Steps.{BeganBurst, LostBurst, MadeChoice, TookBurst, begun_turn}
+use Rattle.sprite_cluster.proofs.ReachedLaws.{reached_on}
 use Rattle.sprite_cluster.proofs.WireLaws.{finish_holds}
 
 -- a kernel's records in the log
@@ -171,9 +173,20 @@ may_move closed c trace machine s is none = busy_somewhere (length c.kernels) ma
     by_out (inl some) = absurd (cc)
     by_out (inr busy) = busy
 
+-- a cluster between two calls
+abbrev pub moment : {L : Type 0} → Cluster L → At L
+moment v = record { wire = v.wire; state = v.state; trace = v.trace }
+
+-- a change that it makes keeps that a run reaches it
+came_on : {L : Type 0} (faults asked : L → ℕ → ℕ → ℕ) (change : Change) (old now : Cluster L) → now.closed ≡ old.closed → now.description ≡ old.description → now.begun ≡ old.begun → Goes faults asked old.description change (moment old) (moment now) → Holds faults asked old.description old.closed old.begun.value old.wire old.state old.trace → now.closed ≡ false → Reached faults asked now.description now.begun.value (moment now)
+came_on {L} faults asked change old now unclosed same begun goes held is =
+    subst (λ (l : Snapshot L). Reached faults asked now.description l.value (moment now)) (sym begun)
+    (subst (λ (d : Description). Reached faults asked d old.begun.value (moment now)) (sym same)
+    (reached_on faults asked old.description old.begun.value change (moment old) (moment now) (held.came (sym unclosed ∙ is)) goes))
+
 -- what a call of a cluster adds to it
-pub adds_of : {L : Type 0} (faults asked : L → ℕ → ℕ → ℕ) (kernel : ℕ) (old now : Cluster L) (told : List Event) → now.description ≡ old.description → now.begun ≡ old.begun → now.closed ≡ old.closed → now.trace ≡ old.trace ++ records_by kernel told → 0 < length told → FaultsTold faults old.wire.link now.wire.link [] told → RanSo faults asked kernel old.wire now.wire [] told → Holds faults asked old.description old.closed old.begun.value old.wire old.trace → Adds {O = Origin L} (λ (v : Cluster L). record { description = v.description; link = v.begun }) (λ (v : Cluster L). log_of v.trace) (λ (v : Cluster L). Holds faults asked v.description v.closed v.begun.value v.wire v.trace) kernel old now
-adds_of {L} faults asked kernel old now told same begun unclosed written some more ran held = record {
+pub adds_of : {L : Type 0} (faults asked : L → ℕ → ℕ → ℕ) (kernel : ℕ) (old now : Cluster L) (told : List Event) → now.description ≡ old.description → now.begun ≡ old.begun → now.closed ≡ old.closed → now.trace ≡ old.trace ++ records_by kernel told → 0 < length told → FaultsTold faults old.wire.link now.wire.link [] told → RanSo faults asked kernel old.wire now.wire [] told → (change : Change) → Goes faults asked old.description change (moment old) (moment now) → Holds faults asked old.description old.closed old.begun.value old.wire old.state old.trace → Adds {O = Origin L} (λ (v : Cluster L). record { description = v.description; link = v.begun }) (λ (v : Cluster L). log_of v.trace) (λ (v : Cluster L). Holds faults asked v.description v.closed v.begun.value v.wire v.state v.trace) kernel old now
+adds_of {L} faults asked kernel old now told same begun unclosed written some more ran change goes held = record {
   origin_stays = ap₂ (λ (d : Description) (l : Snapshot L). record { description = d; link = l }) same begun;
   grows = log_grows kernel told old.trace now.trace written;
   longer = log_longer kernel told old.trace now.trace written some;
@@ -181,21 +194,22 @@ adds_of {L} faults asked kernel old now told same begun unclosed written some mo
     lawful = subst Lawful (sym same) held.lawful;
     tells = λ is. subst (λ (l : Snapshot L). TellsFaults faults l.value now.wire.link now.trace) (sym begun) (tells_more faults old.begun.value old.wire.link now.wire.link kernel told old.trace now.trace written more (held.tells (sym unclosed ∙ is)));
     reached = λ is. subst (λ (l : Snapshot L). ReachedSo faults asked l.value now.wire now.trace) (sym begun) (turn_keeps faults asked old.begun.value kernel old.wire now.wire told old.trace now.trace (held.reached (sym unclosed ∙ is)) ran written);
+    came = came_on faults asked change old now unclosed same begun goes held;
   };
 }
 
 -- a step
-pub step_adds : {L : Type 0} (faults asked : L → ℕ → ℕ → ℕ) (kernel : ℕ) (choice : Choice) (old now : Cluster L) (r : Result (Unit {0}) NoMemory) → OnOk r (Moved faults asked old.description kernel choice old.wire now.wire old.state now.state old.trace now.trace) → OnOk r (now.closed ≡ old.closed) → now.description ≡ old.description → now.begun ≡ old.begun → Holds faults asked old.description old.closed old.begun.value old.wire old.trace → OnOk r (Adds {O = Origin L} (λ (v : Cluster L). record { description = v.description; link = v.begun }) (λ (v : Cluster L). log_of v.trace) (λ (v : Cluster L). Holds faults asked v.description v.closed v.begun.value v.wire v.trace) kernel old now)
-step_adds faults asked kernel choice old now (Ok x) moved unclosed same begun held =
-    adds_of faults asked kernel old now moved.turn.told same begun unclosed moved.written moved.some_told (told_happening faults asked old.description kernel choice old.wire now.wire (begun_turn old.state) moved.turn moved.happens) (happening_so faults asked old.description kernel choice old.wire now.wire (begun_turn old.state) moved.turn moved.happens) held
-step_adds faults asked kernel choice old now (Err e) moved unclosed same begun held = tt
+pub step_adds : {L : Type 0} (faults asked : L → ℕ → ℕ → ℕ) (kernel : ℕ) (choice : Choice) (old now : Cluster L) (r : Result (Unit {0}) NoMemory) → (1 ≤ kernel) × (kernel ≤ 16) → OnOk r (MadeChoice faults asked old.description kernel choice old.wire now.wire old.state now.state old.trace now.trace) → OnOk r (now.closed ≡ old.closed) → now.description ≡ old.description → now.begun ≡ old.begun → Holds faults asked old.description old.closed old.begun.value old.wire old.state old.trace → OnOk r (Adds {O = Origin L} (λ (v : Cluster L). record { description = v.description; link = v.begun }) (λ (v : Cluster L). log_of v.trace) (λ (v : Cluster L). Holds faults asked v.description v.closed v.begun.value v.wire v.state v.trace) kernel old now)
+step_adds faults asked kernel choice old now (Ok x) range moved unclosed same begun held =
+    adds_of faults asked kernel old now moved.turn.told same begun unclosed moved.written moved.some_told (told_happening faults asked old.description kernel choice old.wire now.wire (begun_turn old.state) moved.turn moved.happens) (happening_so faults asked old.description kernel choice old.wire now.wire (begun_turn old.state) moved.turn moved.happens) (Chose kernel choice) (record { low = range.0; high = range.1; changes = moved }) held
+step_adds faults asked kernel choice old now (Err e) range moved unclosed same begun held = tt
 
-pub step_keeps_out : {L : Type 0} (faults asked : L → ℕ → ℕ → ℕ) (kernel : ℕ) (choice : Choice) (old now : Cluster L) (r : Result (Unit {0}) NoMemory) → OnOk r (Moved faults asked old.description kernel choice old.wire now.wire old.state now.state old.trace now.trace) → OnOk r (length now.state.out ≡ length old.state.out)
+pub step_keeps_out : {L : Type 0} (faults asked : L → ℕ → ℕ → ℕ) (kernel : ℕ) (choice : Choice) (old now : Cluster L) (r : Result (Unit {0}) NoMemory) → OnOk r (MadeChoice faults asked old.description kernel choice old.wire now.wire old.state now.state old.trace now.trace) → OnOk r (length now.state.out ≡ length old.state.out)
 step_keeps_out faults asked kernel choice old now (Ok x) moved = ap (λ (s : State). length s.out) moved.stands ∙ ap length (out_happening faults asked old.description kernel choice old.wire now.wire (begun_turn old.state) moved.turn moved.happens)
 step_keeps_out faults asked kernel choice old now (Err e) moved = tt
 
 -- what only finds out how the run stands
-pub finish_stays : {L : Type 0} (faults asked : L → ℕ → ℕ → ℕ) (old now : Cluster L) → now.description ≡ old.description → now.begun ≡ old.begun → now.trace ≡ old.trace → (now.closed ≡ false → now ≡ old) → Holds faults asked old.description old.closed old.begun.value old.wire old.trace → Stays {O = Origin L} (λ (v : Cluster L). record { description = v.description; link = v.begun }) (λ (v : Cluster L). log_of v.trace) (λ (v : Cluster L). Holds faults asked v.description v.closed v.begun.value v.wire v.trace) old now
+pub finish_stays : {L : Type 0} (faults asked : L → ℕ → ℕ → ℕ) (old now : Cluster L) → now.description ≡ old.description → now.begun ≡ old.begun → now.trace ≡ old.trace → (now.closed ≡ false → now ≡ old) → Holds faults asked old.description old.closed old.begun.value old.wire old.state old.trace → Stays {O = Origin L} (λ (v : Cluster L). record { description = v.description; link = v.begun }) (λ (v : Cluster L). log_of v.trace) (λ (v : Cluster L). Holds faults asked v.description v.closed v.begun.value v.wire v.state v.trace) old now
 finish_stays {L} faults asked old now same begun written stays held = record {
   origin_stays = ap₂ (λ (d : Description) (l : Snapshot L). record { description = d; link = l }) same begun;
   log_stays = ap log_of written;
@@ -203,31 +217,56 @@ finish_stays {L} faults asked old now same begun written stays held = record {
 }
 
 -- a burst that was taken
-pub taken_adds : {L : Type 0} (faults asked : L → ℕ → ℕ → ℕ) (kernel : ℕ) (b : Burst) (old now : Cluster L) → TookBurst faults asked old.description kernel b old.wire now.wire old.state now.state old.trace now.trace → now.closed ≡ old.closed → now.description ≡ old.description → now.begun ≡ old.begun → Holds faults asked old.description old.closed old.begun.value old.wire old.trace → Adds {O = Origin L} (λ (v : Cluster L). record { description = v.description; link = v.begun }) (λ (v : Cluster L). log_of v.trace) (λ (v : Cluster L). Holds faults asked v.description v.closed v.begun.value v.wire v.trace) kernel old now
-taken_adds faults asked kernel burst old now took unclosed same begun held =
-    adds_of faults asked kernel old now took.turn.told same begun unclosed took.written took.some_told (told_ends faults asked old.description kernel burst true old.wire now.wire (begun_turn old.state) took.turn took.ends) (ending_so faults asked old.description kernel burst true old.wire now.wire (begun_turn old.state) took.turn took.ends) held
+pub taken_adds : {L : Type 0} (faults asked : L → ℕ → ℕ → ℕ) (kernel : ℕ) (b : Burst) (old now : Cluster L) → (1 ≤ kernel) × (kernel ≤ 16) → TookBurst faults asked old.description kernel b old.wire now.wire old.state now.state old.trace now.trace → now.closed ≡ old.closed → now.description ≡ old.description → now.begun ≡ old.begun → Holds faults asked old.description old.closed old.begun.value old.wire old.state old.trace → Adds {O = Origin L} (λ (v : Cluster L). record { description = v.description; link = v.begun }) (λ (v : Cluster L). log_of v.trace) (λ (v : Cluster L). Holds faults asked v.description v.closed v.begun.value v.wire v.state v.trace) kernel old now
+taken_adds faults asked kernel burst old now range ended unclosed same begun held =
+    adds_of faults asked kernel old now ended.turn.told same begun unclosed ended.written ended.some_told (told_ends faults asked old.description kernel burst true old.wire now.wire (begun_turn old.state) ended.turn ended.ends) (ending_so faults asked old.description kernel burst true old.wire now.wire (begun_turn old.state) ended.turn ended.ends) (Took kernel burst) (record { low = range.0; high = range.1; changes = ended }) held
 
 pub taken_out : {L : Type 0} (faults asked : L → ℕ → ℕ → ℕ) (c : Description) (kernel : ℕ) (b : Burst) (before after : Wired L) (s t : State) (old new : List Rec) → TookBurst faults asked c kernel b before after s t old new → length t.out + 1 ≡ length s.out
-taken_out faults asked c kernel burst before after s t old new took = ap (λ (s : State). length s.out + 1) took.stands ∙ out_ends faults asked c kernel burst before after (begun_turn s) took.turn took.ends
+taken_out faults asked c kernel burst before after s t old new ended = ap (λ (s : State). length s.out + 1) ended.stands ∙ out_ends faults asked c kernel burst before after (begun_turn s) ended.turn ended.ends
 
 -- one that was lost
-pub stale_keeps : {L : Type 0} (faults asked : L → ℕ → ℕ → ℕ) (kernel : ℕ) (b : Burst) (old now : Cluster L) → Ends faults asked old.description kernel b false old.wire now.wire (begun_turn old.state) now.state → now.trace ≡ old.trace → now.closed ≡ old.closed → now.description ≡ old.description → now.begun ≡ old.begun → Holds faults asked old.description old.closed old.begun.value old.wire old.trace → Stays {O = Origin L} (λ (v : Cluster L). record { description = v.description; link = v.begun }) (λ (v : Cluster L). log_of v.trace) (λ (v : Cluster L). Holds faults asked v.description v.closed v.begun.value v.wire v.trace) old now
-stale_keeps {L} faults asked kernel burst old now ends written unclosed same begun held = record {
+pub stale_keeps : {L : Type 0} (faults asked : L → ℕ → ℕ → ℕ) (kernel : ℕ) (b : Burst) (old now : Cluster L) → (1 ≤ kernel) × (kernel ≤ 16) → LostBurst faults asked old.description kernel b old.wire now.wire old.state now.state old.trace now.trace → now.closed ≡ old.closed → now.description ≡ old.description → now.begun ≡ old.begun → Holds faults asked old.description old.closed old.begun.value old.wire old.state old.trace → Stays {O = Origin L} (λ (v : Cluster L). record { description = v.description; link = v.begun }) (λ (v : Cluster L). log_of v.trace) (λ (v : Cluster L). Holds faults asked v.description v.closed v.begun.value v.wire v.state v.trace) old now
+stale_keeps {L} faults asked kernel burst old now range ended unclosed same begun held = record {
   origin_stays = ap₂ (λ (d : Description) (l : Snapshot L). record { description = d; link = l }) same begun;
-  log_stays = ap log_of written;
+  log_stays = ap log_of ended.not_written;
   still_holds = record {
     lawful = subst Lawful (sym same) held.lawful;
     tells = λ is a b. (let so_far = held.tells (sym unclosed ∙ is) a b in
-        let more = told_ends faults asked old.description kernel burst false old.wire now.wire (begun_turn old.state) now.state ends a b in
+        let more = told_ends faults asked old.description kernel burst false old.wire now.wire (begun_turn old.state) now.state ended.ends a b in
         let one = ap (λ (l : Snapshot L). faults l.value a b) begun in
-        let two = ap (faults_between a b) written in omega arith);
-    reached = λ is. subst (λ (l : Snapshot L). ReachedSo faults asked l.value now.wire now.trace) (sym begun) (turn_keeps faults asked old.begun.value kernel old.wire now.wire [] old.trace now.trace (held.reached (sym unclosed ∙ is)) (subst (λ (told : List Event). RanSo faults asked kernel old.wire now.wire [] told) (ap (λ (s : State). s.told) (stale_ends faults asked old.description kernel burst old.wire now.wire (begun_turn old.state) now.state ends).1) (ending_so faults asked old.description kernel burst false old.wire now.wire (begun_turn old.state) now.state ends)) (written ∙ sym (append-nil old.trace)));
+        let two = ap (faults_between a b) ended.not_written in omega arith);
+    reached = λ is. subst (λ (l : Snapshot L). ReachedSo faults asked l.value now.wire now.trace) (sym begun) (turn_keeps faults asked old.begun.value kernel old.wire now.wire [] old.trace now.trace (held.reached (sym unclosed ∙ is)) (subst (λ (told : List Event). RanSo faults asked kernel old.wire now.wire [] told) (ap (λ (s : State). s.told) (stale_ends faults asked old.description kernel burst old.wire now.wire (begun_turn old.state) now.state ended.ends).1) (ending_so faults asked old.description kernel burst false old.wire now.wire (begun_turn old.state) now.state ended.ends)) (ended.not_written ∙ sym (append-nil old.trace)));
+    came = came_on faults asked (Lost kernel burst) old now unclosed same begun (record { low = range.0; high = range.1; changes = ended }) held;
   };
 }
 
-pub stale_out : {L : Type 0} (faults asked : L → ℕ → ℕ → ℕ) (c : Description) (kernel : ℕ) (b : Burst) (before after : Wired L) (s t : State) → Ends faults asked c kernel b false before after (begun_turn s) t → (length t.out ≤ length s.out) × (length s.out ≤ length t.out + 1)
+pub stale_out : {L : Type 0} (faults asked : L → ℕ → ℕ → ℕ) (c : Description) (kernel : ℕ) (b : Burst) (before after : Wired L) (s t : State) → EndsBurst faults asked c kernel b false before after (begun_turn s) t → (length t.out ≤ length s.out) × (length s.out ≤ length t.out + 1)
 stale_out faults asked c kernel burst before after s t ends =
     subst (λ (t : State). (length t.out ≤ length s.out) × (length s.out ≤ length t.out + 1)) (sym (stale_ends faults asked c kernel burst before after (begun_turn s) t ends).1) (out_less kernel burst (begun_turn s))
+
+-- one that began
+pub begin_keeps : {L : Type 0} (faults asked : L → ℕ → ℕ → ℕ) (kernel : ℕ) (old now : Cluster L) → (1 ≤ kernel) × (kernel ≤ 16) → BeganBurst old.description kernel old.wire now.wire old.state now.state old.trace now.trace → now.closed ≡ old.closed → now.description ≡ old.description → now.begun ≡ old.begun → Holds faults asked old.description old.closed old.begun.value old.wire old.state old.trace → Stays {O = Origin L} (λ (v : Cluster L). record { description = v.description; link = v.begun }) (λ (v : Cluster L). log_of v.trace) (λ (v : Cluster L). Holds faults asked v.description v.closed v.begun.value v.wire v.state v.trace) old now
+begin_keeps {L} faults asked kernel old now range started unclosed same begun held = record {
+  origin_stays = ap₂ (λ (d : Description) (l : Snapshot L). record { description = d; link = l }) same begun;
+  log_stays = ap log_of started.not_written;
+  still_holds = record {
+    lawful = subst Lawful (sym same) held.lawful;
+    tells = λ is. subst (λ (l : Snapshot L). TellsFaults faults l.value now.wire.link now.trace) (sym begun) (subst (λ (w : Wired L). TellsFaults faults old.begun.value w.link now.trace) (sym started.same_wire) (subst (λ (trace : List Rec). TellsFaults faults old.begun.value old.wire.link trace) (sym started.not_written) (held.tells (sym unclosed ∙ is))));
+    reached = λ is. subst (λ (l : Snapshot L). ReachedSo faults asked l.value now.wire now.trace) (sym begun) (subst (λ (w : Wired L). ReachedSo faults asked old.begun.value w now.trace) (sym started.same_wire) (subst (λ (trace : List Rec). ReachedSo faults asked old.begun.value old.wire trace) (sym started.not_written) (held.reached (sym unclosed ∙ is))));
+    came = came_on faults asked (Began kernel) old now unclosed same begun (record { low = range.0; high = range.1; changes = started }) held;
+  };
+}
+
+pub begin_stays : {L : Type 0} (faults asked : L → ℕ → ℕ → ℕ) (kernel : ℕ) (old now : Cluster L) (r : Result (Option Job) NoMemory) → (1 ≤ kernel) × (kernel ≤ 16) → IfOk r (λ job. job ≡ job_at old.description kernel old.state) → IfOk r (λ job. now.state ≡ begun_by kernel job old.state) → OnOk r (now.closed ≡ old.closed) → now.description ≡ old.description → now.begun ≡ old.begun → now.trace ≡ old.trace → now.wire ≡ old.wire → Holds faults asked old.description old.closed old.begun.value old.wire old.state old.trace → OnOk r (Stays {O = Origin L} (λ (v : Cluster L). record { description = v.description; link = v.begun }) (λ (v : Cluster L). log_of v.trace) (λ (v : Cluster L). Holds faults asked v.description v.closed v.begun.value v.wire v.state v.trace) old now)
+begin_stays faults asked kernel old now (Ok job) range is stands unclosed same begun written wired held =
+    begin_keeps faults asked kernel old now range (record { begun = stands ∙ ap (λ (job : Option Job). begun_by kernel job old.state) is; same_wire = wired; not_written = written }) unclosed same begun held
+begin_stays faults asked kernel old now (Err e) range is stands unclosed same begun written wired held = tt
+
+-- the job that was begun, done, may end at a cluster of that description
+pub did_after : (c d : Description) (kernel : ℕ) (s : State) (r : Result (Option Job) NoMemory) → d ≡ c → IfOk r (λ job. job ≡ job_at c kernel s) → IfOk r (λ job. IfSome job (λ j. (b : Burst) → IsDone j b → Did d b))
+did_after c d kernel s (Ok None) same is = tt
+did_after c d kernel s (Ok (Some job)) same is = λ b done. subst (λ (d : Description). Did d b) (sym same) (did_begun c kernel job b s (sym is) done)
+did_after c d kernel s (Err e) same is = tt
 
 -- the job that was begun, done, would count
 pub counts_after : (c : Description) (kernel : ℕ) (s t : State) (r : Result (Option Job) NoMemory) → IfOk r (λ job. job ≡ job_at c kernel s) → IfOk r (λ job. t ≡ begun_by kernel job s) → IfOk r (λ job. IfSome job (λ j. (b : Burst) → IsDone j b → counts kernel b t ≡ true))

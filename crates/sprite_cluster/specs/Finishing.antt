@@ -1,9 +1,9 @@
 -- How a run stands.
-use Rattle.std.specs.Prelude.{ℕ, zero, suc, ◌≤◌, ◌==◌, List, ◌+◌, Bool, false, ◌||◌, not, if◌then◌else◌, nat_le, length}
+use Rattle.std.specs.Prelude.{◌≡◌, ℕ, zero, suc, ◌<◌, ◌≤◌, ◌==◌, List, [], ◌+◌, Bool, false, ◌||◌, not, if◌then◌else◌, nat_le, length}
 use Rattle.std.specs.List.{list_all}
 use Rattle.sprite_ids.specs.declared.Finish.{Finish}
 use Rattle.sprite_ids.specs.declared.Finish.TheVariants as finish
-use Rattle.kernel_rpc.specs.Machine.{Machine}
+use Rattle.kernel_rpc.specs.Machine.{Machine, offered}
 use Rattle.unix_calls.specs.declared.Description.{Description}
 use Rattle.unix_calls.specs.declared.Rec.{Rec}
 use Rattle.call_journal.specs.Units.{units_of}
@@ -37,7 +37,21 @@ finish_of c trace machine s =
 abbrev pub stands_so : Bool → Description → List Rec → Machine → State → Finish
 stands_so closed c trace machine s = if closed then finish.OutOfMemory else finish_of c trace machine s
 
--- where the run stands so, its budget is spent
+-- where the run stands so, its budget is spent exactly where it says so
 abbrev pub IsSpent : Description → List Rec → Finish → Type 0
 IsSpent c trace finish.Budget = c.budget ≤ units_of trace
+IsSpent c trace finish.Running = units_of trace < c.budget
+IsSpent c trace finish.Stalled = units_of trace < c.budget
 IsSpent c trace end = Unit {0}
+
+-- nothing can happen at the kernel: no copy of a packet is in flight to it, no timer of it may fire, no block of it is due, and no
+-- process of it can run
+pub record IsStillAt (machine : Machine) (s : State) (kernel : ℕ) : Type 0 where
+  pub no_copies : offered machine kernel ≡ []
+  pub no_choices : choices_at kernel s machine ≡ []
+  pub no_job : has_job_at kernel s ≡ false
+
+-- nothing can happen in a cluster of so many kernels, and no burst is out
+pub record IsStill (kernels : ℕ) (machine : Machine) (s : State) : Type 0 where
+  pub none_out : s.out ≡ []
+  pub still : (kernel : ℕ) → (1 ≤ kernel) × (kernel ≤ kernels) → IsStillAt machine s kernel

@@ -1,4 +1,5 @@
 pub mod Finishing
 pub mod Logs
+pub mod Reached
 pub mod Steps
 pub mod Wires

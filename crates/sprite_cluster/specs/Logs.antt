@@ -5,8 +5,10 @@ use Rattle.unix_calls.specs.declared.Description.{Description}
 use Rattle.unix_calls.specs.declared.Event.{Event}
 use Rattle.unix_calls.specs.declared.Rec.{Rec}
 use Rattle.unix_calls.specs.Lawful.{Lawful}
+use Rattle.cluster_kernels.specs.declared.State.{State}
 use Rattle.cluster_wire.specs.Faults.{is_fault_between}
 use Rattle.cluster_wire_laws.specs.Traces.{ReachedSo}
+use Rattle.sprite_cluster.specs.Reached.{Reached}
 
 -- the records of a trace, each as its kernel's
 abbrev pub log_of : List Rec → List (ℕ × Event)
@@ -21,8 +23,10 @@ abbrev pub TellsFaults : {L : Type 0} → (L → ℕ → ℕ → ℕ) → L → 
 TellsFaults faults begun link trace = (a b : ℕ) → faults begun a b + faults_between a b trace ≤ faults link a b
 
 -- what is always true of a cluster: what it runs is lawful, and as long as memory isn't wanting, its trace tells of the link's faults
--- alone, and its wire is one that a run reaches whose acts the trace tells
-pub record Holds {L : Type 0} (faults asked : L → ℕ → ℕ → ℕ) (c : Description) (closed : Bool) (begun : L) (wire : Wired L) (trace : List Rec) : Type 0 where
+-- alone, its wire is one that a run reaches whose acts the trace tells, and it is itself one that a run reaches. What is true of each
+-- reached cluster follows from that, and is no field here
+pub record Holds {L : Type 0} (faults asked : L → ℕ → ℕ → ℕ) (c : Description) (closed : Bool) (begun : L) (wire : Wired L) (state : State) (trace : List Rec) : Type 0 where
   pub lawful : Lawful c
   pub tells : closed ≡ false → TellsFaults faults begun wire.link trace
   pub reached : closed ≡ false → ReachedSo faults asked begun wire trace
+  pub came : closed ≡ false → Reached faults asked c begun (record { wire = wire; state = state; trace = trace })

@@ -5,11 +5,13 @@ ghost use Rattle.kernel_rpc.specs.Machine.{idle};
 ghost use Rattle.link_plan.specs.Counts.{Stay};
 ghost use Rattle.cluster_kernels.specs.Booted.{IsBooted};
 ghost use Rattle.cluster_choices.specs.Choosing.{choices_at};
-ghost use Rattle.cluster_bursts.specs.Bursts.{begun_by, has_job_at, job_at, EndsSo};
+ghost use Rattle.cluster_bursts.specs.Bursts.{begun_by, has_job_at, job_at, Did};
 ghost use Rattle.sprite_cluster.specs.Finishing.{stands_so};
 ghost use Rattle.sprite_cluster.specs.Logs.{Holds, TellsFaults};
 ghost use Rattle.cluster_wire_laws.specs.Orders.{records_by};
-ghost use Rattle.sprite_cluster.specs.Steps.{begun_turn, EndedSo, Moved};
+ghost use Rattle.kernel_threads.specs.Steps.{IsAmong};
+ghost use Rattle.sprite_cluster.specs.Reached.{Reached};
+ghost use Rattle.sprite_cluster.specs.Steps.{begun_turn, EndedSo, MadeChoice};
 ghost use Rattle.sprite_cluster.specs.Wires.{TellsWire};
 
 use crate::finishing::finish;
@@ -101,7 +103,8 @@ impl<L: Link> Cluster<L> {
     /// The choice, one of the kernel's, happens. The one error is want of memory.
     pub fn step(&mut self, alloc: Global, kernel: Kernel, choice: Choice) -> Result<(), NoMemory>
         requires lawful { Lawful self.old.description }
-        ensures ok { OnOk result (Moved L.faults L.asked self.old.description kernel choice self.old.wire self.new.wire self.old.state self.new.state self.old.trace self.new.trace) }
+        requires among { IsAmong choice (choices_at kernel self.old.state self.old.wire.machine) }
+        ensures ok { OnOk result (MadeChoice L.faults L.asked self.old.description kernel choice self.old.wire self.new.wire self.old.state self.new.state self.old.trace self.new.trace) }
         ensures open { OnOk result (self.new.closed ≡ self.old.closed) }
         ensures err { OnErr result (self.new.closed ≡ true) }
         ensures err_trace { OnErr result (self.new.trace ≡ self.old.trace) }
@@ -195,7 +198,7 @@ impl<L: Link> Cluster<L> {
         burst: Burst,
     ) -> Result<EndBurst, NoMemory>
         requires lawful { Lawful self.old.description }
-        requires ends { EndsSo burst }
+        requires did { Did self.old.description burst }
         ensures ok { IfOk result (λ end. EndedSo L.faults L.asked self.old.description kernel burst end self.old.wire self.new.wire self.old.state self.new.state self.old.trace self.new.trace) }
         ensures open { OnOk result (self.new.closed ≡ self.old.closed) }
         ensures err { OnErr result (self.new.closed ≡ true) }
@@ -255,13 +258,14 @@ impl<L: Link> Cluster<L> {
     }
 
     /// The run as it stands, with that finish, and the link. Where memory wasn't wanting, its trace tells of no more faults than the
-    /// link counted since before the boot, and of packets what the wire did.
+    /// link counted since before the boot, and of packets what the wire did, and the cluster is one that a run of its description reaches.
     pub fn close(self, finish: Finish) -> (Closed, L)
-        requires { Holds L.faults L.asked self.description self.closed self.begun.value self.wire self.trace }
+        requires { Holds L.faults L.asked self.description self.closed self.begun.value self.wire self.state self.trace }
         ensures closed { result.0 ≡ record { description = self.description; trace = self.trace; finish = finish } }
         ensures link { result.1 ≡ self.wire.link }
         ensures faults { self.closed ≡ false → TellsFaults L.faults self.begun.value result.1 result.0.trace }
         ensures wire { self.closed ≡ false → TellsWire L.faults L.asked self.begun.value result.1 result.0.trace }
+        ensures reached { self.closed ≡ false → Reached L.faults L.asked result.0.description self.begun.value (record { wire = self.wire; state = self.state; trace = result.0.trace }) }
     {
         let Cluster {
             description,

@@ -20,7 +20,7 @@ impl<L: Link> Book for Cluster<L> {
 
     ghost origin = { λ v. record { description = v.description; link = v.begun } };
 
-    ghost holds = { λ v. Holds L.faults L.asked v.description v.closed v.begun.value v.wire v.trace };
+    ghost holds = { λ v. Holds L.faults L.asked v.description v.closed v.begun.value v.wire v.state v.trace };
 
     ghost log = { λ v. log_of v.trace };
 
@@ -32,7 +32,7 @@ impl<L: Link> Book for Cluster<L> {
 impl<L: Link> Stepped for Cluster<L> {
     ghost use Rattle.std.specs.Prelude.{◌≡◌, true, length};
     ghost use Rattle.cluster_choices.specs.Choosing.{choices_at as offered_at};
-    ghost use Rattle.cluster_bursts.specs.Bursts.{counts as would_count, has_job_at as is_job_at, EndsSo, IsDone};
+    ghost use Rattle.cluster_bursts.specs.Bursts.{counts as would_count, has_job_at as is_job_at, Did, IsDone};
     ghost use Rattle.sprite_cluster.specs.Finishing.{stands_so};
 
     type Choice = Choice;
@@ -53,7 +53,7 @@ impl<L: Link> Stepped for Cluster<L> {
 
     ghost is_done = { λ job b. IsDone job b };
 
-    ghost may_end = { λ _ b. EndsSo b };
+    ghost may_end = { λ o b. Did o.description b };
 
     ghost counts = { λ v k b. would_count k b v.state ≡ true };
 

@@ -2,7 +2,7 @@ use cluster_wire::Said;
 
 /// What became of a burst, with what the kernel took after it.
 #[derive(Debug, Drop)]
-pub enum Ended {
+pub enum BurstOutcome {
     /// It is lost.
     Stale,
     /// The process did it and goes on.
