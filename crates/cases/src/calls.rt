@@ -40,7 +40,7 @@ const WORDS: [&[&str]; 17] = [
     &["run", "--seed", "000000000000000000001"],
     &["run", "--seed", ""],
     &["run", "--seed=1"],
-    &["run", "--stats"],
+    &["run", "--stat"],
     &["load", "65"],
     &["--help"],
     &[""],
@@ -52,8 +52,16 @@ const WRITES: [u64; 5] = [1, 2, 3, 4, 5];
 /// The number of a read, from 1, that fails where a hundred bytes are given at a time; the file has two pieces.
 const READS: [u64; 3] = [1, 2, 3];
 
+/// Texts of events of hosts that are lent.
+const EVENTS: [&str; 4] = [
+    "events-two-borrowers",
+    "events-none-free",
+    "events-seventeen-hosts",
+    "events-of-no-host",
+];
+
 /// Cluster files that are refused, or whose process exits at once.
-const DESCRIPTIONS: [&str; 27] = [
+const DESCRIPTIONS: [&str; 31] = [
     "exit-past-greatest",
     "text-past-page-end",
     "text-with-tab",
@@ -81,6 +89,10 @@ const DESCRIPTIONS: [&str; 27] = [
     "start-on-server",
     "start-of-no-program",
     "start-with-argument",
+    "version-as-text-and-kernel-as-number",
+    "kernel-empty",
+    "kernel-of-numbers",
+    "file-at-root",
 ];
 
 /// Cluster files that are run, whatever their traces have.
@@ -128,8 +140,11 @@ const RUNS: [&str; 37] = [
 pub fn print_all<R: Threads + Wait + Sync>(rt: &HostRuntime, threads: &R) -> io::Result<()> {
     print!(rt; "== history hello: ")?;
     print_call(rt, threads, &["history"], "hello", SOUND)?;
+    print!(rt; "== run --stats hello: ")?;
+    print_call(rt, threads, &["run", "--stats"], "hello", SOUND)?;
     print!(rt; "== check hello: ")?;
     print_call(rt, threads, &["check"], "hello", SOUND)?;
+    print_events(rt, threads)?;
     print_pieces(rt, threads)?;
     print_seeds(rt, threads)?;
     print_words(rt, threads)?;
@@ -137,6 +152,15 @@ pub fn print_all<R: Threads + Wait + Sync>(rt: &HostRuntime, threads: &R) -> io:
     print_reads(rt, threads)?;
     print_descriptions(rt, threads)?;
     print_runs(rt, threads)
+}
+
+/// Answers to events of hosts.
+fn print_events<R: Threads + Wait + Sync>(rt: &HostRuntime, threads: &R) -> io::Result<()> {
+    for name in EVENTS {
+        print!(rt; "== lend {name}: ")?;
+        print_call(rt, threads, &["lend"], name, SOUND)?;
+    }
+    Ok(())
 }
 
 /// A run by pieces of any size.

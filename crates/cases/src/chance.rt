@@ -1,7 +1,9 @@
-ghost use Rattle.std.specs.Prelude.{◌≡◌, ◌≤◌, IfOk, IfSome, OnErr, OnOk};
+ghost use Rattle.std.specs.Prelude.{◌≡◌, ◌<◌, ◌≤◌, All, length, IfOk, IfSome, OnErr, OnOk};
 ghost use Rattle.kernel_threads.specs.Steps.{IsAmong};
 ghost use Rattle.sprite_cluster.specs.Finishing.{stands_so};
 ghost use Rattle.sprite_cluster.specs.Logs.{Holds};
+ghost use Rattle.unix_calls.specs.declared.Description.{Description};
+ghost use Rattle.cases.specs.Jobs.{MayEnd};
 
 use cluster_bursts::{Job, run_job};
 use kernel_threads::Stepped;
@@ -44,9 +46,9 @@ pub fn run_by_chance<L: Link>(
     kernels: u8,
     seed: u64,
 ) -> Cluster<L>
-    requires holds { Holds L.faults L.asked cluster.description cluster.closed cluster.begun.value cluster.wire cluster.trace }
+    requires holds { Holds L.faults L.asked cluster.description cluster.closed cluster.begun.value cluster.wire cluster.state cluster.trace }
     requires few { (1 ≤ kernels) × (kernels ≤ 16) }
-    ensures { Holds L.faults L.asked result.description result.closed result.begun.value result.wire result.trace }
+    ensures { Holds L.faults L.asked result.description result.closed result.begun.value result.wire result.state result.trace }
 {
     let mut cluster = cluster;
     let mut chance = Chance {
@@ -72,10 +74,12 @@ fn take_turn<L: Link>(
     kernels: u8,
     chance: &mut Chance,
 ) -> bool
-    requires holds { Holds L.faults L.asked cluster.old.description cluster.old.closed cluster.old.begun.value cluster.old.wire cluster.old.trace }
+    requires holds { Holds L.faults L.asked cluster.old.description cluster.old.closed cluster.old.begun.value cluster.old.wire cluster.old.state cluster.old.trace }
     requires running { stands_so cluster.old.closed cluster.old.description cluster.old.trace cluster.old.wire.machine cluster.old.state ≡ Finish.Running }
     requires few { (1 ≤ kernels) × (kernels ≤ 16) }
-    ensures { Holds L.faults L.asked cluster.new.description cluster.new.closed cluster.new.begun.value cluster.new.wire cluster.new.trace }
+    requires may_end { All (λ h. MayEnd cluster.old.description h.job) chance.old.held.items }
+    ensures holds { Holds L.faults L.asked cluster.new.description cluster.new.closed cluster.new.begun.value cluster.new.wire cluster.new.state cluster.new.trace }
+    ensures may_end { All (λ h. MayEnd cluster.new.description h.job) chance.new.held.items }
 {
     let kernel = chance.drawn_kernel(kernels);
     if chance.starves(kernel) {
@@ -93,6 +97,7 @@ impl Chance {
     // One of so many kernels.
     fn drawn_kernel(&mut self, kernels: u8) -> Kernel
         requires { (1 ≤ kernels) × (kernels ≤ 16) }
+        ensures { self.new.held ≡ self.old.held }
     {
         let place = self.words.next_word() % u32::from(kernels);
         match Kernel::new(1 + place as u8) {
@@ -102,7 +107,9 @@ impl Chance {
     }
 
     // Whether the drawn kernel gets no turn now. Now and then it is the next one that gets none for a while.
-    fn starves(&mut self, kernel: Kernel) -> bool {
+    fn starves(&mut self, kernel: Kernel) -> bool
+        ensures { self.new.held ≡ self.old.held }
+    {
         if self.words.next_word() % STARVED == 0 {
             self.starved = kernel.number();
         }
@@ -114,7 +121,8 @@ impl Chance {
 fn step<V: Stepped>(alloc: Global, value: &mut V, kernel: Kernel, word: u32) -> bool
     requires holds { V.holds value.old }
     requires running { V.finish_of value.old ≡ Finish.Running }
-    ensures { V.holds value.new }
+    ensures holds { V.holds value.new }
+    ensures origin { V.origin value.new ≡ V.origin value.old }
 {
     match drawn_choice(alloc, value, kernel, word) {
         Ok(Some(choice)) => value.step(alloc, kernel, choice).is_ok(),
@@ -135,6 +143,7 @@ fn drawn_choice<V: Stepped>(
     ensures among { IfOk result (λ choice. IfSome choice (λ c. IsAmong c (V.choices_at value.old kernel))) }
     ensures ok { OnOk result (value.new ≡ value.old) }
     ensures err { OnErr result (V.holds value.new) }
+    ensures origin { V.origin value.new ≡ V.origin value.old }
 {
     let choices = value.choices(alloc, kernel)?;
     if choices.is_empty() {
@@ -150,12 +159,14 @@ fn begin<L: Link>(
     kernel: Kernel,
     chance: &mut Chance,
 ) -> bool
-    requires holds { Holds L.faults L.asked cluster.old.description cluster.old.closed cluster.old.begun.value cluster.old.wire cluster.old.trace }
+    requires holds { Holds L.faults L.asked cluster.old.description cluster.old.closed cluster.old.begun.value cluster.old.wire cluster.old.state cluster.old.trace }
     requires running { stands_so cluster.old.closed cluster.old.description cluster.old.trace cluster.old.wire.machine cluster.old.state ≡ Finish.Running }
-    ensures { Holds L.faults L.asked cluster.new.description cluster.new.closed cluster.new.begun.value cluster.new.wire cluster.new.trace }
+    requires may_end { All (λ h. MayEnd cluster.old.description h.job) chance.old.held.items }
+    ensures holds { Holds L.faults L.asked cluster.new.description cluster.new.closed cluster.new.begun.value cluster.new.wire cluster.new.state cluster.new.trace }
+    ensures may_end { All (λ h. MayEnd cluster.new.description h.job) chance.new.held.items }
 {
     match Stepped::begin_burst(cluster, alloc, kernel) {
-        Ok(Some(job)) => chance.held.push(Held { kernel, job }).is_ok(),
+        Ok(Some(job)) => hold(&mut chance.held, Held { kernel, job }),
         Ok(None) => true,
         Err(NoMemory) => false,
     }
@@ -163,14 +174,31 @@ fn begin<L: Link>(
 
 // A burst that is held ends, whichever is drawn. False where memory is wanting.
 fn end<L: Link>(alloc: Global, cluster: &mut Cluster<L>, chance: &mut Chance) -> bool
-    requires holds { Holds L.faults L.asked cluster.old.description cluster.old.closed cluster.old.begun.value cluster.old.wire cluster.old.trace }
+    requires holds { Holds L.faults L.asked cluster.old.description cluster.old.closed cluster.old.begun.value cluster.old.wire cluster.old.state cluster.old.trace }
     requires running { stands_so cluster.old.closed cluster.old.description cluster.old.trace cluster.old.wire.machine cluster.old.state ≡ Finish.Running }
-    ensures { Holds L.faults L.asked cluster.new.description cluster.new.closed cluster.new.begun.value cluster.new.wire cluster.new.trace }
+    requires may_end { All (λ h. MayEnd cluster.old.description h.job) chance.old.held.items }
+    ensures holds { Holds L.faults L.asked cluster.new.description cluster.new.closed cluster.new.begun.value cluster.new.wire cluster.new.state cluster.new.trace }
+    ensures may_end { All (λ h. MayEnd cluster.new.description h.job) chance.new.held.items }
 {
     if chance.held.is_empty() {
         return true;
     }
     let place = chance.words.next_word() as usize % chance.held.len();
-    let Held { kernel, job } = chance.held.swap_remove(place);
+    let Held { kernel, job } = take_held(&mut chance.held, place);
     Stepped::end_burst(cluster, alloc, kernel, run_job(job)).is_ok()
+}
+
+// Holds the burst too. False where memory is wanting.
+fn hold(held: &mut Vec<Held>, burst: Held) -> bool
+    ensures { (c : Description) → MayEnd c burst.job → All (λ h. MayEnd c h.job) held.old.items → All (λ h. MayEnd c h.job) held.new.items }
+{
+    held.push(burst).is_ok()
+}
+
+// Takes the burst at that place from those that are held.
+fn take_held(held: &mut Vec<Held>, place: usize) -> Held
+    requires { place < length held.old.items }
+    ensures { (c : Description) → All (λ h. MayEnd c h.job) held.old.items → MayEnd c result.job × All (λ h. MayEnd c h.job) held.new.items }
+{
+    held.swap_remove(place)
 }

@@ -138,7 +138,7 @@ fn changed(alloc: Global, file: &[u8], cache: u8, faults: &str) -> Result<Vec<u8
 }
 
 /// Runs a described cluster by chance, over that link, and judges its run. The one error is want of memory.
-#[tactic(auto, using(crate::proofs::ChanceLaws::few_so))]
+#[tactic(auto, using(sprite_cluster::proofs::BootLaws::few_kernels))]
 fn run_described<L: Link + Drop>(
     alloc: Global,
     description: Description,
@@ -158,7 +158,7 @@ fn run_described<L: Link + Drop>(
 
 /// How the run of a cluster ended. The one error is want of memory.
 fn judged<L: Link + Drop>(alloc: Global, cluster: Cluster<L>) -> Result<Way, NoMemory>
-    requires { Holds L.faults L.asked cluster.description cluster.closed cluster.begun.value cluster.wire cluster.trace }
+    requires { Holds L.faults L.asked cluster.description cluster.closed cluster.begun.value cluster.wire cluster.state cluster.trace }
 {
     let mut cluster = cluster;
     let finish = Stepped::finish(&mut cluster, alloc);

@@ -1,5 +1,5 @@
-//! Runs the clusters of cluster files, which lie in `clusters`, by the word `run` or `history`, and prints of each its name, the word, the
-//! exit status and what is written. That was worked out by hand or by an independent design (this project).
+//! Runs the clusters of cluster files, which lie in `clusters`, by the word `run` or `history`, and two workloads, and prints of each its name, the word,
+//! the exit status and what is written. That was worked out by hand or by an independent design (this project).
 
 use crate::files::case_file;
 use crate::top::{Left, SOUND, called};
@@ -88,10 +88,16 @@ const CASES: [(&str, &str); 75] = [
     ("write-sharing-two-clients-nocache", "run"),
 ];
 
-/// Prints what comes of each file. It fails where one can't be read, or where the output fails.
+/// Workloads, by their numbers as words.
+const LOADS: [&str; 2] = ["1", "003"];
+
+/// Prints what comes of each file and of each workload. It fails where one can't be read, or where the output fails.
 pub fn print_all<R: Threads + Wait + Sync>(rt: &HostRuntime, threads: &R) -> io::Result<()> {
     for (name, command) in CASES {
         print_case(rt, threads, name, command)?;
+    }
+    for count in LOADS {
+        print_load(rt, threads, count)?;
     }
     Ok(())
 }
@@ -107,6 +113,19 @@ fn print_case<R: Threads + Wait + Sync>(
     match called(threads, rt.alloc(), &[command], file, SOUND, &NoWatch) {
         Ok(left) => print_left(rt, name, command, &left),
         Err(NoMemory) => println!(rt; "== {name} {command} out of memory"),
+    }
+}
+
+/// Prints what comes of a workload of so many processes. It fails where the output fails; the file is not read.
+fn print_load<R: Threads + Wait + Sync>(
+    rt: &HostRuntime,
+    threads: &R,
+    count: &str,
+) -> io::Result<()> {
+    let file = case_file(rt, "clusters", "hello")?;
+    match called(threads, rt.alloc(), &["load", count], file, SOUND, &NoWatch) {
+        Ok(left) => print_left(rt, "load", count, &left),
+        Err(NoMemory) => println!(rt; "== load {count} out of memory"),
     }
 }
 

@@ -242,7 +242,7 @@ fn judged_trace(
 
 fn text_of(alloc: Global, run: &JudgedRun) -> Result<String, NoMemory> {
     match run {
-        JudgedRun::Judged { output } => judged_text(alloc, output.as_slice()),
+        JudgedRun::Judged { output, .. } => judged_text(alloc, output.as_slice()),
         JudgedRun::Refuted(refutation) => refuted_text(alloc, *refutation),
         JudgedRun::Steps(place) => Ok(format!(in alloc; "steps {place}\n")?),
     }

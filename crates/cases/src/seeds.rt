@@ -1,4 +1,4 @@
-//! Runs three clusters by seeds (this project), each by two seeds and each of these twice. Printed are the exit status, what is written,
+//! Runs three clusters by seeds (this project), two of them by twenty and one by two, each of these twice. Printed are the exit status, what is written,
 //! and whether the second run had the trace of the first. That was worked out by hand or by an independent design.
 
 use crate::files::case_file;
@@ -10,34 +10,38 @@ use std::io;
 use std::sync::Wait;
 use std::thread::Threads;
 
-/// The clusters that are run by seeds.
-const CLUSTERS: [&str; 3] = [
-    "device-deadlock-avoided",
-    "device-deadlock-stalled",
-    "make-on-four-clients",
+/// The clusters that are run by seeds, each with how many: from 1 on.
+const CLUSTERS: [(&str, usize); 3] = [
+    ("device-deadlock-avoided", 20),
+    ("device-deadlock-stalled", 20),
+    ("make-on-four-clients", 2),
 ];
 
 /// The seeds.
-const SEEDS: [&str; 2] = ["1", "2"];
+const SEEDS: [&str; 20] = [
+    "1", "2", "3", "4", "5", "6", "7", "8", "9", "10", "11", "12", "13", "14", "15", "16", "17",
+    "18", "19", "20",
+];
 
 /// Prints what comes of all runs. It fails where a file can't be read, or where the output fails.
 pub fn print_all<R: Threads + Wait + Sync>(rt: &HostRuntime, threads: &R) -> io::Result<()> {
-    for name in CLUSTERS {
-        print_seeds(rt, threads, name)?;
+    for (name, count) in CLUSTERS {
+        print_seeds(rt, threads, name, count)?;
     }
     Ok(())
 }
 
-/// Prints what comes of the cluster by each seed.
+/// Prints what comes of the cluster by each of so many seeds.
 fn print_seeds<R: Threads + Wait + Sync>(
     rt: &HostRuntime,
     threads: &R,
     name: &str,
+    count: usize,
 ) -> io::Result<()> {
     let file = case_file(rt, "seeds", name)?;
-    for seed in SEEDS {
+    for seed in SEEDS.iter().take(count) {
         print!(rt; "== {name} by seed {seed} ")?;
-        print_seed(rt, threads, file.as_slice(), seed)?;
+        print_seed(rt, threads, file.as_slice(), *seed)?;
     }
     Ok(())
 }

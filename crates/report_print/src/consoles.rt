@@ -59,7 +59,7 @@ pub(crate) fn push_console(out: &mut Vec<u8>, console: &[u8]) -> Result<(), NoMe
 }
 
 /// Puts a number in decimal.
-pub(crate) fn push_decimal(alloc: Global, out: &mut Vec<u8>, number: u32) -> Result<(), NoMemory>
+pub(crate) fn push_decimal(alloc: Global, out: &mut Vec<u8>, number: u64) -> Result<(), NoMemory>
     ensures { OnOk result (out.new.items ≡ out.old.items ++ decimal number) }
 {
     let digits = format!(in alloc; "{number}")?;

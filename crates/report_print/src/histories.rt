@@ -4,7 +4,7 @@ ghost use Rattle.unix_calls.specs.Output.{last_line};
 ghost use Rattle.history_text.specs.Laws.{IsTogether};
 ghost use Rattle.history_text.specs.Histories.{history_of};
 
-use crate::printing::push_last_line;
+use crate::printing::last_line;
 use history_text::{HistoryError, print_history};
 use sprite_ids::{Finish, NoMemory};
 use std::alloc::Global;
@@ -17,7 +17,7 @@ pub fn history(alloc: Global, journal: &[Entry], finish: Finish) -> Result<Vec<u
     ensures { IfOk result (λ out. out.items ≡ history_of journal.now ++ last_line finish) }
 {
     let mut out = lines(alloc, journal)?;
-    push_last_line(&mut out, finish)?;
+    out.extend_from_slice(last_line(finish))?;
     Ok(out)
 }
 

@@ -22,20 +22,19 @@ pub fn output(
     for process in processes {
         push_process(alloc, &mut out, description, process)?;
     }
-    push_last_line(&mut out, finish)?;
+    out.extend_from_slice(last_line(finish))?;
     Ok(out)
 }
 
-/// Puts why a run stopped, where a process lives.
-pub(crate) fn push_last_line(out: &mut Vec<u8>, finish: Finish) -> Result<(), NoMemory>
-    ensures { OnOk result (out.new.items ≡ out.old.items ++ last_line finish) }
+/// The line that says why a run stopped where a process lives; empty where none does (this project).
+pub fn last_line(finish: Finish) -> &'static [u8]
+    ensures { result.now ≡ last_line finish }
 {
     match finish {
-        Finish::Budget => out.extend_from_slice(b"budget\n")?,
-        Finish::Stalled => out.extend_from_slice(b"stalled\n")?,
-        Finish::AllEnded | Finish::OutOfMemory | Finish::Running => {}
+        Finish::Budget => b"budget\n",
+        Finish::Stalled => b"stalled\n",
+        Finish::AllEnded | Finish::OutOfMemory | Finish::Running => b"",
     }
-    Ok(())
 }
 
 // Puts the line about a process, and its console.
@@ -97,7 +96,7 @@ fn push_process_line(
     ensures { OnOk result (out.new.items ≡ out.old.items ++ process_line pid name.now home.now (ending_text ending.now)) }
 {
     out.extend_from_slice(b"pid ")?;
-    push_decimal(alloc, out, pid)?;
+    push_decimal(alloc, out, u64::from(pid))?;
     out.push(b' ')?;
     out.extend_from_slice(name)?;
     out.push(b' ')?;
@@ -118,7 +117,7 @@ fn push_ending(alloc: Global, out: &mut Vec<u8>, ending: &Option<Ending>) -> Res
         Some(Ending::Killed) => out.extend_from_slice(b"killed")?,
         Some(Ending::Exit(code)) => {
             out.extend_from_slice(b"exit ")?;
-            push_decimal(alloc, out, u32::from(*code))?;
+            push_decimal(alloc, out, u64::from(*code))?;
         }
     }
     Ok(())

@@ -11,7 +11,7 @@ pub fn refusal_line(alloc: Global, refusal: &Refusal) -> Result<Vec<u8>, NoMemor
     ensures { IfOk result (λ line. line.items ≡ refusal_line refusal.now) }
 {
     let mut line = Vec::from_slice(alloc, b"refused: ")?;
-    push_decimal(alloc, &mut line, u32::from(refusal.number))?;
+    push_decimal(alloc, &mut line, u64::from(refusal.number))?;
     push_place(&mut line, refusal)?;
     line.push(b'\n')?;
     Ok(line)

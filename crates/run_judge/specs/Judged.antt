@@ -7,6 +7,8 @@ use Rattle.unix_calls.specs.declared.event.Rec.{Rec}
 use Rattle.unix_calls.specs.State.{Unix}
 use Rattle.unix_calls.specs.After.{legal, state_of}
 use Rattle.unix_calls.specs.Output.{output_of}
+use Rattle.report_print.specs.Summaries.{tally_in}
+use Rattle.report_print.specs.declared.Tally.{Tally}
 use Rattle.one_kernel.specs.declared.Verdict.TheVariants as verdict
 use Rattle.one_kernel.specs.Verdicts.{verdict_of}
 use Rattle.call_journal.specs.Journal.{journal_of}
@@ -27,8 +29,8 @@ pub record IsLegal (c : Description) (most : ℕ) (trace : List Rec) (u : Unix) 
   pub verdict_is : verdict_of c most (journal_of trace) ≡ verdict.Legal
 
 -- besides, each call is once, a server is called unreachable only for a cause, and the run ended as it says; that is printed of its
--- journal
-pub record IsJudged (c : Description) (most : ℕ) (trace : List Rec) (finish : Finish) (output : List ℕ) : Type 0 where
+-- journal, and its processes came to that
+pub record IsJudged (c : Description) (most : ℕ) (trace : List Rec) (finish : Finish) (output : List ℕ) (tally : Tally) : Type 0 where
   pub state : Unix
   pub is_legal : IsLegal c most trace state
   pub once : Once trace
@@ -36,6 +38,7 @@ pub record IsJudged (c : Description) (most : ℕ) (trace : List Rec) (finish : 
   pub stands : end_of c most state finish ≡ stop.Good
   pub ends : EndsAs c state finish
   pub output_is : output ≡ output_of c (journal_of trace) finish
+  pub tally_is : tally ≡ tally_in (state_of c (journal_of trace))
 
 -- a call isn't once
 pub record IsNotOnce (c : Description) (most : ℕ) (trace : List Rec) : Type 0 where
@@ -78,6 +81,6 @@ IsFar c most trace finish n =
 
 -- what the run comes to
 abbrev pub JudgesTo : Description → ℕ → List Rec → Finish → JudgedRun → Type 0
-JudgesTo c most trace finish (judge.Judged output) = IsJudged c most trace finish output
+JudgesTo c most trace finish (judge.Judged output tally) = IsJudged c most trace finish output tally
 JudgesTo c most trace finish (judge.Refuted refutation) = IsRefuted c most trace finish refutation
 JudgesTo c most trace finish (judge.Steps n) = IsFar c most trace finish n

@@ -1,10 +1,11 @@
+use report_print::Tally;
 use sprite_ids::Bytes;
 
 /// What a run that has come to its end comes to (this project).
 #[derive(Debug, PartialEq, Eq, Drop)]
 pub enum JudgedRun {
-    /// It keeps what is promised of it, and this is printed of it.
-    Judged { output: Bytes },
+    /// It keeps what is promised of it, this is printed of it, and its processes came to that.
+    Judged { output: Bytes, tally: Tally },
     /// It doesn't.
     Refuted(Refutation),
     /// Before this entry of its journal, counted from 1, a process's way to its call passes the bound of instructions; behind the last

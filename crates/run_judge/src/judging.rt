@@ -11,7 +11,7 @@ use call_journal::Trace;
 use calls_once::calls_are_once;
 use cause_judge::are_for_cause;
 use one_kernel::{Replayed, replay};
-use report_print::output;
+use report_print::{output, tally_of};
 use sprite_ids::{Bytes, Finish, NoMemory};
 use std::alloc::Global;
 use unix_calls::{Description, Process};
@@ -88,8 +88,9 @@ fn judge_end(
 {
     match end_of(alloc, c, world, ps, finish, most)? {
         Stop::Good => {
+            let tally = tally_of(ps)?;
             let output = Bytes::of_vec(output(alloc, c, ps, finish)?);
-            Ok(JudgedRun::Judged { output })
+            Ok(JudgedRun::Judged { output, tally })
         }
         Stop::Wrong => Ok(JudgedRun::Refuted(Refutation::End)),
         Stop::Free => Ok(JudgedRun::Refuted(Refutation::Stall)),

@@ -1,2 +1,4 @@
+pub mod CauseLaws
+pub mod CompleteLaws
 pub mod RunLaws
 pub mod TopLaws

@@ -1,5 +1,6 @@
 -- What the top call promises for each status.
-use Rattle.std.specs.Prelude.{codes, IsTrue, ◌≡◌, ℕ, ◌+◌, ◌<◌, ◌≤◌, Bool, true, false, ◌⊎◌, List, [], ◌++◌, Option, Some, None, length, take}
+use Rattle.std.specs.Prelude.{codes, IsTrue, ◌≡◌, ◌≢◌, ℕ, ◌+◌, ◌<◌, ◌≤◌, Bool, true, false, ◌⊎◌, List, [], ◌∷◌, ◌++◌, Option, Some, None, Ok, Err, length, take}
+use Rattle.std.specs.List.{list_any}
 use Rattle.std.specs.Io.KnownBytes.{Consumes, Appends, IsAtEnd}
 use Rattle.sprite_ids.specs.declared.running.Finish.{Finish}
 use Rattle.sprite_ids.specs.declared.running.Finish.TheVariants as finish
@@ -14,22 +15,33 @@ use Rattle.sprite_words.specs.Words.{IsSpelled}
 use Rattle.cluster_file.specs.declared.Refusal.{Refusal}
 use Rattle.cluster_file.specs.Clusters.{Describes, Refuses}
 use Rattle.report_print.specs.Refused.{refusal_line}
-use Rattle.sprite_top.specs.Judged.{TextCauses}
+use Rattle.report_print.specs.Stats.{stats_of}
+use Rattle.report_print.specs.Summaries.{summary_of}
+use Rattle.workload_maker.specs.Workloads.{workload_text}
+use Rattle.lend_text.specs.Bodies.{answer_text}
+use Rattle.history_check.specs.declared.judgement.Judgement.{Judgement}
+use Rattle.history_check.specs.Judged.{ComesTo}
+use Rattle.sprite_top.specs.Judged.{TextCauses, judgement_status}
 use Rattle.call_journal.specs.Journal.{journal_of}
 use Rattle.unix_calls.specs.After.{legal, state_of}
 use Rattle.call_journal.specs.Once.{Once}
-use Rattle.call_journal.specs.Unreachable.{unreachable_for_cause}
+use Rattle.call_journal.specs.Unreachable.{is_unreachable_entry, unreachable_for_cause}
 use Rattle.run_judge.specs.declared.JudgedRun.{JudgedRun}
 use Rattle.run_judge.specs.declared.JudgedRun.TheVariants as judged
 use Rattle.run_judge.specs.declared.Refutation.TheVariants as refuted
 use Rattle.run_judge.specs.Ends.{EndsAs}
 use Rattle.run_judge.specs.Judged.{JudgesTo}
-use Rattle.sprite_cluster.specs.Finishing.{IsSpent}
+use Rattle.kernel_rpc.specs.Sound.{Wired}
+use Rattle.cluster_kernels.specs.declared.State.{State}
+use Rattle.sprite_cluster.specs.Finishing.{IsSpent, IsStill, finish_of, stands_so}
 use Rattle.sprite_cluster.specs.Logs.{Holds, faults_between}
+use Rattle.sprite_cluster.specs.Reached.{Reached}
 use Rattle.sprite_cluster.specs.Wires.{TellsWire}
 use Rattle.sprite_cluster.specs.declared.Cluster.{Cluster}
 use Rattle.sprite_top.specs.Judged.{numbered_line}
 use Rattle.unix_calls.specs.State.{Unix}
+use Rattle.unix_calls.specs.declared.Entry.{Entry}
+use Rattle.unix_calls.specs.declared.Event.TheVariants.{Enter}
 use Rattle.unix_calls.specs.declared.Rec.{Rec}
 use Rattle.trace_text.specs.Traces.{trace_of}
 use Rattle.unix_calls.specs.Output.{output_of, last_line}
@@ -37,15 +49,18 @@ use Rattle.history_text.specs.Histories.{history_of}
 use Rattle.sprite_top.specs.declared.top.Printing.{Printing}
 use Rattle.sprite_top.specs.declared.top.Printing.TheVariants as printing
 
--- what a command prints of the cluster that it runs; none where it runs none
+-- what a command prints of the cluster that it runs of a cluster file; none where it runs none
 abbrev pub printing_of : Command → Option Printing
 printing_of command.Run = Some printing.Output
 printing_of (command.RunSeed seed) = Some printing.Output
+printing_of command.RunStats = Some printing.Stats
 printing_of command.History = Some printing.History
+printing_of (command.Load count) = None
 printing_of command.Check = None
 printing_of command.Trace = Some printing.Trace
+printing_of command.Lend = None
 
--- the words spell a command that runs a cluster and prints that of it
+-- the words spell a command that runs the cluster of a cluster file and prints that of it
 pub record AsksFor (print : Printing) (words : List (List ℕ)) : Type 0 where
   pub command : Command
   pub is_spelled : IsSpelled command words
@@ -55,15 +70,18 @@ pub record AsksFor (print : Printing) (words : List (List ℕ)) : Type 0 where
 abbrev pub IsCommand : List (List ℕ) → Type 0
 IsCommand words = (some : Command) × IsSpelled some words
 
--- what is printed of a run: the output of its journal, or its history or its trace, and why it stopped where a process lives
+-- what is printed of a run: the output of its journal, or that with the counts of its trace, or its history or its trace, and why it stopped
+-- where a process lives
 abbrev pub printed : Printing → Description → List Rec → Finish → List ℕ
 printed printing.Output c trace end = output_of c (journal_of trace) end
+printed printing.Stats c trace end = output_of c (journal_of trace) end ++ stats_of trace
+printed (printing.Summary count) c trace end = summary_of count c (journal_of trace) end
 printed printing.History c trace end = history_of (journal_of trace) ++ last_line end
 printed printing.Trace c trace end = trace_of trace ++ last_line end
 
 -- the lines that are written where nothing was run
 abbrev pub usage_line : List ℕ
-usage_line = codes "usage: sprite run | run --seed N | run --stats | history | load N | check | trace\n"
+usage_line = codes "usage: sprite run | run --seed N | run --stats | history | load N | check | trace | lend\n"
 
 abbrev pub too_long_line : List ℕ
 too_long_line = codes "refused: 1\n"
@@ -90,7 +108,7 @@ pub record IsRunOf (print : Printing) (c : Description) (end : Finish) (closed :
 
 -- the line about a run that isn't what was promised of it
 abbrev pub refuted_line : JudgedRun → List ℕ
-refuted_line (judged.Judged output) = []
+refuted_line (judged.Judged output tally) = []
 refuted_line (judged.Refuted (refuted.Legal number)) = numbered_line (codes "refuted legal ") number
 refuted_line (judged.Refuted refuted.Once) = codes "refuted once\n"
 refuted_line (judged.Refuted refuted.Unreachable) = codes "refuted unreachable\n"
@@ -100,15 +118,16 @@ refuted_line (judged.Steps number) = numbered_line (codes "refuted steps ") numb
 
 -- a run comes to something else than what was promised of it
 abbrev pub IsBroken : JudgedRun → Type 0
-IsBroken (judged.Judged output) = ⊥
+IsBroken (judged.Judged output tally) = ⊥
 IsBroken other = Unit {0}
 
--- a run of the cluster isn't what was promised of it, by the judge, and its line is due
+-- a run of the cluster isn't what was promised of it, by the judge, and its line is due; its budget is spent where it says so
 pub record IsRefutedRun (c : Description) (closed : Option Closed) (due : List ℕ) : Type 0 where
   pub run : Closed
   pub kept : closed ≡ Some run
   pub same : run.description ≡ c
   pub verdict : JudgedRun
+  pub spent : IsSpent c run.trace run.finish
   pub judges : JudgesTo c 40000000000 run.trace run.finish verdict
   pub broken : IsBroken verdict
   pub line_is : due ≡ refuted_line verdict
@@ -123,21 +142,55 @@ abbrev pub TellsFaults : {L : Type 0} → (L → ℕ → ℕ → ℕ) → L → 
 TellsFaults faults before after None = Unit {0}
 TellsFaults faults before after (Some run) = (a b : ℕ) → faults before a b + faults_between a b run.trace ≤ faults after a b
 
+-- of a run that was made and that calls servers unreachable only for cause: before each entry that does so, the link's count of faults
+-- between the entry's kernel and another rose in this call, by eight at least
+abbrev pub RoseForCause : {L : Type 0} → (L → ℕ → ℕ → ℕ) → L → L → Option Closed → Type 0
+RoseForCause faults before after None = Unit {0}
+RoseForCause faults before after (Some run) =
+    unreachable_for_cause run.description run.trace ≡ true → (first rest : List Rec) (kernel : ℕ) (entry : Entry) → run.trace ≡ first ++ record { kernel = kernel; event = Enter entry } ∷ rest → is_unreachable_entry entry ≡ true → (to : ℕ) × (faults before kernel to + 8 ≤ faults after kernel to)
+
+-- of such a run: over a link whose counts of faults don't rise, no reply of its journal calls a server unreachable
+abbrev pub AllWereReached : {L : Type 0} → (L → ℕ → ℕ → ℕ) → L → L → Option Closed → Type 0
+AllWereReached faults before after None = Unit {0}
+AllWereReached faults before after (Some run) =
+    unreachable_for_cause run.description run.trace ≡ true → ((a b : ℕ) → faults after a b ≡ faults before a b) → list_any is_unreachable_entry (journal_of run.trace) ≡ false
+
 -- of a run that was made: what its trace tells of the packets that went over the link
 abbrev pub TellsWireOf : {L : Type 0} → (L → ℕ → ℕ → ℕ) → (L → ℕ → ℕ → ℕ) → L → L → Option Closed → Type 0
 TellsWireOf faults asked before after None = Unit {0}
 TellsWireOf faults asked before after (Some run) = TellsWire faults asked before after run.trace
 
--- what the run of a cluster comes to is the cluster's, and its budget is spent where it says so
-pub record IsRun (c : Description) (run : Closed) : Type 0 where
-  pub same : run.description ≡ c
-  pub spent : IsSpent c run.trace run.finish
+-- what came of running a described cluster, over a link that goes from there to here: by changes of its kernels, from the boot on, it
+-- reaches a cluster whose trace that is and which has that link. The run ended as that cluster stands, and doesn't go on: all
+-- processes have ended, or else its budget is spent, exactly where its units reach it, or else nothing can happen there
+pub record IsRun {L : Type 0} (faults asked : L → ℕ → ℕ → ℕ) (before after : L) (run : Closed) : Type 0 where
+  pub wire : Wired L
+  pub state : State
+  pub linked : after ≡ wire.link
+  pub reached : Reached faults asked run.description before (record { wire = wire; state = state; trace = run.trace })
+  pub stands : run.finish ≡ finish_of run.description run.trace wire.machine state
+  pub over : run.finish ≢ finish.Running
+  pub spent : IsSpent run.description run.trace run.finish
+  pub still : run.finish ≡ finish.Stalled → IsStill (length run.description.kernels) wire.machine state
 
--- a cluster after a run of it: it is what it was, over the same link
+-- of a run that was made: it is one of its cluster
+abbrev pub IsRunOver : {L : Type 0} → (L → ℕ → ℕ → ℕ) → (L → ℕ → ℕ → ℕ) → L → L → Option Closed → Type 0
+IsRunOver faults asked before after None = Unit {0}
+IsRunOver faults asked before after (Some run) = IsRun faults asked before after run
+
+-- of a run that was made, over a link that goes from there to here: it is one of its cluster, its trace tells of no more faults than
+-- the link counted, and what it tells of packets is what went over the link
+pub record RunsOver {L : Type 0} (faults asked : L → ℕ → ℕ → ℕ) (before after : L) (closed : Option Closed) : Type 0 where
+  pub run : IsRunOver faults asked before after closed
+  pub counted : TellsFaults faults before after closed
+  pub wire : TellsWireOf faults asked before after closed
+
+-- a cluster after a run of it: it is what it was, over the same link, and the run is over
 pub record IsSameRun {L : Type 0} (faults asked : L → ℕ → ℕ → ℕ) (old new : Cluster L) : Type 0 where
   pub described : new.description ≡ old.description
   pub begun_so : new.begun ≡ old.begun
-  pub holds : Holds faults asked new.description new.closed new.begun.value new.wire new.trace
+  pub holds : Holds faults asked new.description new.closed new.begun.value new.wire new.state new.trace
+  pub over : stands_so new.closed new.description new.trace new.wire.machine new.state ≢ finish.Running
 
 -- nothing was run, and that line is due
 pub record IsLine (closed : Option Closed) (due line : List ℕ) : Type 0 where
@@ -151,7 +204,7 @@ pub record IsFileRun (print : Printing) (bytes : List ℕ) (end : Finish) (close
   pub run_of : IsRunOf print cluster end closed due
 
 -- the words are those of a run, the source was read to its end, and its bytes were run and printed so
-pub record IsEnded (end : Finish) (words : List (List ℕ)) (left left_after : Option (List ℕ)) (closed : Option Closed) (due : List ℕ) : Type 0 where
+pub record IsFileEnded (end : Finish) (words : List (List ℕ)) (left left_after : Option (List ℕ)) (closed : Option Closed) (due : List ℕ) : Type 0 where
   pub print : Printing
   pub asks : AsksFor print words
   pub came : List ℕ
@@ -160,6 +213,17 @@ pub record IsEnded (end : Finish) (words : List (List ℕ)) (left left_after : O
   pub short : length came ≤ 1048576
   pub run_of : IsFileRun print came end closed due
 
+-- the words are those of a load, nothing was read, and its workload was run and summed up so
+pub record IsLoadEnded (end : Finish) (words : List (List ℕ)) (left left_after : Option (List ℕ)) (closed : Option Closed) (due : List ℕ) : Type 0 where
+  pub count : ℕ
+  pub asks : IsSpelled (command.Load count) words
+  pub nothing_read : left_after ≡ left
+  pub run_of : IsFileRun (printing.Summary count) (workload_text count) end closed due
+
+-- a cluster of a file, or a workload, was run and printed so
+abbrev pub IsEnded : Finish → List (List ℕ) → Option (List ℕ) → Option (List ℕ) → Option Closed → List ℕ → Type 0
+IsEnded end words left left_after closed due = IsFileEnded end words left left_after closed due ⊎ IsLoadEnded end words left left_after closed due
+
 -- the bytes are a cluster file, and its run isn't what was promised of it
 pub record IsFileRefuted (bytes : List ℕ) (closed : Option Closed) (due : List ℕ) : Type 0 where
   pub cluster : Description
@@ -167,7 +231,7 @@ pub record IsFileRefuted (bytes : List ℕ) (closed : Option Closed) (due : List
   pub run_of : IsRefutedRun cluster closed due
 
 -- the words are those of a run, the source was read to its end, and the run of its bytes isn't what was promised of it
-pub record IsRefuted (words : List (List ℕ)) (left left_after : Option (List ℕ)) (closed : Option Closed) (due : List ℕ) : Type 0 where
+pub record IsReadRefuted (words : List (List ℕ)) (left left_after : Option (List ℕ)) (closed : Option Closed) (due : List ℕ) : Type 0 where
   pub print : Printing
   pub asks : AsksFor print words
   pub came : List ℕ
@@ -175,6 +239,17 @@ pub record IsRefuted (words : List (List ℕ)) (left left_after : Option (List �
   pub at_end : IsAtEnd left_after
   pub short : length came ≤ 1048576
   pub run_of : IsFileRefuted came closed due
+
+-- the words are those of a load, nothing was read, and the run of its workload isn't what was promised of it
+pub record IsLoadRefuted (words : List (List ℕ)) (left left_after : Option (List ℕ)) (closed : Option Closed) (due : List ℕ) : Type 0 where
+  pub count : ℕ
+  pub asks : IsSpelled (command.Load count) words
+  pub nothing_read : left_after ≡ left
+  pub run_of : IsFileRefuted (workload_text count) closed due
+
+-- the run of a cluster of a file, or of a workload, isn't what was promised of it
+abbrev pub IsRefuted : List (List ℕ) → Option (List ℕ) → Option (List ℕ) → Option Closed → List ℕ → Type 0
+IsRefuted words left left_after closed due = IsReadRefuted words left left_after closed due ⊎ IsLoadRefuted words left left_after closed due
 
 -- the words are `check`, the source was read to its end, and what came is a text that comes to something of that status
 pub record IsChecked (state : Status) (words : List (List ℕ)) (left left_after : Option (List ℕ)) (closed : Option Closed) (due : List ℕ) : Type 0 where
@@ -213,10 +288,39 @@ pub record IsTextTooLong (words : List (List ℕ)) (left left_after : Option (Li
   pub long : 67108864 < length came
   pub line : IsLine closed due too_long_line
 
--- what was read is refused: as a cluster file, as a text that is to be checked, or since it is too long
+-- the words are `lend`, the source was read to its end, and what is due answers the events that came
+pub record IsLent (words : List (List ℕ)) (left left_after : Option (List ℕ)) (closed : Option Closed) (due : List ℕ) : Type 0 where
+  pub words_are : IsSpelled command.Lend words
+  pub came : List ℕ
+  pub read : Consumes left left_after came
+  pub at_end : IsAtEnd left_after
+  pub short : length came ≤ 1048576
+  pub answers : answer_text came ≡ Ok due
+  pub no_run : closed ≡ None
+
+-- a line isn't of its form, and what is due says which
+pub record IsBadLine (text due : List ℕ) : Type 0 where
+  pub number : ℕ
+  pub bad : answer_text text ≡ Err number
+  pub line_is : due ≡ numbered_line (codes "refused: 15 line ") number
+
+-- bytes that are read to their end and have a line that isn't of its form, or too many bytes
+abbrev pub AreNoEvents : Option (List ℕ) → List ℕ → List ℕ → Type 0
+AreNoEvents left_after came due =
+    (IsAtEnd left_after × (length came ≤ 1048576) × IsBadLine came due) ⊎ ((1048576 < length came) × (due ≡ too_long_line))
+
+-- the words are `lend`, and what was read is no text of events
+pub record IsLendRefused (words : List (List ℕ)) (left left_after : Option (List ℕ)) (closed : Option Closed) (due : List ℕ) : Type 0 where
+  pub words_are : IsSpelled command.Lend words
+  pub came : List ℕ
+  pub read : Consumes left left_after came
+  pub cause : AreNoEvents left_after came due
+  pub no_run : closed ≡ None
+
+-- what was read is refused: as a cluster file, as a text that is to be checked, since it is too long, or as a text of events
 abbrev pub IsRefused : List (List ℕ) → Option (List ℕ) → Option (List ℕ) → Option Closed → List ℕ → Type 0
 IsRefused words left left_after closed due =
-    IsRunRefused words left left_after closed due ⊎ (IsChecked status.Refused words left left_after closed due ⊎ IsTextTooLong words left left_after closed due)
+    IsRunRefused words left left_after closed due ⊎ (IsChecked status.Refused words left left_after closed due ⊎ (IsTextTooLong words left left_after closed due ⊎ IsLendRefused words left left_after closed due))
 
 -- the words are no command, and nothing was read
 pub record IsUsage (words : List (List ℕ)) (left left_after : Option (List ℕ)) (faults faults_after : ℕ) (closed : Option Closed) (due : List ℕ) : Type 0 where
@@ -240,6 +344,7 @@ Causes status.Refuted words left left_after faults faults_after closed due = IsR
 Causes status.Legal words left left_after faults faults_after closed due = IsChecked status.Legal words left left_after closed due
 Causes status.NotLegal words left left_after faults faults_after closed due = IsChecked status.NotLegal words left left_after closed due
 Causes status.Steps words left left_after faults faults_after closed due = IsChecked status.Steps words left left_after closed due
+Causes status.Answered words left left_after faults faults_after closed due = IsLent words left left_after closed due
 Causes status.Refused words left left_after faults faults_after closed due = IsRefused words left left_after closed due
 Causes status.Usage words left left_after faults faults_after closed due = IsUsage words left left_after faults faults_after closed due
 Causes status.ReadFault words left left_after faults faults_after closed due = IsReadFault words faults faults_after closed due
@@ -262,6 +367,20 @@ ClusterCauses print status.Budget c closed due = IsRunOf print c finish.Budget c
 ClusterCauses print status.Stalled c closed due = IsRunOf print c finish.Stalled closed due
 ClusterCauses print status.Refuted c closed due = IsRefutedRun c closed due
 ClusterCauses print _ c closed due = ⊥
+
+-- what is due for a workload of that many processes
+abbrev pub LoadCauses : ℕ → Status → Option Closed → List ℕ → Type 0
+LoadCauses count status.Ended closed due = IsFileRun (printing.Summary count) (workload_text count) finish.AllEnded closed due
+LoadCauses count status.Budget closed due = IsFileRun (printing.Summary count) (workload_text count) finish.Budget closed due
+LoadCauses count status.Stalled closed due = IsFileRun (printing.Summary count) (workload_text count) finish.Stalled closed due
+LoadCauses count status.Refuted closed due = IsFileRefuted (workload_text count) closed due
+LoadCauses count other closed due = ⊥
+
+-- what is due for a text of events
+abbrev pub EventsCauses : Status → List ℕ → Option Closed → List ℕ → Type 0
+EventsCauses status.Answered text closed due = (answer_text text ≡ Ok due) × (closed ≡ None)
+EventsCauses status.Refused text closed due = IsBadLine text due × (closed ≡ None)
+EventsCauses other text closed due = ⊥
 
 -- what was due was written behind what the sink held
 pub record Wrote (held held_after : Option (List ℕ)) (Due : List ℕ → Type 0) : Type 0 where
@@ -286,10 +405,58 @@ status_of finish.Budget = status.Budget
 status_of finish.Stalled = status.Stalled
 status_of _ = status.Refuted
 
+-- what a run of a described cluster, the check of a history, an answer to events, a refused file, and words that are no command may come to
+abbrev pub IsOfRun : Status → Type 0
+IsOfRun status.Ended = Unit {0}
+IsOfRun status.Budget = Unit {0}
+IsOfRun status.Stalled = Unit {0}
+IsOfRun status.Refuted = Unit {0}
+IsOfRun status.NoMemory = Unit {0}
+IsOfRun other = ⊥
+
+abbrev pub IsOfCheck : Status → Type 0
+IsOfCheck status.Legal = Unit {0}
+IsOfCheck status.NotLegal = Unit {0}
+IsOfCheck status.Steps = Unit {0}
+IsOfCheck status.NoMemory = Unit {0}
+IsOfCheck other = ⊥
+
+abbrev pub IsOfAnswer : Status → Type 0
+IsOfAnswer status.Answered = Unit {0}
+IsOfAnswer status.NoMemory = Unit {0}
+IsOfAnswer other = ⊥
+
+abbrev pub IsOfRefusal : Status → Type 0
+IsOfRefusal status.Refused = Unit {0}
+IsOfRefusal status.WriteFault = Unit {0}
+IsOfRefusal status.NoMemory = Unit {0}
+IsOfRefusal other = ⊥
+
+abbrev pub IsOfUsage : Status → Type 0
+IsOfUsage status.Usage = Unit {0}
+IsOfUsage status.WriteFault = Unit {0}
+IsOfUsage status.NoMemory = Unit {0}
+IsOfUsage other = ⊥
+
+-- a count of faults neither rose nor stands at u64::MAX
+abbrev pub NoFault : ℕ → ℕ → Type 0
+NoFault count count_after = Rose count count_after → ⊥
+
+-- what right words over right bytes come to, where neither the source nor the sink counts a fault: not to a refusal, nor to an error
+-- but want of memory; and what bytes that are refused, and words that are no command, come to
+pub record Completes (state : Status) (words : List (List ℕ)) (left : Option (List ℕ)) (faults faults_after sunk sunk_after : ℕ) : Type 0 where
+  pub runs : (print : Printing) (bytes : List ℕ) (c : Description) → AsksFor print words → left ≡ Some bytes → Describes bytes c → NoFault faults faults_after → NoFault sunk sunk_after → IsOfRun state
+  pub loads : (count : ℕ) → IsSpelled (command.Load count) words → NoFault faults faults_after → NoFault sunk sunk_after → IsOfRun state
+  pub checks : (bytes : List ℕ) → IsSpelled command.Check words → left ≡ Some bytes → length bytes ≤ 67108864 → ((j : Judgement) → ComesTo bytes j → judgement_status j ≢ status.Refused) → NoFault faults faults_after → NoFault sunk sunk_after → IsOfCheck state
+  pub answers : (bytes lines : List ℕ) → IsSpelled command.Lend words → left ≡ Some bytes → length bytes ≤ 1048576 → answer_text bytes ≡ Ok lines → NoFault faults faults_after → NoFault sunk sunk_after → IsOfAnswer state
+  pub refuses : (print : Printing) (bytes : List ℕ) (refusal : Refusal) → AsksFor print words → left ≡ Some bytes → Refuses bytes refusal → NoFault faults faults_after → IsOfRefusal state
+  pub refuses_words : (IsCommand words → ⊥) → IsOfUsage state
+
 -- the exit status of the program
 abbrev pub status_number : Status → ℕ
 status_number status.Ended = 0
 status_number status.Legal = 0
+status_number status.Answered = 0
 status_number status.Refused = 1
 status_number status.Usage = 2
 status_number status.ReadFault = 3

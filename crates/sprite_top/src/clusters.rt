@@ -1,18 +1,20 @@
-ghost use Rattle.std.specs.Prelude.{◌≡◌, ◌++◌, [], IfOk, Some};
+ghost use Rattle.std.specs.Prelude.{◌≡◌, ◌≢◌, ◌++◌, [], IfOk, Some};
 ghost use Rattle.trace_text.specs.Traces.{trace_of};
+ghost use Rattle.report_print.specs.Stats.{stats_of};
 ghost use Rattle.unix_calls.specs.Output.{last_line};
 ghost use Rattle.unix_calls.specs.Lawful.{Lawful};
 ghost use Rattle.call_journal.specs.Journal.{journal_of};
 ghost use Rattle.run_judge.specs.Judged.{IsJudged, JudgesTo};
+ghost use Rattle.sprite_cluster.specs.Finishing.{IsSpent, stands_so};
 ghost use Rattle.sprite_cluster.specs.Logs.{Holds};
-ghost use Rattle.sprite_top.specs.Top.{ClusterCauses, IsBroken, IsRun, IsSameRun, TellsFaults, TellsWireOf, is_out_of_memory, printed, status_of};
+ghost use Rattle.sprite_top.specs.Top.{ClusterCauses, IsBroken, IsSameRun, RunsOver, is_out_of_memory, printed, status_of};
 
 use crate::judged::refuted_line;
 use crate::top::{Answer, Printing, Status, Turns};
 use call_journal::Closed;
 use kernel_threads::{Watch, run_seeded, run_threads};
 use link_plan::Link;
-use report_print::history;
+use report_print::{Tally, history, last_line, stats, summary};
 use run_judge::{JudgedRun, judge_run};
 use sprite_cluster::Cluster;
 use sprite_ids::{Bytes, Finish, NoMemory};
@@ -38,8 +40,7 @@ pub(crate) fn answer_cluster<R: Threads + Wait + Sync, L: Link + Send, W: Watch 
 ) -> (Result<Answer, NoMemory>, L)
     requires { Lawful description }
     ensures causes { IfOk result.0 (λ a. ClusterCauses print a.status description a.closed a.due) }
-    ensures faults { IfOk result.0 (λ a. TellsFaults L.faults link result.1 a.closed) }
-    ensures wire { IfOk result.0 (λ a. TellsWireOf L.faults L.asked link result.1 a.closed) }
+    ensures over { IfOk result.0 (λ a. RunsOver L.faults L.asked link result.1 a.closed) }
 {
     let (closed, link) = run_cluster(rt, alloc, description, turns, link, watch);
     let answer = match closed {
@@ -59,9 +60,8 @@ fn run_cluster<R: Threads + Wait + Sync, L: Link + Send, W: Watch + Sync>(
     watch: &W,
 ) -> (Result<Closed, NoMemory>, L)
     requires { Lawful description }
-    ensures run { IfOk result.0 (IsRun description) }
-    ensures faults { IfOk result.0 (λ run. TellsFaults L.faults link result.1 (Some run)) }
-    ensures wire { IfOk result.0 (λ run. TellsWireOf L.faults L.asked link result.1 (Some run)) }
+    ensures same { IfOk result.0 (λ run. run.description ≡ description) }
+    ensures over { IfOk result.0 (λ run. RunsOver L.faults L.asked link result.1 (Some run)) }
 {
     match Cluster::boot(alloc, description, link) {
         Ok(cluster) => run_booted(rt, alloc, cluster, turns, watch),
@@ -77,11 +77,10 @@ fn run_booted<R: Threads + Wait + Sync, L: Link + Send, W: Watch + Sync>(
     turns: Turns,
     watch: &W,
 ) -> (Result<Closed, NoMemory>, L)
-    requires holds { Holds L.faults L.asked cluster.description cluster.closed cluster.begun.value cluster.wire cluster.trace }
+    requires holds { Holds L.faults L.asked cluster.description cluster.closed cluster.begun.value cluster.wire cluster.state cluster.trace }
     requires none_out { cluster.state.out ≡ [] }
-    ensures run { IfOk result.0 (IsRun cluster.description) }
-    ensures faults { IfOk result.0 (λ run. TellsFaults L.faults cluster.begun.value result.1 (Some run)) }
-    ensures wire { IfOk result.0 (λ run. TellsWireOf L.faults L.asked cluster.begun.value result.1 (Some run)) }
+    ensures same { IfOk result.0 (λ run. run.description ≡ cluster.description) }
+    ensures over { IfOk result.0 (λ run. RunsOver L.faults L.asked cluster.begun.value result.1 (Some run)) }
 {
     match run_by(rt, alloc, cluster, turns, watch) {
         Ok(cluster) => close(alloc, cluster),
@@ -93,7 +92,7 @@ fn run_booted<R: Threads + Wait + Sync, L: Link + Send, W: Watch + Sync>(
 }
 
 // Runs the cluster in that order. The one error is want of memory, which hands the cluster back.
-#[tactic(auto, using(crate::proofs::RunLaws::same_run, crate::proofs::RunLaws::few_kernels))]
+#[tactic(auto, using(crate::proofs::RunLaws::same_run, sprite_cluster::proofs::BootLaws::few_kernels))]
 fn run_by<R: Threads + Wait + Sync, L: Link + Send, W: Watch + Sync>(
     rt: &R,
     alloc: Global,
@@ -101,7 +100,7 @@ fn run_by<R: Threads + Wait + Sync, L: Link + Send, W: Watch + Sync>(
     turns: Turns,
     watch: &W,
 ) -> Result<Cluster<L>, Cluster<L>>
-    requires holds { Holds L.faults L.asked cluster.description cluster.closed cluster.begun.value cluster.wire cluster.trace }
+    requires holds { Holds L.faults L.asked cluster.description cluster.closed cluster.begun.value cluster.wire cluster.state cluster.trace }
     requires none_out { cluster.state.out ≡ [] }
     ensures { IfOk result (IsSameRun L.faults L.asked cluster) }
 {
@@ -116,10 +115,10 @@ fn run_by<R: Threads + Wait + Sync, L: Link + Send, W: Watch + Sync>(
 
 // The run of a cluster that came to its end. The one error is want of memory.
 fn close<L: Link>(alloc: Global, cluster: Cluster<L>) -> (Result<Closed, NoMemory>, L)
-    requires holds { Holds L.faults L.asked cluster.description cluster.closed cluster.begun.value cluster.wire cluster.trace }
-    ensures run { IfOk result.0 (IsRun cluster.description) }
-    ensures faults { IfOk result.0 (λ run. TellsFaults L.faults cluster.begun.value result.1 (Some run)) }
-    ensures wire { IfOk result.0 (λ run. TellsWireOf L.faults L.asked cluster.begun.value result.1 (Some run)) }
+    requires holds { Holds L.faults L.asked cluster.description cluster.closed cluster.begun.value cluster.wire cluster.state cluster.trace }
+    requires over { stands_so cluster.closed cluster.description cluster.trace cluster.wire.machine cluster.state ≢ Finish.Running }
+    ensures same { IfOk result.0 (λ run. run.description ≡ cluster.description) }
+    ensures over { IfOk result.0 (λ run. RunsOver L.faults L.asked cluster.begun.value result.1 (Some run)) }
 {
     let mut cluster = cluster;
     let finish = cluster.finish(alloc);
@@ -143,7 +142,7 @@ fn is_out_of_memory(finish: Finish) -> bool
 // What is due for a run, which is judged first. The one error is want of memory.
 fn judge_closed(alloc: Global, closed: Closed, print: Printing) -> Result<Answer, NoMemory>
     requires lawful { Lawful closed.description }
-    requires run { IsRun closed.description closed }
+    requires spent { IsSpent closed.description closed.trace closed.finish }
     ensures causes { IfOk result (λ a. ClusterCauses print a.status closed.description a.closed a.due) }
     ensures kept { IfOk result (λ a. a.closed ≡ Some closed) }
 {
@@ -154,7 +153,7 @@ fn judge_closed(alloc: Global, closed: Closed, print: Printing) -> Result<Answer
         closed.finish,
         MOST,
     )? {
-        JudgedRun::Judged { output } => accept(alloc, closed, output, print),
+        JudgedRun::Judged { output, tally } => accept(alloc, closed, output, tally, print),
         JudgedRun::Refuted(refutation) => refute(
             alloc,
             closed,
@@ -166,14 +165,20 @@ fn judge_closed(alloc: Global, closed: Closed, print: Printing) -> Result<Answer
 }
 
 // What is due for a run that is what was promised of it.
-fn accept(alloc: Global, closed: Closed, output: Bytes, print: Printing) -> Result<Answer, NoMemory>
+fn accept(
+    alloc: Global,
+    closed: Closed,
+    output: Bytes,
+    tally: Tally,
+    print: Printing,
+) -> Result<Answer, NoMemory>
     requires lawful { Lawful closed.description }
-    requires run { IsRun closed.description closed }
-    requires judged { IsJudged closed.description 40000000000 closed.trace closed.finish output }
+    requires spent { IsSpent closed.description closed.trace closed.finish }
+    requires judged { IsJudged closed.description 40000000000 closed.trace closed.finish output tally }
     ensures causes { IfOk result (λ a. ClusterCauses print a.status closed.description a.closed a.due) }
     ensures kept { IfOk result (λ a. a.closed ≡ Some closed) }
 {
-    let due = printed(alloc, &closed, output, print)?;
+    let due = printed(alloc, &closed, output, tally, print)?;
     Ok(Answer {
         status: status_of(closed.finish),
         due,
@@ -186,19 +191,33 @@ fn printed(
     alloc: Global,
     closed: &Closed,
     output: Bytes,
+    tally: Tally,
     print: Printing,
 ) -> Result<Bytes, NoMemory>
-    requires judged { IsJudged closed.now.description 40000000000 closed.now.trace closed.now.finish output }
+    requires judged { IsJudged closed.now.description 40000000000 closed.now.trace closed.now.finish output tally }
     ensures { IfOk result (λ text. text ≡ printed print closed.now.description closed.now.trace closed.now.finish) }
 {
     match print {
         Printing::Output => Ok(output),
+        Printing::Stats => with_stats(alloc, closed, output),
+        Printing::Summary(count) => {
+            Ok(Bytes::of_vec(summary(alloc, count, tally, closed.finish)?))
+        }
         Printing::History => {
             let journal = closed.trace.journal(alloc)?;
             Ok(Bytes::of_vec(history(alloc, journal.as_slice(), closed.finish)?))
         }
         Printing::Trace => printed_trace(alloc, closed),
     }
+}
+
+// The output of a run, and then the counts of its trace. The one error is want of memory.
+fn with_stats(alloc: Global, closed: &Closed, output: Bytes) -> Result<Bytes, NoMemory>
+    ensures { IfOk result (λ text. text ≡ output ++ stats_of closed.now.trace) }
+{
+    let mut text = output.into_vec();
+    text.extend_from_slice(stats(alloc, &closed.trace)?.as_slice())?;
+    Ok(Bytes::of_vec(text))
 }
 
 // The records of a run, a line each, and why it stopped where a process lives. The one error is want of memory.
@@ -210,17 +229,6 @@ fn printed_trace(alloc: Global, closed: &Closed) -> Result<Bytes, NoMemory>
     Ok(Bytes::of_vec(text))
 }
 
-// Why a run stopped where a process lives.
-fn last_line(finish: Finish) -> &'static [u8]
-    ensures { result.now ≡ last_line finish }
-{
-    match finish {
-        Finish::Budget => b"budget\n",
-        Finish::Stalled => b"stalled\n",
-        Finish::AllEnded | Finish::OutOfMemory | Finish::Running => b"",
-    }
-}
-
 // What is due for a run that isn't what was promised of it.
 fn refute(
     alloc: Global,
@@ -228,6 +236,7 @@ fn refute(
     judged: &JudgedRun,
     print: Printing,
 ) -> Result<Answer, NoMemory>
+    requires spent { IsSpent closed.description closed.trace closed.finish }
     requires judged { JudgesTo closed.description 40000000000 closed.trace closed.finish judged.now }
     requires broken { IsBroken judged.now }
     ensures causes { IfOk result (λ a. ClusterCauses print a.status closed.description a.closed a.due) }

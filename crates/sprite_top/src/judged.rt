@@ -61,7 +61,7 @@ fn refutation_line(alloc: Global, refutation: Refutation) -> Result<Vec<u8>, NoM
 }
 
 // A line that ends with a number.
-fn numbered_line(alloc: Global, words: &[u8], number: u64) -> Result<Vec<u8>, NoMemory>
+pub(crate) fn numbered_line(alloc: Global, words: &[u8], number: u64) -> Result<Vec<u8>, NoMemory>
     ensures { IfOk result (λ line. line.items ≡ numbered_line words.now number) }
 {
     let mut line = Vec::from_slice(alloc, words)?;

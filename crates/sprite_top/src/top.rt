@@ -1,17 +1,18 @@
-ghost use Rattle.std.specs.Prelude.{◌≡◌, ℕ, List, None, IfOk};
+ghost use Rattle.std.specs.Prelude.{◌≡◌, ◌≤◌, ℕ, List, None, IfOk};
 ghost use Rattle.sprite_words.specs.Words.{spelled, IsSpelled};
-ghost use Rattle.sprite_words.specs.declared.Command.TheVariants.{Check};
+ghost use Rattle.sprite_words.specs.declared.Command.TheVariants.{Check, Lend};
 ghost use Rattle.sprite_ids.specs.declared.running.Finish.TheVariants.{AllEnded, Budget as Spent, Stalled as Stopped};
 ghost use Rattle.report_print.specs.Refused.{refusal_line};
 ghost use Rattle.sprite_top.specs.Judged.{TextCauses, judgement_status, verdict_status};
-ghost use Rattle.sprite_top.specs.Top.{TellsFaults, TellsWireOf, AsksFor, IsEnded, IsChecked, IsRefuted, IsRefused, IsUsage, IsReadFault, Causes, FileCauses, Wrote, Broke, status_number};
+ghost use Rattle.sprite_top.specs.Top.{AllWereReached, Completes, IsRunOver, RunsOver, TellsFaults, TellsWireOf, AsksFor, LoadCauses, EventsCauses, RoseForCause, IsEnded, IsChecked, IsLent, IsRefuted, IsRefused, IsUsage, IsReadFault, Causes, FileCauses, Wrote, Broke, status_number};
 
 use crate::clusters::answer_cluster;
-use crate::judged::judgement_line;
+use crate::judged::{judgement_line, numbered_line};
 use call_journal::Closed;
 use cluster_file::{FileEnd, Refusal, read_description};
 use history_check::{Judgement, judge};
 use kernel_threads::Watch;
+use lend_text::{LendError, lend_text};
 use link_plan::Link;
 use one_kernel::Verdict;
 use report_print::refusal_line;
@@ -21,8 +22,9 @@ use sprite_words::{Command, command_of};
 use std::alloc::Global;
 use std::sync::Wait;
 use std::thread::Threads;
+use workload_maker::workload;
 
-/// How many bytes a cluster file may have.
+/// How many bytes a cluster file, or a text of events, may have.
 const FILE_BYTES: usize = 1_048_576;
 
 /// How many bytes a cluster file, a line `=====` and a history may have.
@@ -30,7 +32,7 @@ const TEXT_BYTES: usize = 67_108_864;
 
 /// What is written where the words are no command.
 const USAGE_LINE: &[u8] =
-    b"usage: sprite run | run --seed N | run --stats | history | load N | check | trace\n";
+    b"usage: sprite run | run --seed N | run --stats | history | load N | check | trace | lend\n";
 
 /// What is written for more bytes than the command may read.
 const TOO_LONG_LINE: &[u8] = b"refused: 1\n";
@@ -45,6 +47,8 @@ pub enum Status {
     Ended,
     /// 0: a history was checked, and one Unix kernel gives it.
     Legal,
+    /// 0: a text was read whose lines are of their form, and what answers it was written.
+    Answered,
     /// 1: the bytes read are not of the command's form.
     Refused,
     /// 2: the words are no command.
@@ -82,6 +86,10 @@ pub enum Turns {
 pub enum Printing {
     /// `run`: what each process printed and how it ended.
     Output,
+    /// `run --stats`: that, and the counts of the trace's records.
+    Stats,
+    /// `load N`: how many processes the workload has, how many of them ended well, and how many bytes they printed.
+    Summary(u8),
     /// `history`: the entries of the run's journal, a line each.
     History,
     /// `trace`: the records of the run, a line each.
@@ -108,12 +116,14 @@ pub struct Answer {
 
 /// Does the command that the words spell with what the source holds, and writes to the sink.
 ///
-/// The words are those behind the program's name. So far there are these commands: `run`, `run --seed N`, `history` and `trace` run the
-/// cluster of a cluster file and print its output, its journal or its trace, and `check` judges a history, which stands behind a
-/// cluster file and a line `=====`, against the one-kernel Unix, without running a cluster. A cluster is run by a thread for each of
+/// The words are those behind the program's name: `run`, `run --seed N`, `run --stats`, `history` and `trace` run the cluster of a
+/// cluster file and print its output, that and the counts of its trace, its journal or its trace, and `check` judges a history, which
+/// stands behind a cluster file and a line `=====`, against the one-kernel Unix, without running a cluster; `load N` runs a workload of N
+/// processes and prints its summary; `lend` answers a text of events of hosts that are lent. A cluster is run by a thread for each of
 /// its kernels, which tell `watch` where they are; by one thread, which tells nothing, where there is a seed. It may wait for ever.
-/// All that is due is made before its first byte is written. Want of memory may come at any point before, and then nothing is written. Where a source or a
-/// sink tells nothing of its bytes, the clauses say that some bytes were read or written so.
+/// All that is due is made before its first byte is written. Want of memory may come at any point before, and then nothing is
+/// written. Where a source or a sink tells nothing of its bytes, the clauses say that some bytes were read or written so.
+#[tactic(auto, using(crate::proofs::CauseLaws::run_over, crate::proofs::CauseLaws::counted_over, crate::proofs::CauseLaws::wire_over, crate::proofs::CompleteLaws::broken_completes, crate::proofs::CompleteLaws::wanting_completes))]
 pub fn sprite<R: Threads + Wait + Sync, S: Source, K: Sink, L: Link + Send, W: Watch + Sync>(
     rt: &R,
     alloc: Global,
@@ -130,13 +140,18 @@ pub fn sprite<R: Threads + Wait + Sync, S: Source, K: Sink, L: Link + Send, W: W
     ensures legal { result.status ≡ Status.Legal → Wrote (K.held sink.old) (K.held sink.new) (IsChecked Status.Legal (spelled words.now) (S.left source.old) (S.left source.new) result.closed) }
     ensures not_legal { result.status ≡ Status.NotLegal → Wrote (K.held sink.old) (K.held sink.new) (IsChecked Status.NotLegal (spelled words.now) (S.left source.old) (S.left source.new) result.closed) }
     ensures steps { result.status ≡ Status.Steps → Wrote (K.held sink.old) (K.held sink.new) (IsChecked Status.Steps (spelled words.now) (S.left source.old) (S.left source.new) result.closed) }
+    ensures answered { result.status ≡ Status.Answered → Wrote (K.held sink.old) (K.held sink.new) (IsLent (spelled words.now) (S.left source.old) (S.left source.new) result.closed) }
     ensures refused { result.status ≡ Status.Refused → Wrote (K.held sink.old) (K.held sink.new) (IsRefused (spelled words.now) (S.left source.old) (S.left source.new) result.closed) }
     ensures usage { result.status ≡ Status.Usage → Wrote (K.held sink.old) (K.held sink.new) (IsUsage (spelled words.now) (S.left source.old) (S.left source.new) (S.faults source.old) (S.faults source.new) result.closed) }
     ensures read_fault { result.status ≡ Status.ReadFault → Wrote (K.held sink.old) (K.held sink.new) (IsReadFault (spelled words.now) (S.faults source.old) (S.faults source.new) result.closed) }
     ensures no_memory { result.status ≡ Status.NoMemory → (K.held sink.new ≡ K.held sink.old) × (result.closed ≡ None) }
     ensures write_fault { result.status ≡ Status.WriteFault → Broke (K.held sink.old) (K.held sink.new) (K.faults sink.old) (K.faults sink.new) (λ status. Causes status (spelled words.now) (S.left source.old) (S.left source.new) (S.faults source.old) (S.faults source.new) result.closed) }
+    ensures run { IsRunOver L.faults L.asked link result.link result.closed }
     ensures faults { TellsFaults L.faults link result.link result.closed }
     ensures wire { TellsWireOf L.faults L.asked link result.link result.closed }
+    ensures rose { RoseForCause L.faults link result.link result.closed }
+    ensures reached { AllWereReached L.faults link result.link result.closed }
+    ensures complete { Completes result.status (spelled words.now) (S.left source.old) (S.faults source.old) (S.faults source.new) (K.faults sink.old) (K.faults sink.new) }
 {
     let (answer, link) = answer_to(rt, alloc, words, source, link, watch);
     let Ok(answer) = answer else {
@@ -161,7 +176,7 @@ pub fn sprite<R: Threads + Wait + Sync, S: Source, K: Sink, L: Link + Send, W: W
 }
 
 /// What is due for these words and this source, and the link. The one error is want of memory.
-#[tactic(auto, using(crate::proofs::TopLaws::none_tells, crate::proofs::TopLaws::none_of_wire))]
+#[tactic(auto, using(crate::proofs::TopLaws::none_over, crate::proofs::TopLaws::from_load))]
 fn answer_to<R: Threads + Wait + Sync, S: Source, L: Link + Send, W: Watch + Sync>(
     rt: &R,
     alloc: Global,
@@ -171,8 +186,7 @@ fn answer_to<R: Threads + Wait + Sync, S: Source, L: Link + Send, W: Watch + Syn
     watch: &W,
 ) -> (Result<Answer, NoMemory>, L)
     ensures causes { IfOk result.0 (λ a. Causes a.status (spelled words.now) (S.left source.old) (S.left source.new) (S.faults source.old) (S.faults source.new) a.closed a.due) }
-    ensures faults { IfOk result.0 (λ a. TellsFaults L.faults link result.1 a.closed) }
-    ensures wire { IfOk result.0 (λ a. TellsWireOf L.faults L.asked link result.1 a.closed) }
+    ensures over { IfOk result.0 (λ a. RunsOver L.faults L.asked link result.1 a.closed) }
 {
     match command_of(words) {
         Some(Command::Run) => {
@@ -193,6 +207,17 @@ fn answer_to<R: Threads + Wait + Sync, S: Source, L: Link + Send, W: Watch + Syn
                 source,
                 Printing::Output,
                 Turns::Seeded(seed),
+                link,
+                watch,
+            )
+        }
+        Some(Command::RunStats) => {
+            answer_run(
+                rt,
+                alloc,
+                source,
+                Printing::Stats,
+                Turns::Threads,
                 link,
                 watch,
             )
@@ -219,7 +244,9 @@ fn answer_to<R: Threads + Wait + Sync, S: Source, L: Link + Send, W: Watch + Syn
                 watch,
             )
         }
+        Some(Command::Load(count)) => answer_load(rt, alloc, count, link, watch),
         Some(Command::Check) => (answer_check(alloc, source), link),
+        Some(Command::Lend) => (answer_lend(alloc, source), link),
         None => (refuse(alloc, Status::Usage, USAGE_LINE), link),
     }
 }
@@ -235,14 +262,41 @@ fn answer_run<R: Threads + Wait + Sync, S: Source, L: Link + Send, W: Watch + Sy
     watch: &W,
 ) -> (Result<Answer, NoMemory>, L)
     ensures causes { (words : List (List ℕ)) → AsksFor print words → IfOk result.0 (λ a. Causes a.status words (S.left source.old) (S.left source.new) (S.faults source.old) (S.faults source.new) a.closed a.due) }
-    ensures faults { IfOk result.0 (λ a. TellsFaults L.faults link result.1 a.closed) }
-    ensures wire { IfOk result.0 (λ a. TellsWireOf L.faults L.asked link result.1 a.closed) }
+    ensures over { IfOk result.0 (λ a. RunsOver L.faults L.asked link result.1 a.closed) }
 {
     match read_all(alloc, source, FILE_BYTES) {
         Ok(bytes) => answer_file(rt, alloc, bytes.as_slice(), print, turns, link, watch),
         Err(ReadEnd::TooLong) => (refuse(alloc, Status::Refused, TOO_LONG_LINE), link),
         Err(ReadEnd::Fault { .. }) => (refuse(alloc, Status::ReadFault, FAULT_LINE), link),
         Err(ReadEnd::NoMemory) => (Err(NoMemory), link),
+    }
+}
+
+/// What is due for a workload of that many processes, and the link. The one error is want of memory.
+fn answer_load<R: Threads + Wait + Sync, L: Link + Send, W: Watch + Sync>(
+    rt: &R,
+    alloc: Global,
+    count: u8,
+    link: L,
+    watch: &W,
+) -> (Result<Answer, NoMemory>, L)
+    requires { (1 ≤ count) × (count ≤ 64) }
+    ensures causes { IfOk result.0 (λ a. LoadCauses count a.status a.closed a.due) }
+    ensures over { IfOk result.0 (λ a. RunsOver L.faults L.asked link result.1 a.closed) }
+{
+    match workload(alloc, count) {
+        Ok(description) => {
+            answer_cluster(
+                rt,
+                alloc,
+                description,
+                Printing::Summary(count),
+                Turns::Threads,
+                link,
+                watch,
+            )
+        }
+        Err(NoMemory) => (Err(NoMemory), link),
     }
 }
 
@@ -256,6 +310,40 @@ fn answer_check<S: Source>(alloc: Global, source: &mut S) -> Result<Answer, NoMe
         Err(ReadEnd::TooLong) => refuse(alloc, Status::Refused, TOO_LONG_LINE),
         Err(ReadEnd::Fault { .. }) => refuse(alloc, Status::ReadFault, FAULT_LINE),
         Err(ReadEnd::NoMemory) => Err(NoMemory),
+    }
+}
+
+/// What is due for the word `lend` and this source. The one error is want of memory.
+fn answer_lend<S: Source>(alloc: Global, source: &mut S) -> Result<Answer, NoMemory>
+    ensures no_run { IfOk result (λ a. a.closed ≡ None) }
+    ensures causes { (words : List (List ℕ)) → IsSpelled Lend words → IfOk result (λ a. Causes a.status words (S.left source.old) (S.left source.new) (S.faults source.old) (S.faults source.new) a.closed a.due) }
+{
+    match read_all(alloc, source, FILE_BYTES) {
+        Ok(bytes) => answer_events(alloc, bytes.as_slice()),
+        Err(ReadEnd::TooLong) => refuse(alloc, Status::Refused, TOO_LONG_LINE),
+        Err(ReadEnd::Fault { .. }) => refuse(alloc, Status::ReadFault, FAULT_LINE),
+        Err(ReadEnd::NoMemory) => Err(NoMemory),
+    }
+}
+
+/// What is due for a whole text of events of hosts. The one error is want of memory.
+fn answer_events(alloc: Global, text: &[u8]) -> Result<Answer, NoMemory>
+    ensures no_run { IfOk result (λ a. a.closed ≡ None) }
+    ensures causes { IfOk result (λ a. EventsCauses a.status text.now a.closed a.due) }
+{
+    match lend_text(alloc, text) {
+        Ok(answers) => {
+            Ok(Answer {
+                status: Status::Answered,
+                due: Bytes::of_vec(answers),
+                closed: None,
+            })
+        }
+        Err(LendError::Line(number)) => {
+            let line = numbered_line(alloc, b"refused: 15 line ", number as u64)?;
+            refuse(alloc, Status::Refused, line.as_slice())
+        }
+        Err(LendError::NoMemory) => Err(NoMemory),
     }
 }
 
@@ -313,8 +401,7 @@ fn answer_file<R: Threads + Wait + Sync, L: Link + Send, W: Watch + Sync>(
     watch: &W,
 ) -> (Result<Answer, NoMemory>, L)
     ensures causes { IfOk result.0 (λ a. FileCauses print a.status bytes.now a.closed a.due) }
-    ensures faults { IfOk result.0 (λ a. TellsFaults L.faults link result.1 a.closed) }
-    ensures wire { IfOk result.0 (λ a. TellsWireOf L.faults L.asked link result.1 a.closed) }
+    ensures over { IfOk result.0 (λ a. RunsOver L.faults L.asked link result.1 a.closed) }
 {
     match read_description(alloc, bytes) {
         Ok(description) => { answer_cluster(rt, alloc, description, print, turns, link, watch) }
@@ -339,6 +426,7 @@ impl Status {
         match self {
             Status::Ended => 0,
             Status::Legal => 0,
+            Status::Answered => 0,
             Status::Refused => 1,
             Status::Usage => 2,
             Status::ReadFault => 3,

@@ -3,18 +3,21 @@ use Rattle.std.proofs.Common.{arith, codes, ◌≡◌, ℕ, ◌+◌, ◌-◌, �
 use Rattle.std.specs.List.{list_all}
 use Rattle.sprite_words.specs.declared.command.Command.{Command}
 use Rattle.sprite_words.specs.declared.command.Command.TheVariants as command
-use Rattle.sprite_words.specs.Words.{IsNext, IsNumber, IsNumberOf, IsSpelled, Spells, is_digit, value_from}
+use Rattle.sprite_words.specs.Words.{IsCount, IsCountOf, IsNext, IsNumber, IsNumberOf, IsSpelled, Spells, is_digit, value_from}
 
 only_word : (a b : List ℕ) → a ∷ [] ≡ b ∷ [] → a ≡ b
 only_word a b e = cc
 
--- one word that is none of the four
-pub no_word : (word : List ℕ) → (word ≡ codes "run" → ⊥) → (word ≡ codes "history" → ⊥) → (word ≡ codes "check" → ⊥) → (word ≡ codes "trace" → ⊥) → (some : Command) → IsSpelled some (word ∷ []) → ⊥
-no_word word run history check trace command.Run is = run (only_word word (codes "run") is)
-no_word word run history check trace (command.RunSeed seed) is = absurd (cc (is.words_are))
-no_word word run history check trace command.History is = history (only_word word (codes "history") is)
-no_word word run history check trace command.Check is = check (only_word word (codes "check") is)
-no_word word run history check trace command.Trace is = trace (only_word word (codes "trace") is)
+-- one word that is none of the five
+pub no_word : (word : List ℕ) → (word ≡ codes "run" → ⊥) → (word ≡ codes "history" → ⊥) → (word ≡ codes "check" → ⊥) → (word ≡ codes "trace" → ⊥) → (word ≡ codes "lend" → ⊥) → (some : Command) → IsSpelled some (word ∷ []) → ⊥
+no_word word run history check trace lend command.Run is = run (only_word word (codes "run") is)
+no_word word run history check trace lend (command.RunSeed seed) is = absurd (cc (is.words_are))
+no_word word run history check trace lend command.RunStats is = absurd (cc)
+no_word word run history check trace lend command.History is = history (only_word word (codes "history") is)
+no_word word run history check trace lend (command.Load count) is = absurd (cc (is.words_are))
+no_word word run history check trace lend command.Check is = check (only_word word (codes "check") is)
+no_word word run history check trace lend command.Trace is = trace (only_word word (codes "trace") is)
+no_word word run history check trace lend command.Lend is = lend (only_word word (codes "lend") is)
 
 first_word : (a b c x y z : List ℕ) → a ∷ b ∷ c ∷ [] ≡ x ∷ y ∷ z ∷ [] → a ≡ x
 first_word a b c x y z e = cc
@@ -25,28 +28,73 @@ second_word a b c x y z e = cc
 third_word : (a b c x y z : List ℕ) → a ∷ b ∷ c ∷ [] ≡ x ∷ y ∷ z ∷ [] → c ≡ z
 third_word a b c x y z e = cc
 
+first_of_two : (a b x y : List ℕ) → a ∷ b ∷ [] ≡ x ∷ y ∷ [] → a ≡ x
+first_of_two a b x y e = cc
+
+second_of_two : (a b x y : List ℕ) → a ∷ b ∷ [] ≡ x ∷ y ∷ [] → b ≡ y
+second_of_two a b x y e = cc
+
+-- two words that are neither those of the counts nor begin as a load
+pub no_pair : (a b : List ℕ) → ((a ≡ codes "run") × (b ≡ codes "--stats") → ⊥) → (a ≡ codes "load" → ⊥) → (some : Command) → IsSpelled some (a ∷ b ∷ []) → ⊥
+no_pair a b stats load command.Run is = absurd (cc)
+no_pair a b stats load (command.RunSeed seed) is = absurd (cc (is.words_are))
+no_pair a b stats load command.RunStats is = stats (first_of_two a b (codes "run") (codes "--stats") is, second_of_two a b (codes "run") (codes "--stats") is)
+no_pair a b stats load command.History is = absurd (cc)
+no_pair a b stats load (command.Load count) is = load (first_of_two a b (codes "load") is.digits is.words_are)
+no_pair a b stats load command.Check is = absurd (cc)
+no_pair a b stats load command.Trace is = absurd (cc)
+no_pair a b stats load command.Lend is = absurd (cc)
+
+-- or end with no count
+pub no_load : (a b : List ℕ) → ((a ≡ codes "run") × (b ≡ codes "--stats") → ⊥) → IsCountOf b None → (some : Command) → IsSpelled some (a ∷ b ∷ []) → ⊥
+no_load a b stats none command.Run is = absurd (cc)
+no_load a b stats none (command.RunSeed seed) is = absurd (cc (is.words_are))
+no_load a b stats none command.RunStats is = stats (first_of_two a b (codes "run") (codes "--stats") is, second_of_two a b (codes "run") (codes "--stats") is)
+no_load a b stats none command.History is = absurd (cc)
+no_load a b stats none (command.Load count) is = none count (subst (λ (digits : List ℕ). IsCount digits count) (sym (second_of_two a b (codes "load") is.digits is.words_are)) is.counts)
+no_load a b stats none command.Check is = absurd (cc)
+no_load a b stats none command.Trace is = absurd (cc)
+no_load a b stats none command.Lend is = absurd (cc)
+
+-- what spells no number spells no count
+pub no_count : (digits : List ℕ) → IsNumberOf digits None → IsCountOf digits None
+no_count digits none count is = none count is.number
+
+-- nor does what spells a number that is none
+pub far_count : (digits : List ℕ) (number : ℕ) → IsNumber digits number → ((1 ≤ number) × (number ≤ 64) → ⊥) → IsCountOf digits None
+far_count digits number is far count counts = far (subst (λ n. (1 ≤ n) × (n ≤ 64)) (counts.number.spells.is ∙ sym is.spells.is) (counts.low, counts.high))
+
 -- three words that don't begin so
 pub no_first : (a b c : List ℕ) → (a ≡ codes "run" → ⊥) → (some : Command) → IsSpelled some (a ∷ b ∷ c ∷ []) → ⊥
 no_first a b c other command.Run is = absurd (cc)
 no_first a b c other (command.RunSeed seed) is = other (first_word a b c (codes "run") (codes "--seed") is.digits is.words_are)
+no_first a b c other command.RunStats is = absurd (cc)
 no_first a b c other command.History is = absurd (cc)
+no_first a b c other (command.Load count) is = absurd (cc (is.words_are))
 no_first a b c other command.Check is = absurd (cc)
 no_first a b c other command.Trace is = absurd (cc)
+no_first a b c other command.Lend is = absurd (cc)
 
 pub no_second : (a b c : List ℕ) → (b ≡ codes "--seed" → ⊥) → (some : Command) → IsSpelled some (a ∷ b ∷ c ∷ []) → ⊥
 no_second a b c other command.Run is = absurd (cc)
 no_second a b c other (command.RunSeed seed) is = other (second_word a b c (codes "run") (codes "--seed") is.digits is.words_are)
+no_second a b c other command.RunStats is = absurd (cc)
 no_second a b c other command.History is = absurd (cc)
+no_second a b c other (command.Load count) is = absurd (cc (is.words_are))
 no_second a b c other command.Check is = absurd (cc)
 no_second a b c other command.Trace is = absurd (cc)
+no_second a b c other command.Lend is = absurd (cc)
 
 -- or end with no number
 pub no_number : (a b c : List ℕ) → IsNumberOf c None → (some : Command) → IsSpelled some (a ∷ b ∷ c ∷ []) → ⊥
 no_number a b c none command.Run is = absurd (cc)
 no_number a b c none (command.RunSeed seed) is = none seed (subst (λ (digits : List ℕ). IsNumber digits seed) (sym (third_word a b c (codes "run") (codes "--seed") is.digits is.words_are)) is.number)
+no_number a b c none command.RunStats is = absurd (cc)
 no_number a b c none command.History is = absurd (cc)
+no_number a b c none (command.Load count) is = absurd (cc (is.words_are))
 no_number a b c none command.Check is = absurd (cc)
 no_number a b c none command.Trace is = absurd (cc)
+no_number a b c none command.Lend is = absurd (cc)
 
 -- what digits spell is no less than what stands before them
 pub grows : (value : ℕ) (digits : List ℕ) → value ≤ value_from value digits

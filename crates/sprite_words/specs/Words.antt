@@ -40,6 +40,23 @@ abbrev pub IsNumberOf : List ℕ → Option ℕ → Type 0
 IsNumberOf digits None = (number : ℕ) → IsNumber digits number → ⊥
 IsNumberOf digits (Some number) = IsNumber digits number
 
+-- 1 to 20 digits spell that number from 1 to 64
+pub record IsCount (digits : List ℕ) (count : ℕ) : Type 0 where
+  pub number : IsNumber digits count
+  pub low : 1 ≤ count
+  pub high : count ≤ 64
+
+-- the number from 1 to 64 that a text spells; none exactly where it spells none
+abbrev pub IsCountOf : List ℕ → Option ℕ → Type 0
+IsCountOf digits None = (count : ℕ) → IsCount digits count → ⊥
+IsCountOf digits (Some count) = IsCount digits count
+
+-- the words of `load N`
+pub record IsLoad (words : List (List ℕ)) (count : ℕ) : Type 0 where
+  pub digits : List ℕ
+  pub words_are : words ≡ codes "load" ∷ digits ∷ []
+  pub counts : IsCount digits count
+
 -- the words of `run --seed N`
 pub record IsSeeded (words : List (List ℕ)) (seed : ℕ) : Type 0 where
   pub digits : List ℕ
@@ -50,9 +67,12 @@ pub record IsSeeded (words : List (List ℕ)) (seed : ℕ) : Type 0 where
 abbrev pub IsSpelled : Command → List (List ℕ) → Type 0
 IsSpelled command.Run words = words ≡ codes "run" ∷ []
 IsSpelled (command.RunSeed seed) words = IsSeeded words seed
+IsSpelled command.RunStats words = words ≡ codes "run" ∷ codes "--stats" ∷ []
 IsSpelled command.History words = words ≡ codes "history" ∷ []
+IsSpelled (command.Load count) words = IsLoad words count
 IsSpelled command.Check words = words ≡ codes "check" ∷ []
 IsSpelled command.Trace words = words ≡ codes "trace" ∷ []
+IsSpelled command.Lend words = words ≡ codes "lend" ∷ []
 
 -- the command that words spell; none exactly where they spell none
 abbrev pub ComesTo : List (List ℕ) → Option Command → Type 0

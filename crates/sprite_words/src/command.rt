@@ -1,7 +1,7 @@
 ghost use Rattle.std.specs.Prelude.{◌≡◌, ◌↔◌, ◌∷◌, [], IsTrue, string_bytes};
 ghost use Rattle.sprite_words.specs.Words.{ComesTo, spelled};
 
-use crate::number::number_of;
+use crate::number::{count_of, number_of};
 
 /// A command of the program (this project).
 #[derive(Clone, Copy, Debug, PartialEq, Eq)]
@@ -10,21 +10,28 @@ pub enum Command {
     Run,
     /// `run --seed N`: the same, with what happens next taken by a generator that the number seeds.
     RunSeed(u64),
+    /// `run --stats`: the same as `run`, with the counts of the trace's records behind the output.
+    RunStats,
     /// `history`: the same as `run`, with the journal printed.
     History,
+    /// `load N`: a workload of 1 to 64 processes is run, and its summary printed.
+    Load(u8),
     /// `check`: a history is judged.
     Check,
     /// `trace`: the same as `run`, with the trace printed.
     Trace,
+    /// `lend`: the events of a daemon that lends idle hosts are answered.
+    Lend,
 }
 
-/// The command that the words behind the program's name spell; None exactly where they spell none. The number of `run --seed` has 1 to
-/// 20 digits and is at most 2^64 - 1.
+/// The command that the words behind the program's name spell; None exactly where they spell none. The numbers of `run --seed` and `load`
+/// have 1 to 20 digits; that of `run --seed` is at most 2^64 - 1, that of `load` 1 to 64.
 pub fn command_of(words: &[String]) -> Option<Command>
     ensures { ComesTo (spelled words.now) result }
 {
     match words {
         [word] => one_word(word),
+        [first, second] => two_words(first, second),
         [first, second, number] => three_words(first, second, number),
         _ => None,
     }
@@ -47,7 +54,27 @@ fn one_word(word: &String) -> Option<Command>
     if is_word(word, "trace") {
         return Some(Command::Trace);
     }
+    if is_word(word, "lend") {
+        return Some(Command::Lend);
+    }
     None
+}
+
+// The command of two words.
+#[tactic(auto, using(crate::proofs::WordLaws::no_pair, crate::proofs::WordLaws::no_load))]
+fn two_words(first: &String, second: &String) -> Option<Command>
+    ensures { ComesTo (string_bytes first.now ∷ string_bytes second.now ∷ []) result }
+{
+    if is_word(first, "run") && is_word(second, "--stats") {
+        return Some(Command::RunStats);
+    }
+    if !is_word(first, "load") {
+        return None;
+    }
+    match count_of(second.as_bytes()) {
+        Some(count) => Some(Command::Load(count)),
+        None => None,
+    }
 }
 
 // The command of three words.

@@ -1,5 +1,5 @@
 ghost use Rattle.std.specs.Prelude.{◌≡◌, ◌∷◌, []};
-ghost use Rattle.sprite_words.specs.Words.{IsNext, IsNumberOf, value_from};
+ghost use Rattle.sprite_words.specs.Words.{IsCountOf, IsNext, IsNumberOf, value_from};
 
 /// The number that 1 to 20 digits spell; None exactly where these bytes are no such digits, or spell 2^64 or more.
 pub(crate) fn number_of(digits: &[u8]) -> Option<u64>
@@ -9,6 +9,20 @@ pub(crate) fn number_of(digits: &[u8]) -> Option<u64>
         return None;
     }
     value_of(digits)
+}
+
+/// The number from 1 to 64 that 1 to 20 digits spell; None exactly where these bytes spell none.
+#[tactic(auto, using(crate::proofs::WordLaws::no_count, crate::proofs::WordLaws::far_count))]
+pub(crate) fn count_of(digits: &[u8]) -> Option<u8>
+    ensures { IsCountOf digits.now result }
+{
+    let Some(number) = number_of(digits) else {
+        return None;
+    };
+    if number < 1 || number > 64 {
+        return None;
+    }
+    Some(number as u8)
 }
 
 // The number that the digits spell.

@@ -1,0 +1,46 @@
+-- Words spell one command at most.
+use Rattle.std.proofs.Common.{codes, ◌≡◌, ℕ, ◌+◌, ◌*◌, List, [], ◌∷◌, refl, sym, ap, ◌∙◌}
+use Rattle.sprite_words.specs.declared.command.Command.{Command}
+use Rattle.sprite_words.specs.declared.command.Command.TheVariants as command
+use Rattle.sprite_words.specs.Words.{IsSpelled}
+
+-- what tells the words of commands apart: how many there are, and the first byte
+count_of : List (List ℕ) → ℕ
+count_of [] = 0
+count_of (word ∷ []) = 1
+count_of (word ∷ second ∷ []) = 2
+count_of (word ∷ second ∷ third ∷ rest) = 3
+
+first_byte : List (List ℕ) → ℕ
+first_byte [] = 0
+first_byte ([] ∷ rest) = 0
+first_byte ((byte ∷ bytes) ∷ rest) = byte
+
+told_by : List (List ℕ) → ℕ
+told_by words = count_of words * 1000 + first_byte words
+
+-- a number for each form of commands
+abbrev pub form_of : Command → ℕ
+form_of command.Run = 1114
+form_of (command.RunSeed seed) = 3114
+form_of command.RunStats = 2114
+form_of command.History = 1104
+form_of (command.Load count) = 2108
+form_of command.Check = 1099
+form_of command.Trace = 1116
+form_of command.Lend = 1108
+
+form_is : (one : Command) (words : List (List ℕ)) → IsSpelled one words → told_by words ≡ form_of one
+unfolding told_by count_of first_byte
+form_is command.Run words is = ap told_by is
+form_is (command.RunSeed seed) words is = ap told_by is.words_are
+form_is command.RunStats words is = ap told_by is
+form_is command.History words is = ap told_by is
+form_is (command.Load count) words is = ap told_by is.words_are
+form_is command.Check words is = ap told_by is
+form_is command.Trace words is = ap told_by is
+form_is command.Lend words is = ap told_by is
+
+-- two commands that the same words spell have one form
+pub one_form : (a b : Command) (words : List (List ℕ)) → IsSpelled a words → IsSpelled b words → form_of a ≡ form_of b
+one_form a b words is that = sym (form_is a words is) ∙ form_is b words that
