@@ -1,0 +1,10 @@
+pub mod BornLaws
+pub mod EntryLaws
+pub mod HomeCallLaws
+pub mod HomeLaws
+pub mod KillLaws
+pub mod LeadLaws
+pub mod StartLaws
+pub mod TellLaws
+pub mod WaitCallLaws
+pub mod WaitLaws

@@ -1,0 +1,10 @@
+//! A home's table of its processes against the one-kernel Unix: what it answers is what one kernel answers, and it tells the same
+//! afterwards (this project).
+#![tactic(auto)]
+
+mod laws;
+
+pub use laws::{
+    deaths_as_one, homes_answer_as_one, kills_as_one, starts_as_one, tables_go_on, tables_tell,
+    waits_are_blocked,
+};

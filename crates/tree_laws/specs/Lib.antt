@@ -1,0 +1,5 @@
+pub mod GoOn
+pub mod Laws
+pub mod Renames
+pub mod Trees
+pub mod Wellnamed

@@ -1,0 +1,4 @@
+pub mod ChangeLaws
+pub mod FrameLaws
+pub mod OrderLaws
+pub mod StepLaws
