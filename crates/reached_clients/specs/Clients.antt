@@ -1,0 +1,68 @@
+-- What is true of each client of a reached cluster.
+use Rattle.std.specs.Prelude.{◌≡◌, ℕ, ◌+◌, List, [], ◌∷◌, Some}
+use Rattle.kernel_rpc.specs.declared.PacketCopy.{PacketCopy}
+use Rattle.kernel_rpc.specs.Machine.{arrival}
+use Rattle.kernel_steps.specs.declared.Input.{Input}
+use Rattle.unix_calls.specs.declared.Description.{Description}
+use Rattle.client_homes.specs.declared.ClientProcs.{ClientProcs}
+use Rattle.cluster_wire.specs.declared.Arrived.TheVariants as arrived
+use Rattle.cluster_wire.specs.Arriving.{Brings, copy_to}
+use Rattle.cluster_kernels.specs.declared.KernelState.{KernelState}
+use Rattle.cluster_kernels.specs.declared.KernelState.TheVariants as kernels
+use Rattle.cluster_kernels.specs.declared.State.{State}
+use Rattle.cluster_kernels.specs.States.{client_at}
+use Rattle.cluster_choices.specs.declared.Choice.{Choice}
+use Rattle.cluster_choices.specs.declared.Choice.TheVariants as choices
+use Rattle.client_constants.specs.Constants.{KnowsItsCluster}
+use Rattle.client_facts.specs.HomeFacts.{HomeIsOwn}
+use Rattle.client_walks.specs.Hands.{brought}
+use Rattle.client_walks.specs.PlacesOnce.{InHand, PlacesAreOnce}
+use Rattle.sprite_cluster.specs.Reached.{At, Begins, Change, Chose, Goes, Reached}
+
+-- a fact of a client and of its number, of a kernel that is one
+abbrev pub OfClient : (ℕ → ClientProcs → Type 0) → ℕ → KernelState → Type 0
+OfClient P kernel (kernels.Client client) = P kernel client
+OfClient P kernel (kernels.Server server) = Unit {0}
+
+-- and of all kernels from that number on
+abbrev pub OfClients : (ℕ → ClientProcs → Type 0) → ℕ → List KernelState → Type 0
+OfClients P kernel [] = Unit {0}
+OfClients P kernel (state ∷ states) = OfClient P kernel state × OfClients P (kernel + 1) states
+
+-- each client of a reached cluster knows its number, the kernels and programs of its cluster, where pages are kept, and that it is the
+-- home of its processes
+abbrev pub ClientsKnowTheirCluster : {L : Type 0} → (L → ℕ → ℕ → ℕ) → (L → ℕ → ℕ → ℕ) → Type 0
+ClientsKnowTheirCluster {L} faults asked = (c : Description) (begun : L) (now : At L) → Reached faults asked c begun now → OfClients (KnowsItsCluster c) 1 now.state.kernels
+
+-- so the home in each is the kernel's own
+abbrev pub HomesAreOwn : {L : Type 0} → (L → ℕ → ℕ → ℕ) → (L → ℕ → ℕ → ℕ) → Type 0
+HomesAreOwn {L} faults asked = (c : Description) (begun : L) (now : At L) → Reached faults asked c begun now → OfClients (λ kernel client. HomeIsOwn client) 1 now.state.kernels
+
+-- each process stands in at most one place of each client
+abbrev pub PlacesAreOnceAtEach : State → Type 0
+PlacesAreOnceAtEach s = OfClients (λ kernel client. PlacesAreOnce client) 1 s.kernels
+
+-- what an input brings to a kernel that is a client is new there
+abbrev pub IsNewAt : ℕ → Input → State → Type 0
+IsNewAt kernel input s = (client : ClientProcs) → client_at kernel s ≡ Some client → InHand (brought input client) client
+
+-- so is what comes by a choice: whatever a copy brings that is in flight to the kernel
+abbrev pub BringsNew : {L : Type 0} → ℕ → Choice → At L → Type 0
+BringsNew {L} kernel (choices.Deliver number) old =
+    (copy : PacketCopy) (input : Input) → copy_to kernel old.wire.machine number ≡ Some copy → Brings (arrival old.wire.machine copy) old.wire.machine copy (arrived.Message input) → IsNewAt kernel input old.state
+BringsNew {L} kernel choice old = Unit {0}
+
+-- and by a change
+abbrev pub ChangeBringsNew : {L : Type 0} → Change → At L → Type 0
+ChangeBringsNew {L} (Chose kernel choice) old = BringsNew kernel choice old
+ChangeBringsNew {L} change old = Unit {0}
+
+-- one change after the other, each of which brings what is new
+abbrev pub GoesNew : {L : Type 0} → (L → ℕ → ℕ → ℕ) → (L → ℕ → ℕ → ℕ) → Description → List Change → At L → At L → Type 0
+GoesNew {L} faults asked c [] old now = old ≡ now
+GoesNew {L} faults asked c (change ∷ changes) old now = (between : At L) × Goes faults asked c change old between × ChangeBringsNew change old × GoesNew faults asked c changes between now
+
+-- in each cluster that is reached so, a process stands in at most one place of each client
+abbrev pub PlacesStayOnce : {L : Type 0} → (L → ℕ → ℕ → ℕ) → (L → ℕ → ℕ → ℕ) → Type 0
+PlacesStayOnce {L} faults asked =
+    (c : Description) (begun : L) (changes : List Change) (first now : At L) → Begins faults asked c begun first → GoesNew faults asked c changes first now → PlacesAreOnceAtEach now.state

@@ -1,0 +1,21 @@
+ghost use Rattle.reached_clients.specs.Clients.{ClientsKnowTheirCluster, HomesAreOwn, PlacesStayOnce};
+
+use link_plan::Link;
+
+/// A law: each client of a reached cluster knows its own number, the kernels and programs of the description, the server that keeps
+/// pages, and that it is the home of its processes (this project).
+pub fn clients_know_their_cluster<L: Link>()
+    ensures { ClientsKnowTheirCluster L.faults L.asked }
+{}
+
+/// A law: so the home in each is the kernel's own.
+pub fn homes_are_own<L: Link>()
+    ensures { HomesAreOwn L.faults L.asked }
+{}
+
+/// A law: in a cluster that is reached by changes which bring to each client only what is new there, a process stands in at most one
+/// place of each client (this project). What is new: a process that a request brings was born, and the child that an answered `fork`
+/// brings is neither there nor leaves.
+pub fn places_stay_once<L: Link>()
+    ensures { PlacesStayOnce L.faults L.asked }
+{}

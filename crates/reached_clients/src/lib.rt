@@ -1,0 +1,6 @@
+//! Laws of the clients of each cluster that a run reaches, from its boot on by changes of its kernels.
+#![tactic(auto)]
+
+mod laws;
+
+pub use laws::{clients_know_their_cluster, homes_are_own, places_stay_once};
