@@ -1,0 +1,4 @@
+pub mod Frames
+pub mod Gathering
+pub mod Pieces
+pub mod Runs
