@@ -1,5 +1,5 @@
 -- Clusters that are run by chance, with bursts held.
-use Rattle.std.proofs.Common.{arith, ◌≡◌, ℕ, ◌<◌, ◌≤◌, ◌-◌, Bool, true, false, List, [], ◌∷◌, ◌++◌, All, length, Result, Ok, Err, OnErr, refl, sym, ap, subst, if◌then◌else◌, slice_index_or}
+use Rattle.std.proofs.Common.{arith, ◌≡◌, ℕ, ◌<◌, ◌≤◌, ◌-◌, Bool, true, false, List, [], ◌∷◌, ◌++◌, All, length, Option, Some, IfSome, Result, Ok, Err, OnErr, refl, sym, ap, subst, if◌then◌else◌, slice_index_or}
 use Rattle.std.specs.List.{swap_remove}
 use Rattle.std.proofs.lemmas.List.Elements.{All-get_or, All-push, All-same, All-set, All-take}
 use Rattle.unix_calls.specs.declared.Description.{Description}
@@ -8,7 +8,11 @@ use Rattle.sprite_ids.specs.declared.running.Finish.{Finish}
 use Rattle.kernel_threads.specs.declared.EndBurst.{EndBurst}
 use Rattle.kernel_threads.specs.declared.EndBurst.TheVariants.{Taken, Stale}
 use Rattle.kernel_threads.specs.Steps.{Adds, Closes, Stays}
+use Rattle.cluster_bursts.specs.declared.job.Job.{Job}
+use Rattle.sprite_cluster.specs.declared.Cluster.{Cluster}
 use Rattle.sprite_cluster.specs.declared.Origin.{Origin}
+use Rattle.sprite_cluster.specs.Finishing.{stands_so}
+use Rattle.sprite_cluster.specs.Logs.{Holds, log_of}
 use Rattle.cases.specs.Jobs.{MayEnd}
 use Rattle.cases.specs.declared.chance.Held.{Held}
 
@@ -29,8 +33,16 @@ held_less c held now at burst there is less all =
 pub held_still : {L : Type 0} (old now : Origin L) (held : List Held) → now ≡ old → All (λ (h : Held). MayEnd old.description h.job) held → All (λ (h : Held). MayEnd now.description h.job) held
 held_still {L} old now held same all = subst (λ (c : Description). All (λ (h : Held). MayEnd c h.job) held) (sym (ap (λ (o : Origin L). o.description) same)) all
 
+-- the burst that begins may end
+pub begun_may : (c : Description) (o : Option Job) (job : Job) → o ≡ Some job → IfSome o (MayEnd c) → MayEnd c job
+begun_may c o job is may = subst (λ (j : Option Job). IfSome j (MayEnd c)) is may
+
+-- what never changes of a cluster
+abbrev pub origin_of : {L : Type 0} → Cluster L → Origin L
+origin_of v = record { description = v.description; link = v.begun }
+
 -- a burst that ends keeps the origin, however it ends
-pub ended_same : {V O I : Type 0} {origin : V → O} {log : V → List (ℕ × I)} {holds : V → Type 0} {finish_of : V → Finish} {kernel : ℕ} {old now : V} {A B C : Type 0} (r : Result EndBurst NoMemory) → (r ≡ Ok Taken → Adds origin log holds kernel old now × A) → (r ≡ Ok Stale → Stays origin log holds old now × B × C) → OnErr r (Closes origin log holds finish_of old now) → origin now ≡ origin old
-ended_same (Ok Taken) taken stale closes = (taken refl).0.origin_stays
-ended_same (Ok Stale) taken stale closes = (stale refl).0.origin_stays
-ended_same (Err e) taken stale closes = closes.stays.origin_stays
+pub ended_same : {L : Type 0} (faults asked : L → ℕ → ℕ → ℕ) (kernel : ℕ) (old now : Cluster L) (A B C : Type 0) (r : Result EndBurst NoMemory) → (r ≡ Ok Taken → Adds {O = Origin L} (λ (v : Cluster L). record { description = v.description; link = v.begun }) (λ (v : Cluster L). log_of v.trace) (λ (v : Cluster L). Holds faults asked v.description v.closed v.begun.value v.wire v.state v.trace) kernel old now × A) → (r ≡ Ok Stale → Stays {O = Origin L} (λ (v : Cluster L). record { description = v.description; link = v.begun }) (λ (v : Cluster L). log_of v.trace) (λ (v : Cluster L). Holds faults asked v.description v.closed v.begun.value v.wire v.state v.trace) old now × B × C) → OnErr r (Closes {O = Origin L} (λ (v : Cluster L). record { description = v.description; link = v.begun }) (λ (v : Cluster L). log_of v.trace) (λ (v : Cluster L). Holds faults asked v.description v.closed v.begun.value v.wire v.state v.trace) (λ (v : Cluster L). stands_so v.closed v.description v.trace v.wire.machine v.state) old now) → origin_of now ≡ origin_of old
+ended_same faults asked kernel old now A B C (Ok Taken) taken stale closes = (taken refl).0.origin_stays
+ended_same faults asked kernel old now A B C (Ok Stale) taken stale closes = (stale refl).0.origin_stays
+ended_same faults asked kernel old now A B C (Err e) taken stale closes = closes.stays.origin_stays

@@ -6,4 +6,4 @@ end_burst-requires-clause-may_end g c = (c.take_held-kernel.ensures c.args.clust
 
 pub returns-clause-may_end : goal.returns-clause-may_end
 returns-clause-may_end g c =
-    held_still _ _ c.take_held-kernel.new.held.items (ended_same c.end_burst.result c.end_burst.ensures.taken c.end_burst.ensures.stale c.end_burst.ensures.err) (c.take_held-kernel.ensures c.args.cluster.now.description c.requires.may_end).1
+    held_still _ _ c.take_held-kernel.new.held.items (ended_same g.L.Link.faults g.L.Link.asked c.take_held-kernel.result.kernel c.args.cluster.now c.end_burst.new.self _ _ _ c.end_burst.result c.end_burst.ensures.taken c.end_burst.ensures.stale c.end_burst.ensures.err) (c.take_held-kernel.ensures c.args.cluster.now.description c.requires.may_end).1
