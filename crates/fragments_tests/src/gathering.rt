@@ -12,6 +12,7 @@ struct Row {
 }
 
 /// The frames of some messages.
+#[derive(Drop)]
 struct Sent {
     messages: Vec<Vec<Bytes>>,
 }

@@ -1,7 +1,6 @@
 -- A message is cut as the code cuts it.
-use Rattle.std.proofs.Common.{◌≡◌, ◌≤◌, ◌<◌, ℕ, zero, suc, ◌+◌, ◌-◌, ◌*◌, ◌/◌, List, [], ◌∷◌, ◌++◌, length, take, drop, min, refl, sym, ap, ◌∙◌, arith}
+use Rattle.std.proofs.Common.{◌≡◌, ◌≤◌, ◌<◌, ℕ, suc, ◌+◌, ◌-◌, ◌*◌, List, [], ◌∷◌, ◌++◌, length, take, drop, min, sym, ap, ◌∙◌, arith}
 use Rattle.std.proofs.lemmas.List.{append_assoc, length-take, length-drop, drop_min, take_min}
-use Rattle.wire_fragments.specs.declared.head.Head.{Head}
 use Rattle.wire_fragments.specs.declared.head.MessageId.{MessageId}
 use Rattle.wire_fragments.specs.Frames.{count_of, piece, frame, frames_from}
 

@@ -1,13 +1,12 @@
 -- A cut message's frames are read as they were spelled.
-use Rattle.std.proofs.Common.{◌≡◌, ◌≢◌, ◌≤◌, ◌<◌, ℕ, zero, suc, ◌+◌, ◌-◌, ◌*◌, ◌/◌, ◌^◌, ◌==◌, Bool, true, false, ◌&&◌, ◌||◌, not, cond, if◌then◌else◌, nat_le, nat_lt, List, [], ◌∷◌, ◌++◌, length, take, drop, min, slice_get, slice_index, Option, Some, None, refl, sym, ap, ap₂, ◌∙◌, subst, arith, le-leb, le-ltb, lt-ltb, eq-eqb, ne_eqb, eqb-true}
+use Rattle.std.proofs.Common.{◌≡◌, ◌≢◌, ◌≤◌, ◌<◌, ℕ, zero, suc, ◌+◌, ◌-◌, ◌*◌, ◌/◌, ◌^◌, ◌==◌, Bool, true, false, ◌||◌, not, cond, if◌then◌else◌, nat_lt, List, length, drop, min, slice_get, Option, Some, None, refl, sym, ap, ◌∙◌, arith, le-leb, le-ltb, lt-ltb, eq-eqb, eqb-true}
 use Rattle.std.proofs.lemmas.Bool.{and_from, ltb-true, eqb-false}
 use Rattle.std.proofs.lemmas.List.{length-take, length-drop}
 use Rattle.std.proofs.lemmas.Nat.{from_le_bytes-to_le_bytes_2, from_le_bytes-to_le_bytes_4}
-use Rattle.std.specs.Int.{w16, w32, to_le_bytes, from_le_bytes}
 use Rattle.sprite_ids.proofs.ListLaws.{some_is}
 use Rattle.wire_fragments.specs.declared.head.Head.{Head}
 use Rattle.wire_fragments.specs.declared.head.MessageId.{MessageId}
-use Rattle.wire_fragments.specs.Frames.{count_of, piece, frame, frames_from, cut, number16_at, number32_at, piece_in, is_kernel, is_sized, is_spelled, head_of}
+use Rattle.wire_fragments.specs.Frames.{count_of, piece, frame, frames_from, cut, number16_at, number32_at, is_kernel, is_sized, is_spelled, head_of}
 use Rattle.wire_fragments.specs.Runs.{Cut, IsCut}
 
 -- ---- how many frames there are

@@ -1,6 +1,6 @@
 -- What becomes of a frame, and how many messages are kept in part behind it.
-use Rattle.std.proofs.Common.{◌≡◌, ◌≢◌, ◌≤◌, ◌<◌, ℕ, zero, suc, ◌+◌, ◌-◌, ◌==◌, Bool, true, false, ◌&&◌, not, cond, nat_le, nat_lt, List, [], ◌∷◌, length, Option, Some, None, refl, sym, ap, ap₂, ◌∙◌, subst, arith, count_by, true≢false, eqb-true, lt-ltb}
-use Rattle.std.proofs.lemmas.Bool.{and_from, leb-false, not-true, not-false}
+use Rattle.std.proofs.Common.{◌≡◌, ◌<◌, ℕ, ◌+◌, ◌==◌, Bool, true, false, not, cond, nat_le, nat_lt, [], ◌∷◌, length, Option, Some, None, refl, sym, ap, ◌∙◌, subst, arith, count_by, eqb-true, lt-ltb}
+use Rattle.std.proofs.lemmas.Bool.{and_from, leb-false, not-false}
 use Rattle.std.proofs.lemmas.List.Sums.{sum_by-cons}
 use Rattle.indexmap.specs.IndexMap.{insert_entry}
 use Rattle.sprite_ids.proofs.ListLaws.{some_is}
@@ -11,7 +11,7 @@ use Rattle.wire_fragments.specs.declared.progress.Progress.TheVariants.{Given, I
 use Rattle.wire_fragments.specs.declared.plan.Plan.{Plan}
 use Rattle.wire_fragments.specs.declared.plan.Plan.TheVariants.{Known, Differs, Full, Alone, First, Next, Last}
 use Rattle.wire_fragments.specs.Pieces.{Pieces, is_there}
-use Rattle.wire_fragments.specs.Gathering.{Gathering, Messages, is_message, is_in_part, count_kept, progress_of, awaits_at, plan_in, plan_by, plan_of}
+use Rattle.wire_fragments.specs.Gathering.{Gathering, Messages, is_message, is_in_part, count_kept, progress_of, awaits_at, plan_by, plan_of}
 
 -- ---- how many messages are kept in part
 

@@ -1,14 +1,13 @@
 -- Messages whose frames come in any order are gathered.
-use Rattle.std.proofs.Common.{◌≡◌, ◌≢◌, ◌≤◌, ◌<◌, ◌↔◌, ◌⊎◌, inl, inr, ℕ, zero, suc, ◌+◌, ◌==◌, Bool, true, false, ◌&&◌, ◌||◌, not, cond, List, [], ◌∷◌, length, map, replicate, slice_get, slice_index_or, slice_set, Option, Some, None, refl, sym, ap, ap₂, ◌∙◌, subst, arith, true≢false, eqb-true, eq-eqb}
+use Rattle.std.proofs.Common.{◌≡◌, ◌↔◌, ◌⊎◌, inl, inr, ℕ, zero, suc, ◌==◌, Bool, true, false, ◌&&◌, ◌||◌, not, List, [], ◌∷◌, length, map, replicate, slice_get, slice_set, Some, refl, sym, ap, ap₂, ◌∙◌, subst, arith, true≢false, eqb-true, eq-eqb}
 use Rattle.std.proofs.lemmas.Bool.{and_parts, and_from, and_right, or_cases, or_right, false_from_ne_true}
 use Rattle.std.proofs.lemmas.List.{length-map}
 use Rattle.std.proofs.lemmas.List.Folds.{list_all-map}
 use Rattle.std.proofs.lemmas.Option.{slice_get_read}
-use Rattle.std.specs.List.{list_any, list_all, IsAmong, AllByRecursion}
+use Rattle.std.specs.List.{list_all, IsAmong, AllByRecursion}
 use Rattle.std.specs.Cmp.Lexicographic.{pointwise}
 use Rattle.sprite_ids.proofs.ListLaws.{some_is}
 use Rattle.wire_fragments.specs.declared.head.Head.{Head}
-use Rattle.wire_fragments.specs.declared.head.MessageId.{MessageId}
 use Rattle.wire_fragments.specs.declared.gathered.Gathered.{Gathered}
 use Rattle.wire_fragments.specs.declared.gathered.Gathered.TheVariants.{Bad as IsBad, Known as IsKnown, Differs as IsOther, Full as IsFull, Whole, Kept as IsKept}
 use Rattle.wire_fragments.specs.Frames.{count_of, piece, piece_in, head_of}

@@ -1,6 +1,6 @@
 -- What a frame of a cut message does to it, and to the others.
-use Rattle.std.proofs.Common.{◌≡◌, ◌≢◌, ◌≤◌, ◌<◌, ◌↔◌, ◌⊎◌, inl, inr, ℕ, zero, suc, ◌+◌, ◌-◌, ◌*◌, ◌==◌, Bool, true, false, ◌&&◌, ◌||◌, not, cond, nat_le, nat_lt, List, [], ◌∷◌, length, replicate, slice_index_or, slice_set, Option, Some, None, refl, sym, ap, ap₂, ◌∙◌, subst, arith, count_by, true≢false, eqb-true, eq-eqb, ne_eqb}
-use Rattle.std.proofs.lemmas.Bool.{and_from, and_parts, eqb-false}
+use Rattle.std.proofs.Common.{◌≡◌, ◌≢◌, ◌≤◌, ◌<◌, ◌↔◌, ◌⊎◌, inl, inr, ℕ, zero, suc, ◌*◌, ◌==◌, Bool, true, false, not, cond, nat_le, List, [], ◌∷◌, length, replicate, slice_index_or, slice_set, Option, Some, None, refl, sym, ap, ◌∙◌, subst, arith, count_by, true≢false, eqb-true, eq-eqb, ne_eqb}
+use Rattle.std.proofs.lemmas.Bool.{and_parts, eqb-false}
 use Rattle.std.proofs.lemmas.List.{length-replicate, length-set, take_all}
 use Rattle.indexmap.specs.IndexMap.{insert_entry}
 use Rattle.wire_fragments.specs.declared.head.Head.{Head}
@@ -8,15 +8,15 @@ use Rattle.wire_fragments.specs.declared.head.MessageId.{MessageId}
 use Rattle.wire_fragments.specs.declared.progress.Progress.{Progress}
 use Rattle.wire_fragments.specs.declared.progress.Progress.TheVariants.{Given, InPart}
 use Rattle.wire_fragments.specs.declared.gathered.Gathered.{Gathered}
-use Rattle.wire_fragments.specs.declared.gathered.Gathered.TheVariants.{Bad as IsBad, Known as IsKnown, Differs as IsOther, Full as IsFull, Whole, Kept as IsKept}
+use Rattle.wire_fragments.specs.declared.gathered.Gathered.TheVariants.{Known as IsKnown, Full as IsFull, Kept as IsKept}
 use Rattle.wire_fragments.specs.declared.plan.Plan.{Plan}
 use Rattle.wire_fragments.specs.declared.plan.Plan.TheVariants.{Known, Differs, Full, Alone, First, Next, Last}
 use Rattle.wire_fragments.specs.Frames.{count_of, piece}
 use Rattle.wire_fragments.specs.Pieces.{Pieces, empty_pieces, is_there, with_frame}
-use Rattle.wire_fragments.specs.Gathering.{Gathering, Messages, is_message, count_kept, progress_of, pieces_at, plan_in, plan_by, plan_of, whole, answer_by, after_by}
+use Rattle.wire_fragments.specs.Gathering.{Gathering, is_message, count_kept, progress_of, pieces_at, plan_in, plan_by, plan_of, whole, answer_by, after_by}
 use Rattle.wire_fragments.specs.Runs.{Cut, is_full, gives}
 use Rattle.wire_fragments.proofs.FrameLaws.{Counted, counted}
-use Rattle.wire_fragments.proofs.TableLaws.{same_message, itself, put_found, other_found}
+use Rattle.wire_fragments.proofs.TableLaws.{itself, put_found, other_found}
 use Rattle.wire_fragments.proofs.PieceLaws.{Holds, holds_none, holds_more, holds_all, all, all_is, one_less, all_at, none_there, none_counted, set_again}
 
 -- how far a message has come, by which of its frames have

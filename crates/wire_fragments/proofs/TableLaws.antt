@@ -1,15 +1,14 @@
 -- The table of messages under the changes of one of them.
-use Rattle.std.proofs.Common.{◌≡◌, ◌≤◌, ◌<◌, ℕ, zero, suc, ◌+◌, ◌-◌, ◌==◌, Bool, true, false, ◌&&◌, not, cond, nat_le, nat_lt, List, [], ◌∷◌, length, Option, Some, None, Result, Ok, Err, OnOk, OnErr, refl, sym, ap, ap₂, ◌∙◌, subst, arith, eqb-true, eq-eqb, true≢false, count_by}
-use Rattle.std.proofs.lemmas.Bool.{and_parts, and_from, cases_Bool}
+use Rattle.std.proofs.Common.{◌≡◌, ℕ, ◌==◌, Bool, true, false, ◌&&◌, cond, List, [], ◌∷◌, Option, Some, None, Result, Ok, Err, OnOk, OnErr, refl, sym, ap, ◌∙◌, subst, eqb-true, eq-eqb, true≢false}
+use Rattle.std.proofs.lemmas.Bool.{and_parts, and_from}
 use Rattle.std.proofs.lemmas.Map.Steps.{set_value_same}
-use Rattle.std.specs.Map.{lookup, set_value}
+use Rattle.std.specs.Map.{set_value}
 use Rattle.indexmap.specs.IndexMap.{insert_entry}
-use Rattle.sprite_ids.proofs.ListLaws.{some_is}
 use Rattle.wire_fragments.specs.declared.head.MessageId.{MessageId}
 use Rattle.wire_fragments.specs.declared.progress.Progress.{Progress}
 use Rattle.wire_fragments.specs.declared.progress.Progress.TheVariants.{Given, InPart}
-use Rattle.wire_fragments.specs.Pieces.{Pieces, with_frame}
-use Rattle.wire_fragments.specs.Gathering.{Messages, is_message, is_in_part, count_kept, progress_of, pieces_of, pieces_at, kept_next}
+use Rattle.wire_fragments.specs.Pieces.{with_frame}
+use Rattle.wire_fragments.specs.Gathering.{Messages, is_message, progress_of, pieces_at, kept_next}
 
 -- ---- names
 

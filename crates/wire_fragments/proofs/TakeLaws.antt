@@ -1,9 +1,8 @@
 -- What taking a frame owes.
-use Rattle.std.proofs.Common.{◌≡◌, ◌≤◌, ◌<◌, ℕ, suc, ◌+◌, ◌-◌, List, [], ◌∷◌, ◌++◌, length, drop, slice_index_or, Option, Some, None, Result, Ok, Err, OnOk, OnErr, refl, sym, ap, ◌∙◌, subst, arith}
+use Rattle.std.proofs.Common.{◌≡◌, ◌≤◌, ◌<◌, ℕ, ◌+◌, ◌-◌, List, [], ◌∷◌, ◌++◌, length, drop, slice_index_or, Some, Result, Ok, Err, OnOk, OnErr, sym, ap, ◌∙◌, arith}
 use Rattle.std.proofs.lemmas.List.{append_assoc, at_drop_more}
 use Rattle.indexmap.specs.IndexMap.{insert_entry}
 use Rattle.wire_fragments.specs.declared.head.Head.{Head}
-use Rattle.wire_fragments.specs.declared.progress.Progress.{Progress}
 use Rattle.wire_fragments.specs.declared.progress.Progress.TheVariants.{Given, InPart}
 use Rattle.wire_fragments.specs.declared.gathered.Gathered.{Gathered}
 use Rattle.wire_fragments.specs.declared.plan.Plan.{Plan}

@@ -1,5 +1,5 @@
 -- What is given of messages whose frames come in any order, left out or repeated.
-use Rattle.std.specs.Prelude.{◌≡◌, ◌≤◌, ◌<◌, ◌↔◌, ℕ, ◌==◌, Bool, true, false, ◌&&◌, ◌||◌, not, List, [], ◌∷◌, length}
+use Rattle.std.specs.Prelude.{◌≡◌, ◌≤◌, ◌<◌, ◌↔◌, ℕ, ◌==◌, Bool, true, false, ◌&&◌, not, List, [], ◌∷◌, length}
 use Rattle.std.specs.List.{list_any, list_all, IsAmong}
 use Rattle.std.specs.Cmp.Lexicographic.{pointwise}
 use Rattle.wire_fragments.specs.declared.head.MessageId.{MessageId}

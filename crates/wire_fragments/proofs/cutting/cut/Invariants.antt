@@ -1,5 +1,5 @@
-use Rattle.std.proofs.Common.{◌≡◌, ◌≤◌, ◌-◌, ◌++◌, length}
-use Rattle.wire_fragments.specs.Frames.{count_of, cut, frames_from}
+use Rattle.std.proofs.Common.{◌≡◌, ◌≤◌, ◌-◌, ◌++◌}
+use Rattle.wire_fragments.specs.Frames.{cut, frames_from}
 use Rattle.wire_fragments.proofs.cutting.cut.Given as goal
 
 -- the frames so far, and then those from the next index on, are all
