@@ -13,11 +13,11 @@ struct Row {
 
 /// The frames of some messages.
 #[derive(Drop)]
-struct Sent {
+struct SentFrames {
     messages: Vec<Vec<Bytes>>,
 }
 
-impl Sent {
+impl SentFrames {
     fn frame(&self, message: usize, frame: usize) -> Option<&[u8]> {
         if message >= self.messages.len() {
             return None;
@@ -32,16 +32,16 @@ impl Sent {
 }
 
 // Messages of 4,123, of 1,489, of 10 and of 4,465 bytes; the last has the name of the first, and a frame more.
-fn sent(alloc: Global) -> Result<Sent, NoMemory> {
+fn sent(alloc: Global) -> Result<SentFrames, NoMemory> {
     let mut messages = Vec::new(alloc);
     messages.push(frames(alloc, 1, 4123)?)?;
     messages.push(frames(alloc, 2, 1489)?)?;
     messages.push(frames(alloc, 3, 10)?)?;
     messages.push(frames(alloc, 1, 4465)?)?;
-    Ok(Sent { messages })
+    Ok(SentFrames { messages })
 }
 
-fn is_taken(alloc: Global, gather: &mut Gather, sent: &Sent, row: &Row) -> bool {
+fn is_taken(alloc: Global, gather: &mut Gather, sent: &SentFrames, row: &Row) -> bool {
     match sent.frame(row.message, row.frame) {
         Some(frame) => takes(alloc, gather, frame, row.kind),
         None => false,
@@ -49,7 +49,7 @@ fn is_taken(alloc: Global, gather: &mut Gather, sent: &Sent, row: &Row) -> bool 
 }
 
 // The place of the first row that is answered otherwise, where there is room for one message in part.
-fn first_other(alloc: Global, sent: &Sent, rows: &[Row]) -> Option<usize> {
+fn first_other(alloc: Global, sent: &SentFrames, rows: &[Row]) -> Option<usize> {
     let mut gather = Gather::new(alloc, 1);
     for (place, row) in rows.iter().enumerate() {
         if !is_taken(alloc, &mut gather, sent, row) {
