@@ -10,11 +10,12 @@ use Rattle.file_store.specs.Files.{Kept, is_file, is_there, bytes_of, with_bytes
 eq_self : (a : ℕ) → (a == a) ≡ true
 eq_self a = search (rules, tests, eqb_tells a a)
 
-same_file : (file : FileId) → is_file file file ≡ true
+-- a file is itself
+pub same_file : (file : FileId) → is_file file file ≡ true
 same_file file = rw (eq_self file.server, eq_self file.number) refl
 
 -- two files that the test finds to be one are equal
-one_file : (file other : FileId) → is_file file other ≡ true → file ≡ other
+pub one_file : (file other : FileId) → is_file file other ≡ true → file ≡ other
 one_file file other h =
     let parts = and_parts (file.server == other.server) (file.number == other.number) h in
     let server = eqb-true file.server other.server parts.0 in

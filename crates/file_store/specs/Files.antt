@@ -2,11 +2,17 @@
 use Rattle.std.specs.Prelude.{ℕ, ◌≤◌, ◌==◌, Bool, ◌&&◌, not, is_some, List, [], ◌∷◌, ◌++◌, length, Option, Some, None}
 use Rattle.std.specs.List.{AllByRecursion, filter}
 use Rattle.std.specs.Map.{lookup, set_value}
+use Rattle.lru.specs.LruCache.{LruCache}
 use Rattle.sprite_ids.specs.declared.FileId.{FileId}
 
 -- files and their bytes
 abbrev pub Kept : Type 0
 Kept = List (FileId × List ℕ)
+
+-- the files of a list that is made with the first of them
+abbrev pub files_in : Option (LruCache FileId (List ℕ)) → Kept
+files_in None = []
+files_in (Some list) = list.entries
 
 -- the most bytes that a file may have, and the files in the order in which they were made
 pub record Files : Type 0 where

@@ -3,6 +3,7 @@
 #![tactic(auto)]
 
 mod content;
+mod files;
 mod laws;
 mod store;
 

@@ -1,9 +1,10 @@
-ghost use Rattle.std.specs.Prelude.{◌≡◌, ◌≤◌, ◌<◌, ◌+◌, ◌*◌, [], false, IfOk, OnOk, OnErr, IsTrue, length, option_copied};
+ghost use Rattle.std.specs.Prelude.{◌≡◌, ◌≤◌, ◌<◌, ◌+◌, ◌*◌, [], false, IfOk, OnOk, OnErr, IsTrue, length};
 ghost use Rattle.file_store.specs.Content.{read_of, written, block_put};
-ghost use Rattle.file_store.specs.Files.{is_there, bytes_of, held, with_bytes, with_new, without, AreWithin};
+ghost use Rattle.file_store.specs.Files.{is_there, held, with_bytes, with_new, without, AreWithin};
 
 use crate::content::Content;
-use indexmap::IndexMap;
+use crate::files;
+use lru::LruCache;
 use sprite_ids::{BlockNo, FileId, NoMemory};
 use std::alloc::Global;
 use std::marker::Model;
@@ -14,18 +15,19 @@ use std::marker::Model;
 pub struct Store {
     alloc: Global,
     limit: u32,
-    files: IndexMap<FileId, Content>,
+    // None before the first file. It is never promoted, so a file is dropped from any place in it at the same cost.
+    files: Option<LruCache<FileId, Content>>,
 }
 
 impl Model for Store {
     ghost use Rattle.std.specs.Prelude.{◌≤◌};
-    ghost use Rattle.file_store.specs.Files.{Files, AreWithin};
+    ghost use Rattle.file_store.specs.Files.{Files, AreWithin, files_in};
 
     ghost Value = { Files };
 
-    ghost view = { λ store. record { limit = store.limit; files = store.files.entries } };
+    ghost view = { λ store. record { limit = store.limit; files = files_in store.files } };
 
-    ghost invariant = { λ store. (store.limit ≤ 4294967295) × AreWithin store.limit store.files.entries };
+    ghost invariant = { λ store. (store.limit ≤ 4294967295) × AreWithin store.limit (files_in store.files) };
 }
 
 impl Store {
@@ -36,7 +38,7 @@ impl Store {
         Store {
             alloc,
             limit,
-            files: IndexMap::new(alloc),
+            files: None,
         }
     }
 
@@ -51,7 +53,7 @@ impl Store {
     pub fn has(&self, file: FileId) -> bool
         ensures { result ≡ is_there self.now.files file }
     {
-        self.files.get(&file).is_some()
+        files::find(&self.files, &file).is_some()
     }
 
     /// Makes the file, which isn't there yet; it has no bytes. After want of memory, the one error, all is as before.
@@ -60,8 +62,7 @@ impl Store {
         ensures ok { OnOk result (self.new ≡ record self.old { files = with_new self.old.files file }) }
         ensures err { OnErr result (self.new ≡ self.old) }
     {
-        self.files.insert(file, Content::new(self.alloc))?;
-        Ok(())
+        files::make(&mut self.files, self.alloc, &file)
     }
 
     /// How many bytes the file has, which is there.
@@ -69,7 +70,7 @@ impl Store {
         requires { IsTrue (is_there self.now.files file) }
         ensures { result ≡ length (held self.now.files file) }
     {
-        match self.files.get(&file) {
+        match files::find(&self.files, &file) {
             Some(content) => content.len() as u32,
             None => 0,
         }
@@ -82,7 +83,7 @@ impl Store {
         requires within { from + length ≤ self.now.limit }
         ensures { IfOk result (λ bytes. bytes.items ≡ read_of (held self.now.files file) from length) }
     {
-        match self.files.get(&file) {
+        match files::find(&self.files, &file) {
             Some(content) => content.read(self.alloc, from, length),
             None => Ok(Vec::new(self.alloc)),
         }
@@ -97,7 +98,7 @@ impl Store {
         ensures ok { OnOk result (self.new ≡ record self.old { files = with_bytes self.old.files file (written (held self.old.files file) from bytes.now) }) }
         ensures err { OnErr result (self.new ≡ self.old) }
     {
-        write_in(&mut self.files, &file, from, bytes)
+        files::write(&mut self.files, &file, from, bytes)
     }
 
     /// Puts the bytes at the block's place, which is 4,096 times its number, and lets the file grow to `size` where it
@@ -116,7 +117,7 @@ impl Store {
         ensures ok { OnOk result (self.new ≡ record self.old { files = with_bytes self.old.files file (block_put (held self.old.files file) block.0 size bytes.now) }) }
         ensures err { OnErr result (self.new ≡ self.old) }
     {
-        put_block_in(&mut self.files, &file, block, size, bytes)
+        files::put_block(&mut self.files, &file, block, size, bytes)
     }
 
     /// Drops all bytes of the file, which is there and stays there.
@@ -124,7 +125,7 @@ impl Store {
         requires { IsTrue (is_there self.old.files file) }
         ensures { self.new ≡ record self.old { files = with_bytes self.old.files file [] } }
     {
-        clear_in(&mut self.files, &file);
+        files::clear(&mut self.files, &file);
     }
 
     /// Drops the file, which is there.
@@ -132,53 +133,6 @@ impl Store {
         requires { IsTrue (is_there self.old.files file) }
         ensures { self.new ≡ record self.old { files = without self.old.files file } }
     {
-        self.files.shift_remove(&file);
-    }
-}
-
-// Writes the bytes into the file, which is there.
-fn write_in(
-    files: &mut IndexMap<FileId, Content>,
-    file: &FileId,
-    from: u32,
-    bytes: &[u8],
-) -> Result<(), NoMemory>
-    requires there { IsTrue (is_there files.old.entries file.now) }
-    requires within { from + length bytes.now ≤ 4294967295 }
-    ensures ok { OnOk result (files.new.entries ≡ with_bytes files.old.entries file.now (written (held files.old.entries file.now) from bytes.now)) }
-    ensures err { OnErr result (files.new.entries ≡ files.old.entries) }
-{
-    let Some(content) = files.get_mut(file) else {
-        return Ok(());
-    };
-    content.write(from, bytes)
-}
-
-// Puts the block into the file, which is there.
-fn put_block_in(
-    files: &mut IndexMap<FileId, Content>,
-    file: &FileId,
-    block: BlockNo,
-    size: u32,
-    bytes: &[u8],
-) -> Result<(), NoMemory>
-    requires there { IsTrue (is_there files.old.entries file.now) }
-    requires within { 4096 * block.0 + length bytes.now ≤ 4294967295 }
-    ensures ok { OnOk result (files.new.entries ≡ with_bytes files.old.entries file.now (block_put (held files.old.entries file.now) block.0 size bytes.now)) }
-    ensures err { OnErr result (files.new.entries ≡ files.old.entries) }
-{
-    let Some(content) = files.get_mut(file) else {
-        return Ok(());
-    };
-    content.put_block(block, size, bytes)
-}
-
-// Drops all bytes of the file, which is there.
-fn clear_in(files: &mut IndexMap<FileId, Content>, file: &FileId)
-    requires { IsTrue (is_there files.old.entries file.now) }
-    ensures { files.new.entries ≡ with_bytes files.old.entries file.now [] }
-{
-    if let Some(content) = files.get_mut(file) {
-        content.clear();
+        files::forget(&mut self.files, &file);
     }
 }

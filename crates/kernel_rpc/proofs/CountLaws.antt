@@ -249,4 +249,4 @@ raised_counts last calls copies more counts tx at n sum before after all num pla
 
 -- what holds of the table of a wire is what holds of a table
 pub stands_of : (reads : List ℕ → Type 0) (faults : ℕ → ℕ → ℕ) (table : CallTable) → Kept reads faults table → Stands table
-stands_of reads faults table h = record { numbered = h.sound.numbered; begun = h.sound.flying; counted = h.counted }
+stands_of reads faults table h = record { numbered = h.sound.numbered; begun = h.sound.flying; counted = h.counted; rising = h.rising }

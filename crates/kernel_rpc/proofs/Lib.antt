@@ -13,6 +13,7 @@ pub mod PortLaws
 pub mod CountLaws
 pub mod StepLaws
 pub mod OrderLaws
+pub mod RiseLaws
 pub mod TryLaws
 pub mod LossLaws
 pub mod ComeLaws

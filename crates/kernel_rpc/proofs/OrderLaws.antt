@@ -12,7 +12,7 @@ use Rattle.kernel_rpc.specs.declared.call.Arrival.TheVariants.{FirstRequest, Fir
 use Rattle.kernel_rpc.specs.declared.call.Call.{Call}
 use Rattle.kernel_rpc.specs.declared.call.PacketCopy.{PacketCopy}
 use Rattle.kernel_rpc.specs.Copies.{copies_by, requests}
-use Rattle.kernel_rpc.specs.Machine.{Machine, arrival, call_of, copy_of, delivered_as, gave_up, idle, is_copy, is_last, landed, new_call, replied, reply_to, request, resent}
+use Rattle.kernel_rpc.specs.Machine.{Machine, arrival, begun, call_of, copy_of, delivered_as, gave_up, idle, is_copy, is_last, landed, new_call, replied, reply_to, request, resent}
 use Rattle.kernel_rpc.specs.Runs.{Act, Begin, Deliver, Answer, Silence, Expire, Counts, after, delivered_by, expired_by}
 use Rattle.kernel_rpc.specs.Histories.{AreNumbersRising, CopiesDiffer, NumbersAreNew, reached}
 use Rattle.kernel_rpc.proofs.CopyLaws.{both_none, none_dropped}
@@ -21,7 +21,8 @@ rising_from : (lower first last : ℕ) (copies : List PacketCopy) → lower ≤ 
 rising_from lower first last [] le h = omega arith
 rising_from lower first last (copy ∷ copies) le h = (let here = h.0 in (omega arith, h.1))
 
-rising_less : (p : PacketCopy → Bool) (first last : ℕ) (copies : List PacketCopy) → AreNumbersRising first copies last → AreNumbersRising first (less p copies) last
+-- and without some copy
+pub rising_less : (p : PacketCopy → Bool) (first last : ℕ) (copies : List PacketCopy) → AreNumbersRising first copies last → AreNumbersRising first (less p copies) last
 rising_less p first last [] h = h
 rising_less p first last (copy ∷ copies) h =
     elim (p copy) as (λ b. AreNumbersRising first (cond b copies (copy ∷ less p copies)) last) [ true ↦ (let here = h.0 in rising_from first (copy.number.0 + 1) last copies (omega arith) h.1) | false ↦ (h.0, rising_less p (copy.number.0 + 1) last copies h.1) ]
@@ -47,21 +48,32 @@ rising_requests packet number (first ∷ sent) =
     rising_both number (number + 2) (number + 2 * length (first ∷ sent)) (copies_by first.1 (record packet { number = record { 0 = number }; to = first.0 })) (requests packet (number + 2) sent) (rising_by first.1 (record packet { number = record { 0 = number }; to = first.0 })) (subst (AreNumbersRising (number + 2) (requests packet (number + 2) sent)) same (rising_requests packet (number + 2) sent))
 
 -- the copies of a machine have rising numbers below that of the next one
-abbrev Rises : Machine → Type 0
+abbrev pub Rises : Machine → Type 0
 Rises machine = AreNumbersRising 1 machine.copies machine.next_copy
 
-rises_replied : (o : Option Call) (given : Fate) (machine : Machine) → Rises machine → Rises (replied o given machine)
+-- that stays where a reply is sent
+pub rises_replied : (o : Option Call) (given : Fate) (machine : Machine) → Rises machine → Rises (replied o given machine)
 rises_replied None given machine h = h
 rises_replied (Some call) given machine h = rising_both 1 machine.next_copy (machine.next_copy + 2) machine.copies (copies_by given (reply_to call machine.next_copy)) h (rising_by given (reply_to call machine.next_copy))
 
-rises_landed : (copy : PacketCopy) (machine : Machine) → Rises machine → Rises (landed copy machine)
+-- and where a copy landed
+pub rises_landed : (copy : PacketCopy) (machine : Machine) → Rises machine → Rises (landed copy machine)
 rises_landed copy machine h = rising_less (is_copy copy.number) 1 machine.next_copy machine.copies h
 
-rises_arrived : (a : Arrival) (copy : PacketCopy) (given : Fate) (machine : Machine) → Rises machine → Rises (delivered_as a copy given (landed copy machine))
+-- and where it came, whatever it was
+pub rises_arrived : (a : Arrival) (copy : PacketCopy) (given : Fate) (machine : Machine) → Rises machine → Rises (delivered_as a copy given (landed copy machine))
 rises_arrived FirstRequest copy given machine h = rises_landed copy machine h
 rises_arrived FirstReply copy given machine h = rises_landed copy machine h
 rises_arrived AskedAgain copy given machine h = rises_replied (call_of (landed copy machine) copy.tx) given (landed copy machine) (rises_landed copy machine h)
 rises_arrived Past copy given machine h = rises_landed copy machine h
+
+-- and where a call is begun
+pub rises_begun : (call : Call) (sent : List (ℕ × Fate)) (machine : Machine) → Rises machine → Rises (begun call sent machine)
+rises_begun call sent machine h = rising_both 1 machine.next_copy (machine.next_copy + 2 * length sent) machine.copies (requests (request call machine.next_copy call.owner) machine.next_copy sent) h (rising_requests (request call machine.next_copy call.owner) machine.next_copy sent)
+
+-- and where one is sent again
+pub rises_resent : (tx : TxNo) (call : Call) (sent : List (ℕ × Fate)) (machine : Machine) → Rises machine → Rises (resent tx (Some call) sent machine)
+rises_resent tx call sent machine h = rising_both 1 machine.next_copy (machine.next_copy + 2 * length sent) machine.copies (requests (request call machine.next_copy call.owner) machine.next_copy sent) h (rising_requests (request call machine.next_copy call.owner) machine.next_copy sent)
 
 rises_delivered : (o : Option PacketCopy) (given : Fate) (machine : Machine) → Rises machine → Rises (delivered_by o given machine)
 rises_delivered None given machine h = h
@@ -70,10 +82,10 @@ rises_delivered (Some copy) given machine h = rises_arrived (arrival machine cop
 rises_expired : (o : Option Call) (tx : TxNo) (sent : List (ℕ × Fate)) (machine : Machine) → Rises machine → Rises (expired_by tx o sent machine)
 rises_expired None tx sent machine h = h
 rises_expired (Some call) tx sent machine h =
-    elim (is_last call) as (λ b. Rises (cond b (gave_up tx machine) (resent tx (Some call) sent machine))) [ true ↦ h | false ↦ rising_both 1 machine.next_copy (machine.next_copy + 2 * length sent) machine.copies (requests (request call machine.next_copy call.owner) machine.next_copy sent) h (rising_requests (request call machine.next_copy call.owner) machine.next_copy sent) ]
+    elim (is_last call) as (λ b. Rises (cond b (gave_up tx machine) (resent tx (Some call) sent machine))) [ true ↦ h | false ↦ rises_resent tx call sent machine h ]
 
 rises_after : (machine : Machine) (act : Act) → Rises machine → Rises (after machine act)
-rises_after machine (Begin from port servers owner body tries about before sent) h = (let packet = request (new_call machine from port servers owner body tries about before) machine.next_copy owner in rising_both 1 machine.next_copy (machine.next_copy + 2 * length sent) machine.copies (requests packet machine.next_copy sent) h (rising_requests packet machine.next_copy sent))
+rises_after machine (Begin from port servers owner body tries about before sent) h = rises_begun (new_call machine from port servers owner body tries about before) sent machine h
 rises_after machine (Deliver number given) h = rises_delivered (copy_of machine number) given machine h
 rises_after machine (Answer tx body given) h = rises_replied (call_of machine tx) given machine h
 rises_after machine (Silence tx kernel) h = h

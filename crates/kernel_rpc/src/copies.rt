@@ -5,20 +5,27 @@ ghost use Rattle.sprite_ids.specs.Lists.{less};
 ghost use Rattle.link_plan.specs.Counts.{Asks, IsAsked};
 ghost use Rattle.kernel_rpc.specs.Copies.{copies_by, requests};
 ghost use Rattle.kernel_rpc.specs.Machine.{is_copy};
+ghost use Rattle.kernel_rpc.specs.Table.{Rise};
 
 use crate::call::{PacketCopy, Receiver};
 use link_plan::{Fate, Link};
 use sprite_ids::{CopyNo, Kernel, NoMemory};
 
-// Where the copy stands.
+// Where the copy stands. It is found by bisection, since the numbers of copies rise.
 fn place_of(copies: &[PacketCopy], number: CopyNo) -> Option<usize>
+    requires { Rise copies.now }
     ensures { result ≡ position (is_copy number) copies.now }
 {
-    copies.iter().position(|copy| copy.number == number)
+    let at = copies.partition_point(|copy| copy.number.0 < number.0);
+    if at < copies.len() && copies[at].number == number {
+        return Some(at);
+    }
+    None
 }
 
 // The copy of that number, where it is in flight.
 pub(crate) fn find_copy(copies: &[PacketCopy], number: CopyNo) -> Option<PacketCopy>
+    requires { Rise copies.now }
     ensures { result ≡ find (is_copy number) copies.now }
 {
     match place_of(copies, number) {
@@ -29,6 +36,7 @@ pub(crate) fn find_copy(copies: &[PacketCopy], number: CopyNo) -> Option<PacketC
 
 // The copy came to its receiver.
 pub(crate) fn land(copies: &mut Vec<PacketCopy>, number: CopyNo)
+    requires { Rise copies.old.items }
     ensures items { copies.new.items ≡ less (is_copy number) copies.old.items }
     ensures len { vec_len copies.new ≤ vec_len copies.old }
     ensures capacity { vec_capacity copies.new ≡ vec_capacity copies.old }

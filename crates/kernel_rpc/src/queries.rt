@@ -1,4 +1,4 @@
-ghost use Rattle.std.specs.Prelude.{◌≡◌, ◌<◌, ◌==◌, IfOk, is_some, length, map, slice_index_or};
+ghost use Rattle.std.specs.Prelude.{◌≡◌, ◌<◌, ◌^◌, ◌==◌, is_some, length, map, slice_get, slice_index_or};
 ghost use Rattle.std.specs.List.{filter, list_any};
 ghost use Rattle.kernel_rpc.specs.Machine.{due_of, holds, is_at_port, is_due, is_punctual, is_taken, may_come, part_of};
 ghost use Rattle.kernel_rpc.specs.States.{state_in, state_past, was_begun};
@@ -8,36 +8,51 @@ use crate::call::{Call, CallState, PacketCopy};
 use crate::calls::is_taken;
 use crate::receivers::{is_holding, part_of};
 use crate::table::CallTable;
-use sprite_ids::{CopyNo, Kernel, NoMemory, TxNo};
-use std::alloc::Global;
+use sprite_ids::{CopyNo, Kernel, TxNo};
 
-// The copies for the kernel that may come next.
-pub(crate) fn offered(
-    alloc: Global,
-    copies: &[PacketCopy],
-    kernel: Kernel,
-) -> Result<Vec<CopyNo>, NoMemory>
-    ensures { IfOk result (λ found. found.items ≡ map (λ copy. copy.number) (filter (may_come kernel (list_any (is_punctual kernel) copies.now)) copies.now)) }
+// How many of the copies may come to the kernel next.
+pub(crate) fn copies_offered(copies: &[PacketCopy], kernel: Kernel) -> usize
+    ensures count { result ≡ length (filter (may_come kernel (list_any (is_punctual kernel) copies.now)) copies.now) }
+    ensures few { result < 2 ^ 63 }
 {
-    offered_by(alloc, copies, kernel, has_punctual(copies, kernel))
+    count_coming(copies, kernel, has_punctual(copies, kernel))
 }
 
-// The copies for the kernel that may come next, by whether one for it isn't late.
-fn offered_by(
-    alloc: Global,
-    copies: &[PacketCopy],
-    kernel: Kernel,
-    punctual: bool,
-) -> Result<Vec<CopyNo>, NoMemory>
-    ensures { IfOk result (λ found. found.items ≡ map (λ copy. copy.number) (filter (may_come kernel punctual) copies.now)) }
+// How many of the copies may come to the kernel next, by whether one for it isn't late.
+fn count_coming(copies: &[PacketCopy], kernel: Kernel, punctual: bool) -> usize
+    ensures count { result ≡ length (filter (may_come kernel punctual) copies.now) }
+    ensures few { result < 2 ^ 63 }
 {
-    let mut found = Vec::new(alloc);
+    let mut count = 0;
     for copy in copies {
         if may_come(kernel, punctual, copy) {
-            found.push(copy.number)?;
+            count += 1;
         }
     }
-    Ok(found)
+    count
+}
+
+// The copy at that place of those that may come to the kernel next.
+pub(crate) fn copy_offered(copies: &[PacketCopy], kernel: Kernel, place: usize) -> Option<CopyNo>
+    ensures { result ≡ slice_get (map (λ copy. copy.number) (filter (may_come kernel (list_any (is_punctual kernel) copies.now)) copies.now)) place }
+{
+    coming_at(copies, kernel, has_punctual(copies, kernel), place)
+}
+
+// The copy at that place of those that may come to the kernel next, by whether one for it isn't late.
+fn coming_at(copies: &[PacketCopy], kernel: Kernel, punctual: bool, place: usize) -> Option<CopyNo>
+    ensures { result ≡ slice_get (map (λ copy. copy.number) (filter (may_come kernel punctual) copies.now)) place }
+{
+    let mut left = place;
+    for copy in copies {
+        if may_come(kernel, punctual, copy) {
+            if left == 0 {
+                return Some(copy.number);
+            }
+            left -= 1;
+        }
+    }
+    None
 }
 
 // Whether the copy is for the kernel and isn't late.
@@ -95,23 +110,38 @@ pub(crate) fn is_due(table: &CallTable, at: usize, call: &Call) -> bool
     table.flying[at] == 0 && !is_taken(call)
 }
 
-// The calls of the kernel whose timer may fire.
-pub(crate) fn due_of(
-    alloc: Global,
-    table: &CallTable,
-    kernel: Kernel,
-) -> Result<Vec<TxNo>, NoMemory>
+// How many timers of the kernel may fire.
+pub(crate) fn timers_due(table: &CallTable, kernel: Kernel) -> usize
     requires { table.now.flying.items ≡ counts_of table.now.copies.items table.now.unfinished.items }
-    ensures { IfOk result (λ found. found.items ≡ due_of (machine_of table.now) kernel) }
+    ensures count { result ≡ length (due_of (machine_of table.now) kernel) }
+    ensures few { result < 2 ^ 63 }
 {
-    let mut found = Vec::new(alloc);
+    let mut count = 0;
     for at in 0..table.unfinished.len() {
         let call = &table.unfinished[at];
         if call.from == kernel && is_due(table, at, call) {
-            found.push(call.tx)?;
+            count += 1;
         }
     }
-    Ok(found)
+    count
+}
+
+// The call at that place of those of the kernel whose timer may fire.
+pub(crate) fn timer_due(table: &CallTable, kernel: Kernel, place: usize) -> Option<TxNo>
+    requires { table.now.flying.items ≡ counts_of table.now.copies.items table.now.unfinished.items }
+    ensures { result ≡ slice_get (due_of (machine_of table.now) kernel) place }
+{
+    let mut left = place;
+    for at in 0..table.unfinished.len() {
+        let call = &table.unfinished[at];
+        if call.from == kernel && is_due(table, at, call) {
+            if left == 0 {
+                return Some(call.tx);
+            }
+            left -= 1;
+        }
+    }
+    None
 }
 
 // Whether a timer may fire.

@@ -27,7 +27,7 @@ pub(crate) struct CallTable {
     pub(crate) flying: Vec<usize>,
     // The calls that were given up, in this order.
     pub(crate) given_up: Vec<TxNo>,
-    // In the order of sending.
+    // In the order of sending, so their numbers rise.
     pub(crate) copies: Vec<PacketCopy>,
     // At least 1, and greater than the number of every copy so far.
     pub(crate) next_copy: u64,

@@ -1,4 +1,4 @@
-ghost use Rattle.std.specs.Prelude.{◌≡◌, ◌≢◌, ◌≤◌, ◌<◌, ◌+◌, ◌==◌, ◌∷◌, [], Some, true, false, IfOk, IfErr, IfSome, IfNone, IsOk, OnOk, OnErr, IsTrue, IsSome, is_some, length, map, option_map};
+ghost use Rattle.std.specs.Prelude.{◌≡◌, ◌≢◌, ◌≤◌, ◌<◌, ◌+◌, ◌^◌, ◌==◌, ◌∷◌, [], Some, true, false, IfOk, IfErr, IfSome, IfNone, IsOk, OnOk, OnErr, IsTrue, IsSome, is_some, length, map, option_map, slice_get};
 ghost use Rattle.std.specs.List.{filter, list_any, position};
 ghost use Rattle.std.specs.Vec.{vec_capacity};
 ghost use Rattle.sprite_ids.specs.declared.Tries.TheVariants.{Eight};
@@ -16,7 +16,8 @@ use crate::calls::{find_call, is_last, place_of};
 use crate::copies::{find_copy, land};
 use crate::ports::least_port;
 use crate::queries::{
-    due_of, has_due, has_request, is_due, is_used, offered, state_in, state_past,
+    copies_offered, copy_offered, has_due, has_request, is_due, is_used, state_in, state_past,
+    timer_due, timers_due,
 };
 use crate::results::{Delivered, Expired};
 use crate::table::{
@@ -295,20 +296,36 @@ impl<M: Message + Drop, L: Link> Wire<M, L> {
         Ok(Expired::Resent(Items::of_vec(sent)))
     }
 
-    /// The copies in flight for the kernel that may come next, in the order of sending: the late ones only where all are late.
-    /// The one error is want of memory.
-    pub fn copies_for(&self, alloc: Global, kernel: Kernel) -> Result<Vec<CopyNo>, NoMemory>
-        ensures { IfOk result (λ copies. copies.items ≡ offered self.now.machine kernel) }
+    /// How many copies in flight may come to the kernel next: those for it that aren't late, or all for it where all are late.
+    pub fn copies_offered(&self, kernel: Kernel) -> usize
+        ensures count { result ≡ length (offered self.now.machine kernel) }
+        ensures few { result < 2 ^ 63 }
     {
-        offered(alloc, self.table.copies.as_slice(), kernel)
+        copies_offered(self.table.copies.as_slice(), kernel)
     }
 
-    /// All calls of the kernel whose timer may fire, in ascending order: no copy of the call is in flight, and no receiver has
-    /// it. The one error is want of memory.
-    pub fn expired_of(&self, alloc: Global, kernel: Kernel) -> Result<Vec<TxNo>, NoMemory>
-        ensures { IfOk result (λ calls. calls.items ≡ due_of self.now.machine kernel) }
+    /// The copy at that place of those that may come to the kernel next, in the order of sending; None exactly where there is none at
+    /// that place.
+    pub fn copy_offered(&self, kernel: Kernel, place: usize) -> Option<CopyNo>
+        ensures { result ≡ slice_get (offered self.now.machine kernel) place }
     {
-        due_of(alloc, &self.table, kernel)
+        copy_offered(self.table.copies.as_slice(), kernel, place)
+    }
+
+    /// How many timers of the kernel's calls may fire: no copy of the call is in flight, and no receiver has it.
+    pub fn timers_due(&self, kernel: Kernel) -> usize
+        ensures count { result ≡ length (due_of self.now.machine kernel) }
+        ensures few { result < 2 ^ 63 }
+    {
+        timers_due(&self.table, kernel)
+    }
+
+    /// The call at that place of the kernel's calls whose timer may fire, in ascending order; None exactly where there is none at that
+    /// place.
+    pub fn timer_due(&self, kernel: Kernel, place: usize) -> Option<TxNo>
+        ensures { result ≡ slice_get (due_of self.now.machine kernel) place }
+    {
+        timer_due(&self.table, kernel, place)
     }
 
     /// Whether the timer of the call may fire.

@@ -230,30 +230,30 @@ fn first_of_two(fates: &[Fate]) -> Option<Seen> {
 }
 
 // Asks how many copies may come to kernel 2.
-fn offered(alloc: Global, wire: &Wire<Bytes, PlanLink>) -> Option<Seen> {
+fn offered(wire: &Wire<Bytes, PlanLink>) -> Option<Seen> {
     let kernel = Kernel::new(2)?;
-    match wire.copies_for(alloc, kernel) {
-        Ok(copies) => Some(Seen::Copies(copies.len())),
-        Err(_) => None,
-    }
+    Some(Seen::Copies(wire.copies_offered(kernel)))
 }
 
 // Asks whether the copy may come to the kernel next.
-fn comes(alloc: Global, wire: &Wire<Bytes, PlanLink>, kernel: u8, copy: CopyNo) -> Option<Seen> {
+fn comes(wire: &Wire<Bytes, PlanLink>, kernel: u8, copy: CopyNo) -> Option<Seen> {
     let kernel = Kernel::new(kernel)?;
-    match wire.copies_for(alloc, kernel) {
-        Ok(copies) => Some(Seen::Comes(copies.as_slice().contains(&copy))),
-        Err(_) => None,
+    for place in 0..wire.copies_offered(kernel) {
+        if wire.copy_offered(kernel, place) == Some(copy) {
+            return Some(Seen::Comes(true));
+        }
     }
+    Some(Seen::Comes(false))
 }
 
-// Asks how many timers of kernel 1 may fire.
-fn due(alloc: Global, wire: &Wire<Bytes, PlanLink>) -> Option<Seen> {
+// Asks how many timers of kernel 1 may fire, each at its place.
+fn due(wire: &Wire<Bytes, PlanLink>) -> Option<Seen> {
     let kernel = Kernel::new(1)?;
-    match wire.expired_of(alloc, kernel) {
-        Ok(calls) => Some(Seen::Timers(calls.len())),
-        Err(_) => None,
+    let count = wire.timers_due(kernel);
+    for place in 0..count {
+        let _call = wire.timer_due(kernel, place)?;
     }
+    Some(Seen::Timers(count))
 }
 
 // Kernel 2 goes silent.
@@ -339,12 +339,12 @@ fn perform(alloc: Global, wire: &mut Wire<Bytes, PlanLink>, act: Act) -> Option<
         Act::Deliver(copy) => deliver(alloc, wire, CopyNo(copy)),
         Act::Answer(tx) => answer(alloc, wire, TxNo(tx)),
         Act::Expire(tx) => expire(alloc, wire, TxNo(tx)),
-        Act::Offered => offered(alloc, wire),
-        Act::Comes(kernel, copy) => comes(alloc, wire, kernel, CopyNo(copy)),
+        Act::Offered => offered(wire),
+        Act::Comes(kernel, copy) => comes(wire, kernel, CopyNo(copy)),
         Act::Broadcast => broadcast(alloc, wire),
         Act::MayAnswer(tx) => Some(Seen::MayAnswer(wire.may_answer(TxNo(tx)))),
         Act::Silent(tx) => silent(wire, TxNo(tx)),
-        Act::Due => due(alloc, wire),
+        Act::Due => due(wire),
         Act::Quiet => Some(Seen::Quiet(wire.quiet())),
         Act::State(tx) => Some(Seen::State(wire.state_of(TxNo(tx)))),
     }

@@ -8,3 +8,4 @@ pub mod CoherenceLaws
 pub mod SharedLaws
 pub mod StampLaws
 pub mod AloneLaws
+pub mod ListLaws

@@ -1,8 +1,9 @@
 -- The files of one server.
-use Rattle.std.specs.Prelude.{◌≡◌, ℕ, ◌==◌, Bool, ◌&&◌, List, Option, Some, None}
+use Rattle.std.specs.Prelude.{◌≡◌, ℕ, ◌==◌, Bool, ◌&&◌, List, [], Option, Some, None}
 use Rattle.std.specs.List.{AllByRecursion}
 use Rattle.std.specs.Map.{lookup, remove_entry}
 use Rattle.indexmap.specs.IndexMap.{insert_entry}
+use Rattle.lru.specs.LruCache.{LruCache}
 use Rattle.sprite_ids.specs.declared.FileId.{FileId}
 use Rattle.sprite_ids.specs.declared.StreamNo.{StreamNo}
 use Rattle.version_table.specs.declared.versioned.Versioned.{Versioned}
@@ -12,6 +13,11 @@ use Rattle.version_table.specs.Coherence.{IsKept}
 -- the files that anybody opened, in the order of their first opens, each with what is kept of it
 abbrev pub Files : Type 0
 Files = List (FileId × Versioned)
+
+-- the files of a list that is made with the first of them
+abbrev pub files_in : Option (LruCache FileId Versioned) → Files
+files_in None = []
+files_in (Some list) = list.entries
 
 -- whether clients have a cache, and the files
 pub record Table : Type 0 where

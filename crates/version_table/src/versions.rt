@@ -9,7 +9,7 @@ ghost use Rattle.version_table.specs.Versions.{file_of, with_file, with_closed, 
 use crate::action::{Action, Decision};
 use crate::files;
 use crate::versioned::Versioned;
-use indexmap::IndexMap;
+use lru::LruCache;
 use sprite_ids::{FileId, Grant, Kernel, Mode, NoMemory, StreamNo};
 use std::alloc::Global;
 use std::marker::Model;
@@ -21,17 +21,18 @@ use std::marker::Model;
 pub struct Versions {
     alloc: Global,
     cached: bool,
-    files: IndexMap<FileId, Versioned>,
+    // None before the first open. It is never promoted, so a file is dropped from any place in it at the same cost.
+    files: Option<LruCache<FileId, Versioned>>,
 }
 
 impl Model for Versions {
-    ghost use Rattle.version_table.specs.Versions.{Table, AreKept};
+    ghost use Rattle.version_table.specs.Versions.{Table, AreKept, files_in};
 
     ghost Value = { Table };
 
-    ghost view = { λ versions. record { cached = versions.cached; files = versions.files.entries } };
+    ghost view = { λ versions. record { cached = versions.cached; files = files_in versions.files } };
 
-    ghost invariant = { λ versions. AreKept versions.files.entries };
+    ghost invariant = { λ versions. AreKept (files_in versions.files) };
 }
 
 impl Versions {
@@ -43,7 +44,7 @@ impl Versions {
         Versions {
             alloc,
             cached,
-            files: IndexMap::new(alloc),
+            files: None,
         }
     }
 
@@ -51,7 +52,7 @@ impl Versions {
     pub fn room(&self, file: FileId) -> bool
         ensures { result ≡ is_roomy (file_of self.now.files file) }
     {
-        match self.files.get(&file) {
+        match files::find(&self.files, &file) {
             Some(versioned) => versioned.is_roomy(),
             None => true,
         }
@@ -86,7 +87,7 @@ impl Versions {
     pub fn is_ready(&self, file: FileId) -> bool
         ensures { result ≡ is_ready (file_of self.now.files file) }
     {
-        match self.files.get(&file) {
+        match files::find(&self.files, &file) {
             Some(versioned) => versioned.is_ready(),
             None => false,
         }
@@ -118,7 +119,7 @@ impl Versions {
     pub fn current(&self, file: FileId, kernel: Kernel) -> Grant
         ensures { result ≡ current (file_of self.now.files file) kernel }
     {
-        match self.files.get(&file) {
+        match files::find(&self.files, &file) {
             Some(versioned) => versioned.current(kernel),
             None => Versioned::fresh(self.alloc, &file).current(kernel),
         }
@@ -128,7 +129,7 @@ impl Versions {
     pub fn busy(&self, file: FileId) -> bool
         ensures { result ≡ is_busy (file_of self.now.files file) }
     {
-        match self.files.get(&file) {
+        match files::find(&self.files, &file) {
             Some(versioned) => versioned.is_busy(),
             None => false,
         }
@@ -138,7 +139,7 @@ impl Versions {
     pub fn is_open(&self, file: FileId) -> bool
         ensures { result ≡ is_any (file_of self.now.files file).opens }
     {
-        match self.files.get(&file) {
+        match files::find(&self.files, &file) {
             Some(versioned) => versioned.is_open(),
             None => false,
         }
@@ -148,7 +149,7 @@ impl Versions {
     pub fn count(&self, file: FileId, stream: StreamNo, kernel: Kernel) -> u32
         ensures { result ≡ count_in (open_at (file_of self.now.files file).opens stream kernel) }
     {
-        match self.files.get(&file) {
+        match files::find(&self.files, &file) {
             Some(versioned) => versioned.count(&stream, kernel),
             None => 0,
         }
@@ -158,7 +159,7 @@ impl Versions {
     pub fn mode(&self, file: FileId, stream: StreamNo) -> Option<Mode>
         ensures { result ≡ stream_mode (file_of self.now.files file).opens stream }
     {
-        match self.files.get(&file) {
+        match files::find(&self.files, &file) {
             Some(versioned) => versioned.mode(&stream),
             None => None,
         }
@@ -181,6 +182,6 @@ impl Versions {
     pub fn forget(&mut self, file: FileId)
         ensures { self.new ≡ record self.old { files = forgotten self.old.files file } }
     {
-        self.files.shift_remove(&file);
+        files::forget(&mut self.files, &file);
     }
 }

@@ -1,8 +1,12 @@
-use Rattle.std.proofs.Common.{sym, ap, ◌∙◌}
+use Rattle.std.proofs.Common.{sym, ap, subst, ◌∙◌}
 use Rattle.std.specs.List.{position}
 use Rattle.kernel_rpc.specs.Machine.{is_copy}
+use Rattle.kernel_rpc.specs.Table.{Rise}
 use Rattle.sprite_ids.proofs.OnceLaws.{none_found, less_here, not_less}
 use Rattle.kernel_rpc.proofs.copies.land.Goals as goal
+
+pub place_of-requires : goal.place_of-requires
+place_of-requires c = subst Rise (sym c.as_slice.ensures.value) c.requires
 
 pub returns-in-Some-clause-items : goal.returns-in-Some-clause-items
 returns-in-Some-clause-items c =

@@ -6,6 +6,7 @@ use Rattle.kernel_rpc.specs.Sound.{Sound}
 use Rattle.kernel_rpc.specs.Table.{machine_of}
 use Rattle.kernel_rpc.proofs.BeginLaws.{may_answer_held}
 use Rattle.kernel_rpc.proofs.LandLaws.{answer_sound}
+use Rattle.kernel_rpc.proofs.OrderLaws.{Rises, rises_replied}
 use Rattle.kernel_rpc.proofs.wire.Wire.answer.Goals as goal
 
 pub invariant_of-self-2 : goal.invariant_of-self-2
@@ -19,4 +20,4 @@ invariant_of-self-2 g c =
     let held = may_answer_held (call_of machine tx) allowed in
     let readable : reads c.in_ok-bytes.bytes = (c.args.body, ap g.M.Message.reading c.in_ok-bytes.ensures.bytes ∙ g.met.M.Message.again c.args.body c.in_ok-bytes.ensures.known) in
     let asks : AsksBack g.L.Link.faults g.L.Link.asked c.self.inside.link after given (Some held.0) = subst (AsksBack g.L.Link.faults g.L.Link.asked c.self.inside.link after given) held.1 c.in_ok-fate.ensures.link in
-    record { sound = subst (Sound reads (g.L.Link.faults after)) (sym c.in_ok-fate.ensures.ok) (answer_sound reads g.L.Link.faults g.L.Link.asked c.self.inside.link after machine tx held.0 c.in_ok-bytes.bytes given readable held.1 held.2 asks c.self.invariant.sound); counted = c.in_ok-fate.ensures.counted }
+    record { sound = subst (Sound reads (g.L.Link.faults after)) (sym c.in_ok-fate.ensures.ok) (answer_sound reads g.L.Link.faults g.L.Link.asked c.self.inside.link after machine tx held.0 c.in_ok-bytes.bytes given readable held.1 held.2 asks c.self.invariant.sound); counted = c.in_ok-fate.ensures.counted; rising = subst Rises (sym c.in_ok-fate.ensures.ok) (rises_replied (call_of machine tx) given machine c.self.invariant.rising) }

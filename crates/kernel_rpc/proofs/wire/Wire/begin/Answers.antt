@@ -10,6 +10,7 @@ use Rattle.kernel_rpc.specs.Table.{machine_of}
 use Rattle.kernel_rpc.proofs.BeginLaws.{only_packet, asked_once}
 use Rattle.kernel_rpc.proofs.PartLaws.{eq_same}
 use Rattle.kernel_rpc.proofs.SoundLaws.{begin_sound}
+use Rattle.kernel_rpc.proofs.OrderLaws.{Rises, rises_begun}
 use Rattle.kernel_rpc.proofs.wire.Wire.begin.Goals as goal
 
 pub invariant_of-self-2 : goal.invariant_of-self-2
@@ -24,7 +25,7 @@ invariant_of-self-2 g c =
     let there : machine_of c.begin.new.table ≡ begun call sent machine = c.in_ok-sent.ensures.ok ∙ ap (λ call. begun call sent machine) same in
     let kernels : map (λ (packet : ℕ × Fate). packet.0) sent ≡ map kernel (map fresh servers) = c.in_ok-sent.ensures.receivers ∙ ap (map kernel) c.in_ok-receivers.ensures in
     let readable : Reads g.M.Message.reading (g.M.Message.spelling c.args.body) = (c.args.body, g.met.M.Message.again c.args.body c.in_ok-body.ensures.known) in
-    record { sound = subst (Sound (Reads g.M.Message.reading) (g.L.Link.faults c.begin.new.link)) (sym there) (begin_sound (Reads g.M.Message.reading) g.L.Link.faults g.L.Link.asked c.self.inside.link c.begin.new.link machine c.args.from c.args.port servers c.args.to (g.M.Message.spelling c.args.body) c.args.tries c.args.about (g.L.Link.faults c.self.inside.link c.args.from c.args.to) sent readable refl (ap (λ b. b || false) (eq_same c.args.to)) kernels c.in_ok-sent.ensures.link c.self.invariant.sound); counted = c.in_ok-sent.ensures.counted }
+    record { sound = subst (Sound (Reads g.M.Message.reading) (g.L.Link.faults c.begin.new.link)) (sym there) (begin_sound (Reads g.M.Message.reading) g.L.Link.faults g.L.Link.asked c.self.inside.link c.begin.new.link machine c.args.from c.args.port servers c.args.to (g.M.Message.spelling c.args.body) c.args.tries c.args.about (g.L.Link.faults c.self.inside.link c.args.from c.args.to) sent readable refl (ap (λ b. b || false) (eq_same c.args.to)) kernels c.in_ok-sent.ensures.link c.self.invariant.sound); counted = c.in_ok-sent.ensures.counted; rising = subst Rises (sym there) (rises_begun call sent machine c.self.invariant.rising) }
 
 pub returns-clause-link : goal.returns-clause-link
 returns-clause-link g c =

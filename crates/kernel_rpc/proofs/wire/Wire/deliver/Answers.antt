@@ -10,11 +10,20 @@ use Rattle.kernel_rpc.specs.Bodies.{IsMessage, Reads, body_of, reply_of}
 use Rattle.kernel_rpc.specs.Links.{AsksBack}
 use Rattle.kernel_rpc.specs.Results.{Delivers}
 use Rattle.kernel_rpc.specs.Sound.{Sound}
-use Rattle.kernel_rpc.specs.Table.{counts_of, machine_of}
+use Rattle.kernel_rpc.specs.Histories.{AreNumbersRising}
+use Rattle.kernel_rpc.specs.Table.{Rise, counts_of, machine_of}
 use Rattle.kernel_rpc.proofs.ArrivalLaws.{first_request, asked_again}
 use Rattle.kernel_rpc.proofs.CountLaws.{counted_stray}
+use Rattle.kernel_rpc.proofs.OrderLaws.{Rises, rises_arrived, rises_landed}
+use Rattle.kernel_rpc.proofs.RiseLaws.{rise}
 use Rattle.kernel_rpc.proofs.LandLaws.{flying_is, take_request_sound, take_reply_sound, take_again_sound, past_sound}
 use Rattle.kernel_rpc.proofs.wire.Wire.deliver.Goals as goal
+
+pub find_copy-requires : goal.find_copy-requires
+find_copy-requires g c = subst Rise (sym c.as_slice.ensures.value) (rise 1 c.self.inside.table.next_copy c.self.inside.table.copies.items c.self.invariant.rising)
+
+pub land-requires : goal.land-requires
+land-requires g c = rise 1 c.self.inside.table.next_copy c.self.inside.table.copies.items c.self.invariant.rising
 
 pub take_request-requires-clause-flying : goal.take_request-requires-clause-flying
 take_request-requires-clause-flying g c =
@@ -74,6 +83,7 @@ invariant_of-self g c =
     record {
       sound = rw c.land.ensures.items (past_sound reads faults machine packet flying is c.self.invariant.sound);
       counted = c.self.invariant.counted ∙ sym (counted_stray machine.unfinished machine.copies packet (none_found p machine.unfinished (ap (λ wired. position p wired.machine.unfinished) c.self.view_is ∙ sym c.place.ensures ∙ c.in_default-place.is)) flying) ∙ ap (λ copies. counts_of copies machine.unfinished) (sym c.land.ensures.items);
+      rising = subst (λ copies. AreNumbersRising 1 copies machine.next_copy) (sym c.land.ensures.items) (rises_landed packet machine c.self.invariant.rising);
     }
 
 pub invariant_of-self-in-FirstRequest : goal.invariant_of-self-in-FirstRequest
@@ -91,7 +101,7 @@ invariant_of-self-in-FirstRequest g c =
     let found : call_of machine packet.tx ≡ Some call = found_there p machine.unfinished at call place ∙ ap Some (sym c.index.ensures) in
     let is : arrival_of packet (call_of machine packet.tx) ≡ FirstRequest = ap (arrival_of packet) found ∙ sym c.arrival_to.ensures ∙ c.in-FirstRequest.is in
     let first = first_request packet (call_of machine packet.tx) is in
-    record { sound = subst (Sound reads faults) (sym c.take_request.ensures.machine) (take_request_sound reads faults machine packet first.0 flying first.1 first.2 first.3 Once c.self.invariant.sound); counted = c.take_request.ensures.counted }
+    record { sound = subst (Sound reads faults) (sym c.take_request.ensures.machine) (take_request_sound reads faults machine packet first.0 flying first.1 first.2 first.3 Once c.self.invariant.sound); counted = c.take_request.ensures.counted; rising = subst Rises (sym c.take_request.ensures.machine) (rises_arrived FirstRequest packet Once machine c.self.invariant.rising) }
 
 pub invariant_of-self-in-FirstReply : goal.invariant_of-self-in-FirstReply
 invariant_of-self-in-FirstReply g c =
@@ -102,7 +112,7 @@ invariant_of-self-in-FirstReply g c =
     let p = is_call packet.tx in
     let there : copy_of machine c.args.copy ≡ Some packet = ap (find (is_copy c.args.copy)) (sym c.as_slice.ensures.value) ∙ sym c.find_copy.ensures ∙ c.in-Some.is in
     let flying = flying_is c.args.copy packet machine.copies there in
-    record { sound = subst (Sound reads faults) (sym c.take_reply.ensures.machine) (take_reply_sound reads faults machine packet flying Once c.self.invariant.sound); counted = c.take_reply.ensures.counted }
+    record { sound = subst (Sound reads faults) (sym c.take_reply.ensures.machine) (take_reply_sound reads faults machine packet flying Once c.self.invariant.sound); counted = c.take_reply.ensures.counted; rising = subst Rises (sym c.take_reply.ensures.machine) (rises_arrived FirstReply packet Once machine c.self.invariant.rising) }
 
 pub invariant_of-self-in-AskedAgain : goal.invariant_of-self-in-AskedAgain
 invariant_of-self-in-AskedAgain g c =
@@ -122,7 +132,7 @@ invariant_of-self-in-AskedAgain g c =
     let after = c.take_again.new.link in
     let answer = c.in_ok-fate-in-AskedAgain.fate in
     let asks : AsksBack g.L.Link.faults g.L.Link.asked c.self.inside.link after answer (Some again.0) = subst (AsksBack g.L.Link.faults g.L.Link.asked c.self.inside.link after answer) again.1 c.in_ok-fate-in-AskedAgain.ensures.link in
-    record { sound = subst (Sound reads (g.L.Link.faults after)) (sym c.in_ok-fate-in-AskedAgain.ensures.ok) (take_again_sound reads g.L.Link.faults g.L.Link.asked c.self.inside.link after machine packet again.0 answer flying again.1 again.2 asks c.self.invariant.sound); counted = c.in_ok-fate-in-AskedAgain.ensures.counted }
+    record { sound = subst (Sound reads (g.L.Link.faults after)) (sym c.in_ok-fate-in-AskedAgain.ensures.ok) (take_again_sound reads g.L.Link.faults g.L.Link.asked c.self.inside.link after machine packet again.0 answer flying again.1 again.2 asks c.self.invariant.sound); counted = c.in_ok-fate-in-AskedAgain.ensures.counted; rising = subst Rises (sym c.in_ok-fate-in-AskedAgain.ensures.ok) (rises_arrived AskedAgain packet answer machine c.self.invariant.rising) }
 
 pub invariant_of-self-in-Past : goal.invariant_of-self-in-Past
 invariant_of-self-in-Past g c =
@@ -138,7 +148,7 @@ invariant_of-self-in-Past g c =
     let place : position p machine.unfinished ≡ Some at = ap (λ wired. position p wired.machine.unfinished) c.self.view_is ∙ sym c.place.ensures ∙ c.in-Some-place.is in
     let found : call_of machine packet.tx ≡ Some call = found_there p machine.unfinished at call place ∙ ap Some (sym c.index.ensures) in
     let is : arrival_of packet (call_of machine packet.tx) ≡ Past = ap (arrival_of packet) found ∙ sym c.arrival_to.ensures ∙ c.in-Past.is in
-    record { sound = subst (Sound reads faults) (sym c.arrive.ensures.machine) (past_sound reads faults machine packet flying is c.self.invariant.sound); counted = c.arrive.ensures.stands.counted }
+    record { sound = subst (Sound reads faults) (sym c.arrive.ensures.machine) (past_sound reads faults machine packet flying is c.self.invariant.sound); counted = c.arrive.ensures.stands.counted; rising = c.arrive.ensures.stands.rising }
 
 pub returns-in_default-place-clause-ok : goal.returns-in_default-place-clause-ok
 returns-in_default-place-clause-ok g c =

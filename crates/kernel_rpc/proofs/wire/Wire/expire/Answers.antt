@@ -9,6 +9,7 @@ use Rattle.kernel_rpc.proofs.BeginLaws.{before_last, gives_up}
 use Rattle.kernel_rpc.proofs.CountLaws.{ascend}
 use Rattle.kernel_rpc.proofs.LandLaws.{give_up_sound}
 use Rattle.kernel_rpc.proofs.SoundLaws.{due_spent, found_sound, resend_sound}
+use Rattle.kernel_rpc.proofs.OrderLaws.{Rises, rises_resent}
 use Rattle.kernel_rpc.proofs.wire.Wire.expire.Goals as goal
 
 pub find_call-requires : goal.find_call-requires
@@ -16,7 +17,7 @@ find_call-requires g c = subst Ascend (sym c.as_slice.ensures.value) (ascend 0 c
 
 pub invariant_of-self-then-is_last : goal.invariant_of-self-then-is_last
 invariant_of-self-then-is_last g c =
-    record { sound = subst (Sound (Reads g.M.Message.reading) (g.L.Link.faults c.self.inside.link)) (sym c.in_ok-give_up.ensures.ok) (give_up_sound (Reads g.M.Message.reading) (g.L.Link.faults c.self.inside.link) (machine_of c.self.inside.table) c.args.tx c.self.invariant.sound); counted = c.in_ok-give_up.ensures.counted }
+    record { sound = subst (Sound (Reads g.M.Message.reading) (g.L.Link.faults c.self.inside.link)) (sym c.in_ok-give_up.ensures.ok) (give_up_sound (Reads g.M.Message.reading) (g.L.Link.faults c.self.inside.link) (machine_of c.self.inside.table) c.args.tx c.self.invariant.sound); counted = c.in_ok-give_up.ensures.counted; rising = subst Rises (sym c.in_ok-give_up.ensures.ok) c.self.invariant.rising }
 
 pub returns-then-is_last-clause-ok : goal.returns-then-is_last-clause-ok
 returns-then-is_last-clause-ok g c =
@@ -49,4 +50,4 @@ invariant_of-self-2 g c =
     let after = c.resend.new.link in
     let asks : AsksAll g.L.Link.faults g.L.Link.asked c.self.inside.link after sent (Some call) = subst (AsksAll g.L.Link.faults g.L.Link.asked c.self.inside.link after sent) found c.in_ok-sent.ensures.link in
     let there : machine_of c.resend.new.table ≡ resent tx (Some call) sent machine = c.in_ok-sent.ensures.ok ∙ ap (λ o. resent tx o sent machine) found in
-    record { sound = subst (Sound reads (g.L.Link.faults after)) (sym there) (resend_sound reads g.L.Link.faults g.L.Link.asked c.self.inside.link after machine tx call sent found due asks c.self.invariant.sound); counted = c.in_ok-sent.ensures.counted }
+    record { sound = subst (Sound reads (g.L.Link.faults after)) (sym there) (resend_sound reads g.L.Link.faults g.L.Link.asked c.self.inside.link after machine tx call sent found due asks c.self.invariant.sound); counted = c.in_ok-sent.ensures.counted; rising = subst Rises (sym there) (rises_resent tx call sent machine c.self.invariant.rising) }

@@ -7,6 +7,7 @@ use Rattle.kernel_rpc.proofs.BeginLaws.{may_be_silent_apart}
 use Rattle.kernel_rpc.proofs.CountLaws.{stands_of}
 use Rattle.kernel_rpc.proofs.LandLaws.{silent_sound}
 use Rattle.kernel_rpc.proofs.PartLaws.{eq_turned}
+use Rattle.kernel_rpc.proofs.OrderLaws.{Rises}
 use Rattle.kernel_rpc.proofs.wire.Wire.silent.Goals as goal
 
 pub silence-requires-clause-stands : goal.silence-requires-clause-stands
@@ -28,4 +29,5 @@ invariant_of-self g c =
     record {
       sound = subst (Sound (Reads g.M.Message.reading) (g.L.Link.faults c.self.inside.link)) (sym c.silence.ensures.machine) (silent_sound (Reads g.M.Message.reading) (g.L.Link.faults c.self.inside.link) machine tx c.args.at apart.0 apart.1 (eq_turned apart.0.owner c.args.at apart.2) c.self.invariant.sound);
       counted = c.silence.ensures.counted;
+      rising = subst Rises (sym c.silence.ensures.machine) c.self.invariant.rising;
     }

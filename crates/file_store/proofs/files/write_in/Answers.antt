@@ -1,0 +1,7 @@
+use Rattle.std.proofs.Common.{sym, refl}
+use Rattle.file_store.proofs.LengthLaws.{failed_back}
+use Rattle.file_store.proofs.files.write_in.Goals as goal
+
+pub returns-in-Some-clause-err : goal.returns-in-Some-clause-err
+returns-in-Some-clause-err c =
+    failed_back c.write.result c.args.list.now.entries _ c.args.file.now c.in-Some.content.now c.write.new.self refl (sym c.in-Some.ensures.value) c.write.ensures.err

@@ -1,8 +1,0 @@
-use Rattle.std.proofs.Common.{sym}
-use Rattle.version_table.specs.Files.{settled}
-use Rattle.version_table.proofs.FileLaws.{changed_there}
-use Rattle.version_table.proofs.files.settle.Goals as goal
-
-pub returns-clause-files : goal.returns-clause-files
-returns-clause-files c =
-    changed_there settled c.args.files.now.entries _ c.args.file.now c.settle.new.self c.in-Some.versioned.now (sym c.in-Some.ensures.value) (c.get_mut.follows.holds c.settle.new.self).0 c.settle.ensures.file
