@@ -1,5 +1,5 @@
 -- What is asked of a client kernel between two steps.
-use Rattle.std.specs.Prelude.{ℕ, Bool, not, if◌then◌else◌, List, [], ◌∷◌, Option, Some, None, option_map}
+use Rattle.std.specs.Prelude.{ℕ, Bool, not, if◌then◌else◌, Option, Some, None, option_map}
 use Rattle.process_machine.specs.Machine.{Machine}
 use Rattle.client_homes.specs.declared.Proc.{Proc}
 use Rattle.client_homes.specs.declared.ClientProcs.{ClientProcs}
@@ -7,11 +7,6 @@ use Rattle.client_homes.specs.Procs.{proc_at, with_proc}
 use Rattle.home_table.specs.Home.{is_any_living}
 use Rattle.client_moves.specs.Evicting.{runs_here}
 use Rattle.client_moves.specs.Returning.{number_at}
-
--- those of the processes that are kept here
-abbrev pub kept_in : ClientProcs → List ℕ → List ℕ
-kept_in s [] = []
-kept_in s (pid ∷ pids) = if runs_here pid s then pid ∷ kept_in s pids else kept_in s pids
 
 -- the image of a process that is kept here
 abbrev pub image_of : Option Proc → Option Machine

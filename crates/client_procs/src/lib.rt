@@ -16,5 +16,5 @@ mod turns;
 
 pub use booting::boot;
 pub use client_homes::ClientProcs;
-pub use readers::{all_ended, due, image, number, pids, ready, set_image};
+pub use readers::{all_ended, due, image, number, ready, set_image};
 pub use step::take;

@@ -1,36 +1,13 @@
-ghost use Rattle.std.specs.Prelude.{◌≡◌, IfOk, option_map};
+ghost use Rattle.std.specs.Prelude.{◌≡◌, option_map};
 ghost use Rattle.client_moves.specs.Evicting.{is_ready};
 ghost use Rattle.client_moves.specs.Returning.{number_at};
-ghost use Rattle.client_procs.specs.Readers.{all_ended, image_in, kept_in, number_in, with_image};
+ghost use Rattle.client_procs.specs.Readers.{all_ended, image_in, number_in, with_image};
 ghost use Rattle.write_delay.specs.Delays.{due};
-ghost use Rattle.std.specs.Map.{keys_of};
 
 use client_homes::{ClientProcs, Proc};
 use client_moves::{is_ready, runs_here};
 use process_machine::Image;
-use sprite_ids::{BlockNo, FileId, Items, NoMemory, Pid};
-use std::alloc::Global;
-
-/// The processes that are kept here, in ascending order: who arrives, dies or has ended isn't one of them. The one error is want
-/// of memory.
-pub fn pids(client: &ClientProcs, alloc: Global) -> Result<Items<Pid>, NoMemory>
-    ensures { IfOk result (λ pids. pids ≡ kept_in client.now (keys_of client.now.procs)) }
-{
-    let keys = client.procs.keys(alloc)?;
-    kept(client, alloc, keys.as_slice())
-}
-
-fn kept(client: &ClientProcs, alloc: Global, keys: &[Pid]) -> Result<Items<Pid>, NoMemory>
-    ensures { IfOk result (λ pids. pids ≡ kept_in client.now keys.now) }
-{
-    let mut pids = Items::new(alloc);
-    for pid in keys {
-        if runs_here(client, *pid) {
-            pids.push(*pid)?;
-        }
-    }
-    Ok(pids)
-}
+use sprite_ids::{BlockNo, FileId, Pid};
 
 /// The image of the process; None exactly where it isn't kept here.
 pub fn image(client: &ClientProcs, pid: Pid) -> Option<&Image>

@@ -2,7 +2,7 @@ use crate::bodies::{Says, Wants, answer_of, request_of};
 use crate::told::{Said, says};
 use crate::words::{Does, call_of, pid};
 use crate::world::{client, image_away, kernel};
-use client_procs::{ClientProcs, number, pids, set_image, take};
+use client_procs::{ClientProcs, number, set_image, take};
 use kernel_steps::{Input, Out};
 use sprite_ids::{NoMemory, Pid, TxNo};
 use std::alloc::Global;
@@ -31,12 +31,23 @@ pub(crate) enum Step {
 /// processes have no answer; and what it says.
 pub(crate) type Row = (Step, [usize; 4], Said);
 
+// How many processes are kept.
+fn count_kept(client: &ClientProcs, alloc: Global) -> Result<usize, NoMemory> {
+    let pids = client.procs.keys(alloc)?;
+    let mut kept = 0_usize;
+    for pid in pids.as_slice() {
+        if number(client, *pid).is_some() {
+            kept = kept.saturating_add(1);
+        }
+    }
+    Ok(kept)
+}
+
 // Whether the step said so.
 fn is_said(client: &ClientProcs, alloc: Global, out: &Out, row: &Row) -> Result<bool, NoMemory> {
-    let kept = pids(client, alloc)?;
     let counts = [
         out.events.len(),
-        kept.len(),
+        count_kept(client, alloc)?,
         client.leaving.len(),
         client.unfinished.len(),
     ];

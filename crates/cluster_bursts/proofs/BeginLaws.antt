@@ -1,11 +1,10 @@
 -- A burst that begins would count, and does what its program says.
 use Rattle.std.proofs.Common.{◌≡◌, ℕ, ◌<◌, ◌==◌, Bool, true, false, ◌&&◌, ◌||◌, not, cond, List, [], ◌∷◌, ◌++◌, zero, suc, Option, Some, None, refl, sym, ap, ap₂, subst, ◌∙◌, length, nat_eq, nat_lt, slice_get, arith}
-use Rattle.std.proofs.lemmas.Bool.{and_parts, eq-eqb, eqb-true}
-use Rattle.std.proofs.lemmas.List.Quantifiers.{position-Some}
-use Rattle.std.specs.List.{filter, list_any, position}
-use Rattle.std.specs.Option.{is_some, option_eq}
+use Rattle.std.proofs.lemmas.Bool.{and_parts, eq-eqb}
+use Rattle.std.specs.List.{find, list_any}
+use Rattle.std.specs.Option.{is_some, option_eq, option_or}
 use Rattle.std.specs.Cmp.Lexicographic.{pointwise}
-use Rattle.sprite_ids.proofs.ListLaws.{get_found, some_is}
+use Rattle.sprite_ids.proofs.ListLaws.{some_is}
 use Rattle.process_machine.specs.Machine.{Machine}
 use Rattle.process_machine.specs.declared.Program.{Program}
 use Rattle.process_machine.specs.Runs.{ahead}
@@ -15,43 +14,55 @@ use Rattle.cluster_kernels.specs.declared.State.{State}
 use Rattle.cluster_kernels.specs.States.{count_at, image_at, is_ready_at, pids_at}
 use Rattle.cluster_bursts.specs.declared.job.Burst.{Burst}
 use Rattle.cluster_bursts.specs.declared.job.Job.{Job}
-use Rattle.cluster_bursts.specs.Bursts.{Did, IsDone, begun_by, counts, is_as_it_was, is_image, is_out, is_runnable, job_at, job_by, job_over, job_with, next_after, or_first, runnable_at, same_image}
+use Rattle.cluster_bursts.specs.Bursts.{Did, IsDone, begun_by, counts, is_as_it_was, is_image, is_out, is_runnable, job_at, job_by, job_over, job_with, has_job_at, is_next, next_at, same_image}
 
--- a place that was found has an item, and the first of a list that isn't empty is there
-found_some : (p : ℕ → Bool) (xs : List ℕ) (at : ℕ) → position p xs ≡ Some at → is_some (slice_get xs at) ≡ true
-found_some p xs at is = (let within = position-Some p xs at 0 is in let found = get_found xs at within.0 in ap is_some found.1)
+-- one is found exactly where there is one
+found_first : (p : ℕ → Bool) (x : ℕ) (xs : List ℕ) (b : Bool) → is_some (find p xs) ≡ list_any p xs → is_some (cond b (Some x) (find p xs)) ≡ (b || list_any p xs)
+found_first p x xs true rest = refl
+found_first p x xs false rest = rest
 
-not_none : (n : ℕ) (b : Bool) → (suc n == 0) ≡ b → not b ≡ true
-not_none n true is = (let e = eqb-true (suc n) 0 is in absurd (omega arith))
-not_none n false is = refl
+found_any : (p : ℕ → Bool) (xs : List ℕ) → is_some (find p xs) ≡ list_any p xs
+found_any p [] = refl
+found_any p (x ∷ xs) = found_first p x xs (p x) (found_any p xs)
 
-next_some : (p : ℕ → Bool) (xs : List ℕ) (o : Option ℕ) → position p xs ≡ o → is_some (or_first o xs) ≡ not (length xs == 0)
-next_some p [] None is = refl
-next_some p [] (Some at) is = absurd (cc)
-next_some p (x ∷ xs) None is = sym (not_none (length xs) (suc (length xs) == 0) refl)
-next_some p (x ∷ xs) (Some at) is = found_some p (x ∷ xs) at is ∙ sym (not_none (length xs) (suc (length xs) == 0) refl)
+-- and passes
+passes_first : (p : ℕ → Bool) (y : ℕ) (rest : Option ℕ) (b : Bool) (x : ℕ) → p y ≡ b → (rest ≡ Some x → p x ≡ true) → cond b (Some y) rest ≡ Some x → p x ≡ true
+passes_first p y rest true x holds later is = subst (λ z. p z ≡ true) (some_is y x is) holds
+passes_first p y rest false x holds later is = later is
 
--- there is a next process exactly where there is one
-pub next_there : (last : ℕ) (pids : List ℕ) → is_some (next_after last pids) ≡ not (length pids == 0)
-next_there last pids = next_some (λ pid. nat_lt last pid) pids (position (λ pid. nat_lt last pid) pids) refl
+found_passes : (p : ℕ → Bool) (xs : List ℕ) (x : ℕ) → find p xs ≡ Some x → p x ≡ true
+found_passes p [] x is = absurd (cc)
+found_passes p (y ∷ ys) x is = passes_first p y (find p ys) (p y) x refl (λ later. found_passes p ys x later) is
 
--- what a filter keeps passes
-kept_first : (p : ℕ → Bool) (y : ℕ) (ys : List ℕ) (b : Bool) {x : ℕ} → p y ≡ b → ((i : ℕ) → slice_get (filter p ys) i ≡ Some x → p x ≡ true) → (i : ℕ) → slice_get (cond {A = List ℕ} b (y ∷ filter p ys) (filter p ys)) i ≡ Some x → p x ≡ true
-kept_first p y ys true {x} holds rest zero is = subst (λ z. p z ≡ true) (some_is y x is) holds
-kept_first p y ys true holds rest (suc i) is = rest i is
-kept_first p y ys false holds rest i is = rest i is
+-- where one that passes two tests is found, so is one that passes the second
+any_second : (a b : Bool) (p q : ℕ → Bool) (xs : List ℕ) → (list_any (λ x. p x && q x) xs ≡ true → list_any q xs ≡ true) → ((a && b) || list_any (λ x. p x && q x) xs) ≡ true → (b || list_any q xs) ≡ true
+any_second a true p q xs rest is = refl
+any_second true false p q xs rest is = rest is
+any_second false false p q xs rest is = rest is
 
-kept_passes : (p : ℕ → Bool) (xs : List ℕ) (i x : ℕ) → slice_get (filter p xs) i ≡ Some x → p x ≡ true
-kept_passes p [] i x is = absurd (cc)
-kept_passes p (y ∷ ys) i x is = kept_first p y ys (p y) refl (λ i is. kept_passes p ys i x is) i is
+both_any : (p q : ℕ → Bool) (xs : List ℕ) → list_any (λ x. p x && q x) xs ≡ true → list_any q xs ≡ true
+both_any p q [] is = is
+both_any p q (x ∷ xs) is = any_second (p x) (q x) p q xs (both_any p q xs) is
 
-next_passes : (p : ℕ → Bool) (xs : List ℕ) (o : Option ℕ) (x : ℕ) → or_first o (filter p xs) ≡ Some x → p x ≡ true
-next_passes p xs None x is = kept_passes p xs 0 x is
-next_passes p xs (Some at) x is = kept_passes p xs at x is
+either_there : (p q : ℕ → Bool) (xs : List ℕ) (o : Option ℕ) → find (λ x. p x && q x) xs ≡ o → is_some (option_or o (find q xs)) ≡ list_any q xs
+either_there p q xs None is = found_any q xs
+either_there p q xs (Some x) is = sym (both_any p q xs (sym (found_any (λ x. p x && q x) xs) ∙ ap is_some is))
+
+-- there is a next process exactly where one can run
+next_there : (kernel : ℕ) (s : State) → is_some (next_at kernel s) ≡ has_job_at kernel s
+next_there kernel s = either_there (λ pid. nat_lt (count_at s.last kernel) pid) (is_runnable kernel s) (pids_at kernel s) (find (is_next kernel s (count_at s.last kernel)) (pids_at kernel s)) refl
+
+-- what a look for the next process in their list says of that
+pub next_says : (kernel : ℕ) (s : State) (o : Option ℕ) (pids : List ℕ) → pids ≡ pids_at kernel s → o ≡ option_or (find (is_next kernel s (count_at s.last kernel)) pids) (find (is_runnable kernel s) pids) → is_some o ≡ has_job_at kernel s
+next_says kernel s o pids same is = ap is_some is ∙ ap (λ (xs : List ℕ). is_some (option_or (find (is_next kernel s (count_at s.last kernel)) xs) (find (is_runnable kernel s) xs))) same ∙ next_there kernel s
 
 -- the next process can run
-next_runs : (kernel pid : ℕ) (s : State) → next_after (count_at s.last kernel) (runnable_at kernel s) ≡ Some pid → is_runnable kernel s pid ≡ true
-next_runs kernel pid s is = next_passes (is_runnable kernel s) (pids_at kernel s) (position (λ other. nat_lt (count_at s.last kernel) other) (runnable_at kernel s)) pid is
+runs_by : (kernel pid : ℕ) (s : State) (o : Option ℕ) → find (is_next kernel s (count_at s.last kernel)) (pids_at kernel s) ≡ o → option_or o (find (is_runnable kernel s) (pids_at kernel s)) ≡ Some pid → is_runnable kernel s pid ≡ true
+runs_by kernel pid s None first is = found_passes (is_runnable kernel s) (pids_at kernel s) pid is
+runs_by kernel pid s (Some other) first is = (and_parts (nat_lt (count_at s.last kernel) pid) (is_runnable kernel s pid) (found_passes (is_next kernel s (count_at s.last kernel)) (pids_at kernel s) pid (first ∙ is))).1
+
+next_runs : (kernel pid : ℕ) (s : State) → next_at kernel s ≡ Some pid → is_runnable kernel s pid ≡ true
+next_runs kernel pid s is = runs_by kernel pid s (find (is_next kernel s (count_at s.last kernel)) (pids_at kernel s)) refl is
 
 -- a number is the same as itself, a list of numbers and an image
 same_number : (n : ℕ) → nat_eq n n ≡ true
@@ -96,12 +107,12 @@ begins_with : (c : Description) (kernel pid : ℕ) (o : Option Machine) (job : J
 begins_with c kernel pid None job s runs has is = absurd (cc)
 begins_with c kernel pid (Some image) job s runs has is = begins_over c kernel pid image (program_at c.programs image.number) job s runs has refl is
 
-begins_by : (c : Description) (kernel : ℕ) (o : Option ℕ) (job : Job) (s : State) → next_after (count_at s.last kernel) (runnable_at kernel s) ≡ o → job_by c kernel o s ≡ Some job → Begins c kernel job s
+begins_by : (c : Description) (kernel : ℕ) (o : Option ℕ) (job : Job) (s : State) → next_at kernel s ≡ o → job_by c kernel o s ≡ Some job → Begins c kernel job s
 begins_by c kernel None job s next is = absurd (cc)
 begins_by c kernel (Some pid) job s next is = begins_with c kernel pid (image_at kernel pid s) job s (next_runs kernel pid s next) refl is
 
 begins_at : (c : Description) (kernel : ℕ) (job : Job) (s : State) → job_at c kernel s ≡ Some job → Begins c kernel job s
-begins_at c kernel job s is = begins_by c kernel (next_after (count_at s.last kernel) (runnable_at kernel s)) job s refl is
+begins_at c kernel job s is = begins_by c kernel (next_at kernel s) job s refl is
 
 -- the job of the kernel that was begun, done, would count: its process is what it was
 counts_so : (c : Description) (kernel : ℕ) (job : Job) (b : Burst) (s : State) → Begins c kernel job s → b.pid ≡ job.pid → b.from ≡ job.from → counts kernel b (begun_by kernel (Some job) s) ≡ true

@@ -1,7 +1,7 @@
 -- The instructions that processes do.
-use Rattle.std.specs.Prelude.{◌≡◌, ℕ, ◌+◌, ◌==◌, Bool, true, false, ◌&&◌, not, List, Option, Some, None, length, nat_eq, nat_lt, slice_get}
-use Rattle.std.specs.List.{filter, list_any, position}
-use Rattle.std.specs.Option.{option_eq}
+use Rattle.std.specs.Prelude.{◌≡◌, ℕ, ◌+◌, ◌==◌, Bool, true, false, ◌&&◌, not, List, Option, Some, None, nat_eq, nat_lt}
+use Rattle.std.specs.List.{find, list_any}
+use Rattle.std.specs.Option.{option_eq, option_or}
 use Rattle.std.specs.Cmp.Lexicographic.{pointwise}
 use Rattle.sprite_ids.specs.Lists.{less}
 use Rattle.process_machine.specs.declared.Program.{Program}
@@ -52,22 +52,17 @@ is_out kernel pid row = (row.0 == kernel) && (row.1 == pid)
 abbrev pub is_runnable : ℕ → State → ℕ → Bool
 is_runnable kernel s pid = is_ready_at kernel pid s && not (list_any (is_out kernel pid) s.out)
 
--- the processes that can run at the kernel and don't run now, in ascending order
-abbrev pub runnable_at : ℕ → State → List ℕ
-runnable_at kernel s = filter (is_runnable kernel s) (pids_at kernel s)
-
--- whether one of them can
+-- whether a process of the kernel can
 abbrev pub has_job_at : ℕ → State → Bool
-has_job_at kernel s = not (length (runnable_at kernel s) == 0)
+has_job_at kernel s = list_any (is_runnable kernel s) (pids_at kernel s)
 
--- the process at a looked-up place, or else the first of the list
-abbrev pub or_first : Option ℕ → List ℕ → Option ℕ
-or_first (Some at) pids = slice_get pids at
-or_first None pids = slice_get pids 0
+-- whether one can that has a greater number
+abbrev pub is_next : ℕ → State → ℕ → ℕ → Bool
+is_next kernel s last pid = nat_lt last pid && is_runnable kernel s pid
 
--- the process that is next after that one: the first with a greater number, or else the first of all
-abbrev pub next_after : ℕ → List ℕ → Option ℕ
-next_after last pids = or_first (position (λ pid. nat_lt last pid) pids) pids
+-- the process that is next: the first with a greater number than the one that ran last, or else the first of all
+abbrev pub next_at : ℕ → State → Option ℕ
+next_at kernel s = option_or (find (is_next kernel s (count_at s.last kernel)) (pids_at kernel s)) (find (is_runnable kernel s) (pids_at kernel s))
 
 -- a job over a looked-up program
 abbrev pub job_over : ℕ → Machine → Option Program → Option Job
@@ -86,7 +81,7 @@ job_by c kernel (Some pid) s = job_with c pid (image_at kernel pid s)
 
 -- the next job of the kernel: its processes take turns by their numbers
 abbrev pub job_at : Description → ℕ → State → Option Job
-job_at c kernel s = job_by c kernel (next_after (count_at s.last kernel) (runnable_at kernel s)) s
+job_at c kernel s = job_by c kernel (next_at kernel s) s
 
 -- the burst of that job, where there is one, is out
 abbrev pub begun_by : ℕ → Option Job → State → State

@@ -1,11 +1,11 @@
-ghost use Rattle.std.specs.Prelude.{◌≡◌, IfOk, OnOk, Some, nat_lt, option_map, slice_get};
-ghost use Rattle.std.specs.List.{filter, position};
-ghost use Rattle.std.specs.Option.{is_some};
+ghost use Rattle.std.specs.Prelude.{◌≡◌, IfOk, OnOk, Some, option_map};
+ghost use Rattle.std.specs.List.{find, list_any};
+ghost use Rattle.std.specs.Option.{is_some, option_or};
 ghost use Rattle.unix_calls.specs.Answers.{program_at};
 ghost use Rattle.unix_calls.specs.Lawful.{Lawful};
-ghost use Rattle.cluster_bursts.specs.Bursts.{begun_by, came_to, has_counted, has_job_at, is_as_it_was, is_image, is_runnable, issued, job_at, job_by, job_with, next_after, runnable_at, Did, EndsAs, EndsSo, GoesOn, same_image};
+ghost use Rattle.cluster_bursts.specs.Bursts.{begun_by, came_to, has_counted, has_job_at, is_as_it_was, is_image, is_next, is_runnable, issued, job_at, job_by, job_with, Did, EndsAs, EndsSo, GoesOn, same_image};
 ghost use Rattle.cluster_bursts.specs.Ends.{EndsBurst};
-ghost use Rattle.cluster_kernels.specs.States.{image_at, put_image};
+ghost use Rattle.cluster_kernels.specs.States.{count_at, image_at, put_image};
 ghost use Rattle.unix_calls.specs.declared.Event.TheVariants.{Burst as Ran};
 
 use crate::job::{Burst, Job};
@@ -21,32 +21,6 @@ use std::alloc::Global;
 use unix_calls::{Description, Event, ProgramLine};
 use wire_format::Packet;
 
-// The processes that can run at the kernel and don't run now, in ascending order. The one error is want of memory.
-fn runnable(alloc: Global, state: &State, kernel: Kernel) -> Result<Items<Pid>, NoMemory>
-    ensures { IfOk result (λ pids. pids ≡ runnable_at kernel state.now) }
-{
-    let kept = state.pids(alloc, kernel)?;
-    those_that_can(alloc, state, kernel, kept.as_slice())
-}
-
-// Those of the processes that can run at the kernel and don't run now.
-fn those_that_can(
-    alloc: Global,
-    state: &State,
-    kernel: Kernel,
-    kept: &[Pid],
-) -> Result<Items<Pid>, NoMemory>
-    ensures { IfOk result (λ pids. pids ≡ filter (is_runnable kernel state.now) kept.now) }
-{
-    let mut pids = Items::new(alloc);
-    for pid in kept {
-        if is_runnable(state, kernel, *pid) {
-            pids.push(*pid)?;
-        }
-    }
-    Ok(pids)
-}
-
 // Whether the process can run at the kernel and doesn't run now.
 fn is_runnable(state: &State, kernel: Kernel, pid: Pid) -> bool
     ensures { result ≡ is_runnable kernel state.now pid }
@@ -54,17 +28,28 @@ fn is_runnable(state: &State, kernel: Kernel, pid: Pid) -> bool
     state.is_ready(kernel, pid) && !state.out.has_row(&kernel, &pid)
 }
 
+// Whether one of the processes can run at the kernel and doesn't run now: it looks at them up to the first.
+fn is_any_runnable(state: &State, kernel: Kernel, pids: &[Pid]) -> bool
+    ensures { result ≡ list_any (is_runnable kernel state.now) pids.now }
+{
+    for pid in pids {
+        if is_runnable(state, kernel, *pid) {
+            return true;
+        }
+    }
+    false
+}
+
 /// Whether a process of the kernel can run and doesn't run now. The one error is want of memory.
 pub fn has_job(alloc: Global, state: &State, kernel: Kernel) -> Result<bool, NoMemory>
     ensures { IfOk result (λ has. has ≡ has_job_at kernel state.now) }
 {
-    let pids = runnable(alloc, state, kernel)?;
-    Ok(pids.len() != 0)
+    let pids = state.pids(alloc, kernel)?;
+    Ok(is_any_runnable(state, kernel, pids.as_slice()))
 }
 
 /// The next job of the kernel, whose burst is out from now on; None exactly where no process of it can run. The one error is want of
 /// memory; it is also the answer where the next process has no image or no program here, which never comes.
-#[tactic(auto, using(crate::proofs::BeginLaws::next_there))]
 pub fn begin_burst(
     alloc: Global,
     c: &Description,
@@ -75,14 +60,48 @@ pub fn begin_burst(
     ensures has { IfOk result (λ job. is_some job ≡ has_job_at kernel state.old) }
     ensures state { IfOk result (λ job. state.new ≡ begun_by kernel job state.old) }
 {
-    let pids = runnable(alloc, state, kernel)?;
-    match next_after(pids.as_slice(), state.last_of(kernel)) {
+    let pids = state.pids(alloc, kernel)?;
+    match next_of(state, kernel, pids.as_slice()) {
         Some(pid) => {
             let job = begin(alloc, c, state, kernel, pid)?;
             Ok(Some(job))
         }
         None => Ok(None),
     }
+}
+
+// The process that is next, among those.
+fn next_of(state: &State, kernel: Kernel, pids: &[Pid]) -> Option<Pid>
+    ensures { result ≡ option_or (find (is_next kernel state.now (count_at state.now.last kernel)) pids.now) (find (is_runnable kernel state.now) pids.now) }
+{
+    match first_after(state, kernel, pids, state.last_of(kernel)) {
+        Some(pid) => Some(pid),
+        None => first_of(state, kernel, pids),
+    }
+}
+
+// The first of the processes that can run and has a greater number than that.
+fn first_after(state: &State, kernel: Kernel, pids: &[Pid], last: u32) -> Option<Pid>
+    ensures { result ≡ find (is_next kernel state.now last) pids.now }
+{
+    for pid in pids {
+        if last < pid.number() && is_runnable(state, kernel, *pid) {
+            return Some(*pid);
+        }
+    }
+    None
+}
+
+// The first of the processes that can run.
+fn first_of(state: &State, kernel: Kernel, pids: &[Pid]) -> Option<Pid>
+    ensures { result ≡ find (is_runnable kernel state.now) pids.now }
+{
+    for pid in pids {
+        if is_runnable(state, kernel, *pid) {
+            return Some(*pid);
+        }
+    }
+    None
 }
 
 // The job of the process.
@@ -102,33 +121,6 @@ fn begin(
     state.put_out(kernel, job.pid)?;
     state.set_last(kernel, job.pid);
     Ok(job)
-}
-
-// The first process with a greater number than that, else the first of all.
-fn next_after(pids: &[Pid], last: u32) -> Option<Pid>
-    ensures { result ≡ next_after last pids.now }
-{
-    match place_after(pids, last) {
-        Some(at) => Some(pids[at]),
-        None => first_of(pids),
-    }
-}
-
-// The place of the first process with a greater number than that.
-fn place_after(pids: &[Pid], last: u32) -> Option<usize>
-    ensures { result ≡ position (λ pid. nat_lt last pid) pids.now }
-{
-    pids.iter().position(|pid| last < pid.number())
-}
-
-// The first process of the list.
-fn first_of(pids: &[Pid]) -> Option<Pid>
-    ensures { result ≡ slice_get pids.now 0 }
-{
-    if pids.is_empty() {
-        return None;
-    }
-    Some(pids[0])
 }
 
 // What the process is to run at the kernel.

@@ -7,5 +7,5 @@ mod choosing;
 mod delivery;
 
 pub use choice::Choice;
-pub use choosing::choices;
+pub use choosing::{choice_at, choice_count};
 pub use delivery::happen;

@@ -12,7 +12,7 @@ use Rattle.unix_calls.specs.declared.Event.{Event}
 use Rattle.write_delay.specs.Delays.{due}
 use Rattle.client_homes.specs.declared.ClientProcs.{ClientProcs}
 use Rattle.client_moves.specs.Evicting.{is_ready}
-use Rattle.client_procs.specs.Readers.{image_in, kept_in, number_in}
+use Rattle.client_procs.specs.Readers.{image_in, number_in}
 use Rattle.cluster_kernels.specs.declared.kernel_state.KernelState.{KernelState}
 use Rattle.cluster_kernels.specs.declared.kernel_state.KernelState.TheVariants as kernels
 use Rattle.cluster_kernels.specs.declared.state.State.{State}
@@ -83,10 +83,10 @@ due_in (Some client) step = due client.files.delay step
 abbrev pub due_at : ℕ → State → Option (FileId × BlockNo)
 due_at kernel s = due_in (client_at kernel s) (count_at s.steps kernel)
 
--- the processes that are kept at a looked-up client
+-- the processes of which a looked-up client has something
 abbrev pub pids_in : Option ClientProcs → List ℕ
 pids_in None = []
-pids_in (Some client) = kept_in client (keys_of client.procs)
+pids_in (Some client) = keys_of client.procs
 
 -- and at the kernel
 abbrev pub pids_at : ℕ → State → List ℕ

@@ -141,12 +141,12 @@ impl State {
         }
     }
 
-    /// The processes that are kept at the kernel, in ascending order. The one error is want of memory.
+    /// The processes of which the kernel has something, in ascending order. The one error is want of memory.
     pub fn pids(&self, alloc: Global, kernel: Kernel) -> Result<Items<Pid>, NoMemory>
         ensures { IfOk result (λ pids. pids ≡ pids_at kernel self.now) }
     {
         match self.client(kernel) {
-            Some(client) => client_procs::pids(client, alloc),
+            Some(client) => client.procs.keys(alloc),
             None => Ok(Items::new(alloc)),
         }
     }

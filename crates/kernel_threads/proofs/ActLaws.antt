@@ -1,9 +1,7 @@
 -- What the calls of one turn do in a row.
-use Rattle.std.proofs.Common.{◌≡◌, ℕ, List, [], ◌++◌, sym, ap, ◌∙◌, subst, append-nil}
-use Rattle.sprite_ids.specs.declared.Finish.{Finish}
-use Rattle.turn_gate.specs.Steps.{Grows}
+use Rattle.std.proofs.Common.{ℕ, List, [], sym, ◌∙◌, append-nil}
 use Rattle.turn_gate.proofs.TurnLaws.{grows_on}
-use Rattle.kernel_threads.specs.Steps.{Stays, Adds, Closes, Acts}
+use Rattle.kernel_threads.specs.Steps.{Stays, Adds, Acts}
 
 module _ {V O I : Type 0} (origin : V → O) (log : V → List (ℕ × I)) (holds : V → Type 0) (kernel : ℕ) where
   pub acts_stays : (v w : V) → Stays origin log holds v w → Acts origin log holds kernel v w

@@ -1,4 +1,4 @@
-pub mod TurnLaws
+pub mod CandidateLaws
 pub mod RunLaws
 pub mod SeedLaws
 pub mod ActLaws

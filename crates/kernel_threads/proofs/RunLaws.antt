@@ -1,8 +1,6 @@
 -- Runs of some kernels in a row.
-use Rattle.std.proofs.Common.{◌≡◌, ℕ, zero, suc, ◌+◌, ◌<◌, ◌≤◌, ◌⊎◌, Bool, true, false, List, [], ◌++◌, length, sym, refl, ap, ap₂, ◌∙◌, subst, arith, append_assoc, append-nil, ⊎_elim}
+use Rattle.std.proofs.Common.{◌≡◌, ℕ, ◌<◌, ◌≤◌, Bool, true, false, List, [], ◌++◌, sym, refl, ap, ap₂, ◌∙◌, subst, arith, append_assoc, append-nil, ⊎_elim}
 use Rattle.sprite_ids.specs.declared.Finish.{Finish}
-use Rattle.turn_gate.specs.Rule.{items_of}
-use Rattle.turn_gate.specs.Steps.{Grows}
 use Rattle.turn_gate.proofs.SmallLaws.{items_append, items_else}
 use Rattle.kernel_threads.specs.Steps.{Stays, Adds, Closes, Acts, Ran}
 
@@ -32,9 +30,9 @@ module _ {V O I : Type 0} (origin : V → O) (log : V → List (ℕ × I)) (hold
   }
 
   -- a turn of one of the kernels, that happened or closed the value
-  pub ran_turn : (finish_of : V → Finish) (b : Bool) (k : ℕ) (v u w : V) → u ≡ v → 1 ≤ k → k ≤ kernels → (b ≡ true → Adds origin log holds k u w) → (b ≡ false → Closes origin log holds finish_of u w) → Ran origin log holds kernels v w
-  ran_turn finish_of true k v u w same low high adds over = subst (λ x. Ran origin log holds kernels x w) same (ran_adds k u w low high (adds refl))
-  ran_turn finish_of false k v u w same low high adds over = subst (λ x. Ran origin log holds kernels x w) same (ran_stays u w (over refl).stays)
+  pub ran_candidate : (finish_of : V → Finish) (b : Bool) (k : ℕ) (v u w : V) → u ≡ v → 1 ≤ k → k ≤ kernels → (b ≡ true → Adds origin log holds k u w) → (b ≡ false → Closes origin log holds finish_of u w) → Ran origin log holds kernels v w
+  ran_candidate finish_of true k v u w same low high adds over = subst (λ x. Ran origin log holds kernels x w) same (ran_adds k u w low high (adds refl))
+  ran_candidate finish_of false k v u w same low high adds over = subst (λ x. Ran origin log holds kernels x w) same (ran_stays u w (over refl).stays)
 
   -- a kernel's turn
   pub ran_acts : (k : ℕ) (v w : V) → 1 ≤ k → k ≤ kernels → Acts origin log holds k v w → Ran origin log holds kernels v w

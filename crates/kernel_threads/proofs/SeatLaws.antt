@@ -1,5 +1,5 @@
 -- Seats over some turns.
-use Rattle.std.proofs.Common.{◌≡◌, ℕ, zero, suc, ◌+◌, ◌<◌, ◌≤◌, List, [], ◌∷◌, ◌++◌, map, length, slice_index_or, All, Option, Some, sym, refl, ap, ◌∙◌, subst, arith, append-nil, le_refl}
+use Rattle.std.proofs.Common.{◌≡◌, ℕ, zero, suc, ◌<◌, List, [], ◌∷◌, ◌++◌, map, length, slice_index_or, All, Option, Some, sym, refl, ap, ◌∙◌, subst, arith, append-nil, le_refl}
 use Rattle.turn_gate.specs.declared.View.{View}
 use Rattle.turn_gate.specs.Steps.{Later}
 use Rattle.turn_gate.specs.Ended.{IsAll}

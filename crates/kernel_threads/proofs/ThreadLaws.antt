@@ -5,7 +5,7 @@ use Rattle.turn_gate.specs.Steps.{Later}
 use Rattle.turn_gate.specs.Ended.{newcomers, seats_of, Ended}
 use Rattle.kernel_threads.specs.Steps.{Ran}
 use Rattle.kernel_threads.specs.Seats.{AreLater, Parted, backwards}
-use Rattle.kernel_threads.proofs.SeatLaws.{later_begins, are_later_begin, are_later_on}
+use Rattle.kernel_threads.proofs.SeatLaws.{are_later_begin, are_later_on}
 
 both_later : {O I : Type 0} (vs ws xs ys : List (View O I)) → AreLater vs ws → AreLater xs ys → AreLater (vs ++ xs) (ws ++ ys)
 both_later [] [] xs ys a b = b

@@ -1,4 +1,4 @@
 pub mod Steps
-pub mod Turns
+pub mod Candidates
 pub mod Seeds
 pub mod Seats

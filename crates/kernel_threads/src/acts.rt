@@ -1,7 +1,7 @@
 #![tactic(auto, using(crate::proofs::ActLaws::acts_stays, crate::proofs::ActLaws::acts_adds, crate::proofs::ActLaws::acts_on))]
 
-ghost use Rattle.std.specs.Prelude.{◌≡◌, ◌≢◌, IfOk, IfSome, OnErr, OnOk, Some};
-ghost use Rattle.kernel_threads.specs.Steps.{Acts, BeganOf, Closes, IsAmong};
+ghost use Rattle.std.specs.Prelude.{◌≡◌, ◌≢◌, IfSome};
+ghost use Rattle.kernel_threads.specs.Steps.{Acts, BeganOf, IsAmong};
 
 use crate::stepped::Stepped;
 use sprite_ids::{Finish, Kernel, NoMemory};
@@ -41,30 +41,18 @@ pub(crate) fn move_on<V: Stepped>(alloc: Global, value: &mut V, kernel: Kernel) 
     if value.finish(alloc) != Finish::Running {
         return Act::Over;
     }
-    match first_choice(alloc, value, kernel) {
-        Ok(Some(choice)) => step(alloc, value, kernel, choice),
-        Ok(None) => begin(alloc, value, kernel, false),
-        Err(NoMemory) => Act::Over,
+    match first_choice(value, kernel) {
+        Some(choice) => step(alloc, value, kernel, choice),
+        None => begin(alloc, value, kernel, false),
     }
 }
 
-// The first of the kernel's choices. The one error is want of memory.
-fn first_choice<V: Stepped>(
-    alloc: Global,
-    value: &mut V,
-    kernel: Kernel,
-) -> Result<Option<V::Choice>, NoMemory>
-    requires holds { V.holds value.old }
-    requires running { V.finish_of value.old ≡ Finish.Running }
-    ensures among { IfOk result (λ choice. IfSome choice (λ c. IsAmong c (V.choices_at value.old kernel))) }
-    ensures ok { OnOk result (value.new ≡ value.old) }
-    ensures err { OnErr result (Closes V.origin V.log V.holds V.finish_of value.old value.new) }
+// The first of the kernel's choices, where it has one.
+fn first_choice<V: Stepped>(value: &V, kernel: Kernel) -> Option<V::Choice>
+    requires { V.holds value.now }
+    ensures { IfSome result (λ choice. IsAmong choice (V.choices_at value.now kernel)) }
 {
-    let choices = value.choices(alloc, kernel)?;
-    if choices.is_empty() {
-        return Ok(None);
-    }
-    Ok(Some(*choices.at(0)))
+    value.choice(kernel, 0)
 }
 
 // The choice happens, and then a burst begins, where a process of the kernel can run.
@@ -143,10 +131,9 @@ fn first_step<V: Stepped>(alloc: Global, value: &mut V, kernel: Kernel) -> Outco
     if value.finish(alloc) != Finish::Running {
         return Outcome::Over;
     }
-    match first_choice(alloc, value, kernel) {
-        Ok(Some(choice)) => happen(alloc, value, kernel, choice),
-        Ok(None) => Outcome::Nothing,
-        Err(NoMemory) => Outcome::Over,
+    match first_choice(value, kernel) {
+        Some(choice) => happen(alloc, value, kernel, choice),
+        None => Outcome::Nothing,
     }
 }
 

@@ -128,11 +128,8 @@ fn busy_at<V: Stepped>(
     if kernels & bit(kernel) == 0 {
         return Ok(0);
     }
-    if value.has_job(alloc, kernel)? {
+    if value.choice(kernel, 0).is_some() || value.has_job(alloc, kernel)? {
         return Ok(bit(kernel));
     }
-    if value.choices(alloc, kernel)?.is_empty() {
-        return Ok(0);
-    }
-    Ok(bit(kernel))
+    Ok(0)
 }

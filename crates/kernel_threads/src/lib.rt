@@ -7,6 +7,7 @@
 
 mod acts;
 mod calls;
+mod candidates;
 mod rounds;
 mod seeds;
 mod serving;
@@ -14,7 +15,6 @@ mod sleepers;
 mod stepped;
 mod taking;
 mod threads;
-mod turns;
 mod watch;
 mod workers;
 

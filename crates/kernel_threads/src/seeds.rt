@@ -1,10 +1,10 @@
 ghost use Rattle.std.specs.Prelude.{◌≡◌, ◌≢◌, ◌<◌, ◌≤◌, ◌+◌, true, false, length, IsTrue};
 ghost use Rattle.kernel_threads.specs.Steps.{Adds, Closes, IsAmong, MayMove, Ran};
-ghost use Rattle.kernel_threads.specs.Seeds.{Seeded, Turned};
-ghost use Rattle.kernel_threads.specs.Turns.{IsOf};
+ghost use Rattle.kernel_threads.specs.Seeds.{Seeded, Drew};
+ghost use Rattle.kernel_threads.specs.Candidates.{IsOf};
 
+use crate::candidates::{Candidate, draw};
 use crate::stepped::{EndBurst, Stepped};
-use crate::turns::{Turn, draw};
 use rand_core::SeedableRng;
 use rand_core::utils::NextWord;
 use rand_pcg::Lcg64Xsh32;
@@ -28,43 +28,43 @@ pub fn run_seeded<V: Stepped>(alloc: Global, value: V, kernels: u8, seed: u64) -
 {
     let mut value = value;
     let mut words = Lcg64Xsh32::seed_from_u64(seed);
-    'turns: loop {
+    'draws: loop {
         if value.finish(alloc) != Finish::Running {
             return value;
         }
-        if !take_turn(alloc, &mut value, kernels, words.next_word()) {
+        if !take_drawn(alloc, &mut value, kernels, words.next_word()) {
             return value;
         }
     }
 }
 
-// The turn that the word draws happens. False where memory is wanting, or where the value is over with a burst that is lost.
-fn take_turn<V: Stepped>(alloc: Global, value: &mut V, kernels: u8, word: u32) -> bool
+// What the word draws happens. False where memory is wanting, or where the value is over with a burst that is lost.
+fn take_drawn<V: Stepped>(alloc: Global, value: &mut V, kernels: u8, word: u32) -> bool
     requires holds { V.holds value.old }
     requires running { V.finish_of value.old ≡ Finish.Running }
     requires few { kernels ≤ 16 }
     requires moves { MayMove (V.choices_at value.old) (V.has_job_at value.old) kernels }
-    ensures turned { result ≡ true → Turned V.origin V.log V.holds V.choices_at V.has_job_at kernels word value.old value.new }
+    ensures drew { result ≡ true → Drew V.origin V.log V.holds V.choices_at V.has_job_at kernels word value.old value.new }
     ensures out { result ≡ true → V.out value.new ≡ V.out value.old }
     ensures ran { Ran V.origin V.log V.holds kernels value.old value.new }
     ensures over { result ≡ false → Closes V.origin V.log V.holds V.finish_of value.old value.new }
 {
-    let Ok(turn) = draw(alloc, value, kernels, word) else {
+    let Ok(candidate) = draw(alloc, value, kernels, word) else {
         return false;
     };
-    happens(alloc, value, turn)
+    happens(alloc, value, candidate)
 }
 
-// The turn, one that may happen, happens. False where memory is wanting, or where the value is over with a burst that is lost.
-fn happens<V: Stepped>(alloc: Global, value: &mut V, turn: Turn<V::Choice>) -> bool
+// The candidate, one that may happen, happens. False where memory is wanting, or where the value is over with a burst that is lost.
+fn happens<V: Stepped>(alloc: Global, value: &mut V, candidate: Candidate<V::Choice>) -> bool
     requires holds { V.holds value.old }
     requires running { V.finish_of value.old ≡ Finish.Running }
-    requires is_of { IsOf (V.choices_at value.old turn.kernel) (V.has_job_at value.old turn.kernel) turn.choice }
-    ensures adds { result ≡ true → Adds V.origin V.log V.holds turn.kernel value.old value.new }
+    requires is_of { IsOf (V.choices_at value.old candidate.kernel) (V.has_job_at value.old candidate.kernel) candidate.choice }
+    ensures adds { result ≡ true → Adds V.origin V.log V.holds candidate.kernel value.old value.new }
     ensures out { result ≡ true → V.out value.new ≡ V.out value.old }
     ensures over { result ≡ false → Closes V.origin V.log V.holds V.finish_of value.old value.new }
 {
-    let Turn { kernel, choice } = turn;
+    let Candidate { kernel, choice } = candidate;
     match choice {
         Some(choice) => step(alloc, value, kernel, choice),
         None => burst(alloc, value, kernel),

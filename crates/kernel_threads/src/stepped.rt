@@ -1,8 +1,8 @@
-ghost use Rattle.std.specs.Prelude.{◌≡◌, ◌≢◌, ◌<◌, ◌≤◌, ◌+◌, Ok, OnErr, OnOk, IfNone, IfOk, IfSome, length};
+ghost use Rattle.std.specs.Prelude.{◌≡◌, ◌≢◌, ◌<◌, ◌≤◌, ◌+◌, Ok, OnErr, OnOk, IfNone, IfOk, IfSome, length, slice_get};
 ghost use Rattle.std.specs.Option.{is_some};
 ghost use Rattle.kernel_threads.specs.Steps.{Adds, Closes, IsAmong, MayMove, Stays};
 
-use sprite_ids::{Finish, Items, Kernel, NoMemory};
+use sprite_ids::{Finish, Kernel, NoMemory};
 use std::alloc::Global;
 use turn_gate::Book;
 
@@ -56,13 +56,15 @@ pub trait Stepped: Book {
     // A burst of the kernel would be taken now.
     ghost counts: { Self → ℕ → Self.Burst → Type 0 };
 
-    /// What may happen next at the kernel, apart from its processes. The one error is want of memory.
-    fn choices(&mut self, alloc: Global, kernel: Kernel) -> Result<Items<Self::Choice>, NoMemory>
-        requires holds { Self.holds self.old }
-        requires running { finish_of self.old ≡ Finish.Running }
-        ensures list { IfOk result (λ choices. choices ≡ choices_at self.old kernel) }
-        ensures ok { OnOk result (self.new ≡ self.old) }
-        ensures err { OnErr result (Closes Self.origin Self.log Self.holds finish_of self.old self.new) };
+    /// How much may happen next at the kernel, apart from its processes.
+    fn choice_count(&self, kernel: Kernel) -> u64
+        requires { Self.holds self.now }
+        ensures { result ≡ length (choices_at self.now kernel) };
+
+    /// What may happen next at the kernel, apart from its processes, at that place; None exactly where there is nothing at that place.
+    fn choice(&self, kernel: Kernel, place: u64) -> Option<Self::Choice>
+        requires { Self.holds self.now }
+        ensures { result ≡ slice_get (choices_at self.now kernel) place };
 
     /// The choice, one of the kernel's, happens. The one error is want of memory.
     fn step(&mut self, alloc: Global, kernel: Kernel, choice: Self::Choice) -> Result<(), NoMemory>

@@ -39,7 +39,7 @@ pub device_sends : IsSend device.the_row
 device_sends = search whole depth 100 fits 400000
 
 pub store_sends : IsSend store.the_row
-store_sends = search whole depth 100 fits 400000
+store_sends = search (whole, nodes.List-send, nodes.KeyRef-send, nodes.Deed-send, std.frees) depth 100 fits 400000
 
 pub opened_sends : IsSend opened.the_row
 opened_sends = search whole depth 100 fits 400000
@@ -51,7 +51,7 @@ pub versioned_sends : IsSend versioned.the_row
 versioned_sends = declared_send versioned.the_type (search (whole, opened_sends, asking_sends) depth 100 fits 400000)
 
 pub versions_sends : IsSend versions.the_row
-versions_sends = search (whole, versioned_sends) depth 100 fits 400000
+versions_sends = search (whole, versioned_sends, nodes.List-send, nodes.KeyRef-send, nodes.Deed-send, std.frees) depth 100 fits 400000
 
 pub names_sends : IsSend names.the_row
 names_sends = search (whole, path_sends) depth 100 fits 400000

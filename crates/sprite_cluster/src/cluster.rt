@@ -23,7 +23,7 @@ use cluster_kernels::State;
 use kernel_rpc::Wire;
 use kernel_threads::EndBurst;
 use link_plan::Link;
-use sprite_ids::{Finish, Items, Kernel, NoMemory};
+use sprite_ids::{Finish, Kernel, NoMemory};
 use std::alloc::Global;
 use std::snapshot::Snapshot;
 use unix_calls::Description;
@@ -77,26 +77,6 @@ impl<L: Link> Cluster<L> {
                 closed: false,
             }),
             Err(NoMemory) => Err(wire.into_link()),
-        }
-    }
-
-    /// What may happen next at the kernel, apart from its processes: the copies of packets that may come to it, in the order of
-    /// sending, the timers of its remote calls that may fire, and the block that is due to be written back. The one error is want
-    /// of memory.
-    pub fn choices(&mut self, alloc: Global, kernel: Kernel) -> Result<Items<Choice>, NoMemory>
-        ensures choices { IfOk result (λ choices. choices ≡ choices_at kernel self.old.state self.old.wire.machine) }
-        ensures ok { OnOk result (self.new ≡ self.old) }
-        ensures err { OnErr result (self.new.closed ≡ true) }
-        ensures description { self.new.description ≡ self.old.description }
-        ensures begun { self.new.begun ≡ self.old.begun }
-        ensures trace { self.new.trace ≡ self.old.trace }
-    {
-        match cluster_choices::choices(alloc, &self.state, &self.wire, kernel) {
-            Ok(choices) => Ok(choices),
-            Err(NoMemory) => {
-                self.closed = true;
-                Err(NoMemory)
-            }
         }
     }
 

@@ -6,7 +6,7 @@ ghost use Rattle.sprite_cluster.specs.Finishing.{are_busy, finish_of, is_busy, m
 
 use call_journal::Trace;
 use cluster_bursts::has_job;
-use cluster_choices::choices;
+use cluster_choices::choice_at;
 use cluster_kernels::{KernelState, State, has_ended};
 use kernel_rpc::Wire;
 use link_plan::Link;
@@ -108,9 +108,8 @@ fn is_busy<L: Link>(
 ) -> Result<bool, NoMemory>
     ensures { IfOk result (λ busy. busy ≡ is_busy wire.now.machine state.now kernel) }
 {
-    if has_job(alloc, state, kernel)? {
+    if choice_at(state, wire, kernel, 0).is_some() {
         return Ok(true);
     }
-    let choices = choices(alloc, state, wire, kernel)?;
-    Ok(!choices.is_empty())
+    has_job(alloc, state, kernel)
 }

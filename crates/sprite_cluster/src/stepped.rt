@@ -3,10 +3,10 @@ ghost use Rattle.std.specs.Prelude.{◌≡◌};
 use crate::cluster::Cluster;
 use crate::origin::Origin;
 use cluster_bursts::{Burst, Job, run_job};
-use cluster_choices::Choice;
+use cluster_choices::{Choice, choice_at, choice_count};
 use kernel_threads::{EndBurst, Stepped};
 use link_plan::Link;
-use sprite_ids::{Finish, Items, Kernel, NoMemory};
+use sprite_ids::{Finish, Kernel, NoMemory};
 use std::alloc::Global;
 use turn_gate::Book;
 use unix_calls::Event;
@@ -57,8 +57,12 @@ impl<L: Link> Stepped for Cluster<L> {
 
     ghost counts = { λ v k b. would_count k b v.state ≡ true };
 
-    fn choices(&mut self, alloc: Global, kernel: Kernel) -> Result<Items<Choice>, NoMemory> {
-        Cluster::choices(self, alloc, kernel)
+    fn choice_count(&self, kernel: Kernel) -> u64 {
+        choice_count(&self.state, &self.wire, kernel)
+    }
+
+    fn choice(&self, kernel: Kernel, place: u64) -> Option<Choice> {
+        choice_at(&self.state, &self.wire, kernel, place)
     }
 
     fn step(&mut self, alloc: Global, kernel: Kernel, choice: Choice) -> Result<(), NoMemory> {

@@ -1,7 +1,7 @@
 ghost use Rattle.std.specs.Prelude.{◌≡◌, ◌++◌, ◌∷◌, [], false, true, OnErr, OnOk};
 
 use kernel_threads::{EndBurst, Stepped};
-use sprite_ids::{Finish, Items, Kernel, NoMemory};
+use sprite_ids::{Finish, Kernel, NoMemory};
 use std::alloc::Global;
 use turn_gate::Book;
 
@@ -102,15 +102,16 @@ impl Stepped for Countdown {
 
     ghost counts = { λ v _ burst. (burst.from ≡ v.left) × (0 < v.out) };
 
-    fn choices(&mut self, alloc: Global, _kernel: Kernel) -> Result<Items<u32>, NoMemory> {
-        let mut choices = Items::new(alloc);
-        if self.left % 2 == 0 {
-            if let Err(NoMemory) = choices.append(&[self.left]) {
-                self.closed = true;
-                return Err(NoMemory);
-            }
+    fn choice_count(&self, _kernel: Kernel) -> u64 {
+        u64::from(self.left % 2 == 0)
+    }
+
+    fn choice(&self, _kernel: Kernel, place: u64) -> Option<u32> {
+        if place == 0 && self.left % 2 == 0 {
+            Some(self.left)
+        } else {
+            None
         }
-        Ok(choices)
     }
 
     fn step(&mut self, _alloc: Global, kernel: Kernel, _choice: u32) -> Result<(), NoMemory> {

@@ -1,7 +1,7 @@
-ghost use Rattle.std.specs.Prelude.{◌≡◌, ◌++◌, ◌∷◌, [], false, true, OnErr, OnOk};
+ghost use Rattle.std.specs.Prelude.{◌≡◌, ◌≤◌, ◌+◌, ◌/◌, ◌%◌, ◌==◌, ◌&&◌, ◌++◌, ◌∷◌, [], false, true, OnErr, OnOk};
 
 use kernel_threads::{EndBurst, Stepped};
-use sprite_ids::{Finish, Items, Kernel, NoMemory};
+use sprite_ids::{Finish, Kernel, NoMemory};
 use std::alloc::Global;
 use turn_gate::Book;
 
@@ -44,6 +44,15 @@ impl Relay {
             closed: false,
             lines: Vec::new(alloc),
         }
+    }
+
+    // Whether the count that is left is a choice of the kernel.
+    fn is_choice_of(&self, kernel: Kernel) -> bool
+        requires { (1 ≤ self.now.plan.kernels) × (1 ≤ self.now.plan.stretch) }
+        ensures { result ≡ (self.now.left / self.now.plan.stretch % self.now.plan.kernels + 1 == kernel) && (self.now.left / self.now.plan.stretch % 2 == 0) }
+    {
+        let stretch = self.left / self.plan.stretch;
+        stretch % u32::from(self.plan.kernels) + 1 == u32::from(kernel.number()) && stretch % 2 == 0
     }
 
     // The kernel writes a line with the count that is left, and that many are left then. Where memory is wanting it is closed.
@@ -110,18 +119,16 @@ impl Stepped for Relay {
 
     ghost counts = { λ v _ burst. (burst.from ≡ v.left) × (0 < v.out) };
 
-    fn choices(&mut self, alloc: Global, kernel: Kernel) -> Result<Items<u32>, NoMemory> {
-        let mut choices = Items::new(alloc);
-        let stretch = self.left / self.plan.stretch;
-        if stretch % u32::from(self.plan.kernels) + 1 == u32::from(kernel.number())
-            && stretch % 2 == 0
-        {
-            if let Err(NoMemory) = choices.append(&[self.left]) {
-                self.closed = true;
-                return Err(NoMemory);
-            }
+    fn choice_count(&self, kernel: Kernel) -> u64 {
+        u64::from(self.is_choice_of(kernel))
+    }
+
+    fn choice(&self, kernel: Kernel, place: u64) -> Option<u32> {
+        if place == 0 && self.is_choice_of(kernel) {
+            Some(self.left)
+        } else {
+            None
         }
-        Ok(choices)
     }
 
     fn step(&mut self, _alloc: Global, kernel: Kernel, _choice: u32) -> Result<(), NoMemory> {

@@ -1,4 +1,4 @@
-use Rattle.std.proofs.Common.{rules, arith, ◌<◌, ◌≤◌, ◌+◌}
+use Rattle.std.proofs.Common.{rules, arith, ◌≤◌, ◌+◌}
 use Rattle.kernel_threads.proofs.RunLaws.{ran_on, ran_acts}
 use Rattle.kernel_threads.proofs.rounds.round.Goals as goal
 

@@ -1,4 +1,4 @@
-use Rattle.std.proofs.Common.{rules, ◌≡◌, ◌∙◌, All, map, sym, ap}
+use Rattle.std.proofs.Common.{rules, ◌≡◌}
 use Rattle.turn_gate.specs.Steps.{Later}
 use Rattle.kernel_threads.proofs.SeatLaws.{every_last, every_first, every_pushed}
 use Rattle.kernel_threads.proofs.ThreadLaws.{parted_begins, parted_sent, parted_kept, parted_served, parted_done}
