@@ -9,11 +9,11 @@ use Rattle.unix_calls.specs.declared.event.Event.{Event}
 use Rattle.unix_calls.specs.declared.event.Event.TheVariants as event
 use Rattle.unix_calls.specs.Same.{same_reply}
 use Rattle.call_journal.specs.Once.{Progress, Between, Issued, Asked, Entered, Over, if_so, death_of, is_same_call, entered_as, done_as, over_after}
-use Rattle.calls_once.specs.declared.turn.Turn.{Turn}
-use Rattle.calls_once.specs.declared.turn.Turn.TheVariants as turn
+use Rattle.calls_once.specs.declared.progress.CallProgress.{CallProgress}
+use Rattle.calls_once.specs.declared.progress.CallProgress.TheVariants as turn
 
 -- a turn, as the definitions have it
-abbrev pub progress_by : Turn → Progress
+abbrev pub progress_by : CallProgress → Progress
 progress_by (turn.Between calls) = Between calls
 progress_by (turn.Issued number call) = Issued number call
 progress_by (turn.Asked number call) = Asked number call
@@ -21,7 +21,7 @@ progress_by (turn.Entered number call reply) = Entered number call reply
 progress_by turn.Over = Over
 
 -- what comes is that progress, if any
-abbrev pub Gives : Result (Option Turn) NoMemory → Option Progress → Type 0
+abbrev pub Gives : Result (Option CallProgress) NoMemory → Option Progress → Type 0
 Gives result progress = IfOk result (λ next. option_map progress_by next ≡ progress)
 
 -- the cases of an event after each turn, one word each

@@ -3,6 +3,6 @@
 #![tactic(auto)]
 
 mod once;
-mod turn;
+mod progress;
 
 pub use once::calls_are_once;

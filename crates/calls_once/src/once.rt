@@ -3,7 +3,7 @@ ghost use Rattle.call_journal.specs.Once.{Once, progress_after};
 ghost use Rattle.calls_once.specs.Passes.{Advances, Goes, caller_of, turn_in};
 ghost use Rattle.calls_once.specs.Turns.{Gives};
 
-use crate::turn::{Turn, turn_after};
+use crate::progress::{CallProgress, turn_after};
 use indexmap::IndexMap;
 use sprite_ids::{NoMemory, Pid};
 use std::alloc::Global;
@@ -26,7 +26,11 @@ pub fn calls_are_once(alloc: Global, trace: &[Rec]) -> Result<bool, NoMemory>
 }
 
 // Moves the turn of the process on of whose calls the event is one; false where the event isn't in its turn.
-fn go_on(alloc: Global, turns: &mut IndexMap<Pid, Turn>, event: &Event) -> Result<bool, NoMemory>
+fn go_on(
+    alloc: Global,
+    turns: &mut IndexMap<Pid, CallProgress>,
+    event: &Event,
+) -> Result<bool, NoMemory>
     ensures { IfOk result (λ made. Goes turns.old.entries event.now made turns.new.entries) }
 {
     match caller_of(event) {
@@ -50,7 +54,7 @@ fn caller_of(event: &Event) -> Option<Pid>
 // Moves the process's turn on by an event of its calls; false, and nothing changes, where the event isn't in its turn.
 fn advance(
     alloc: Global,
-    turns: &mut IndexMap<Pid, Turn>,
+    turns: &mut IndexMap<Pid, CallProgress>,
     pid: Pid,
     event: &Event,
 ) -> Result<bool, NoMemory>
@@ -68,14 +72,14 @@ fn advance(
 // The process's turn after an event of its calls.
 fn next_turn(
     alloc: Global,
-    turns: &IndexMap<Pid, Turn>,
+    turns: &IndexMap<Pid, CallProgress>,
     pid: Pid,
     event: &Event,
-) -> Result<Option<Turn>, NoMemory>
+) -> Result<Option<CallProgress>, NoMemory>
     ensures { Gives result (progress_after (turn_in turns.now.entries pid) event.now) }
 {
     match turns.get(&pid) {
         Some(turn) => turn_after(alloc, turn, event),
-        None => turn_after(alloc, &Turn::Between(0), event),
+        None => turn_after(alloc, &CallProgress::Between(0), event),
     }
 }

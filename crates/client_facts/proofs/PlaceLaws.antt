@@ -84,7 +84,8 @@ same_any_by : (q : ℕ → Bool) (e : ℕ × Proc) (w : Proc) (es more : List (�
 same_any_by q e w es more true h = refl
 same_any_by q e w es more false h = ap (λ b. q e.0 || b) h
 
-same_any : (q p : ℕ → Bool) (rows : List (ℕ × Proc)) (w : Proc) → list_any (λ (row : ℕ × Proc). q row.0) (set_value p rows w) ≡ list_any (λ (row : ℕ × Proc). q row.0) rows
+-- a test of keys alone says the same where one is set
+pub same_any : (q p : ℕ → Bool) (rows : List (ℕ × Proc)) (w : Proc) → list_any (λ (row : ℕ × Proc). q row.0) (set_value p rows w) ≡ list_any (λ (row : ℕ × Proc). q row.0) rows
 same_any q p [] w = refl
 same_any q p (e ∷ es) w = same_any_by q e w es (set_value p es w) (p e.0) (same_any q p es w)
 
@@ -92,7 +93,8 @@ set_once_by : (e : ℕ × Proc) (w : Proc) (es more : List (ℕ × Proc)) (b : B
 set_once_by e w es more true h none once = h
 set_once_by e w es more false h none once = (none, once)
 
-set_once : (p : ℕ → Bool) (rows : List (ℕ × Proc)) (w : Proc) → EachOnce same_process rows → EachOnce same_process (set_value p rows w)
+-- each process stands once where one is set
+pub set_once : (p : ℕ → Bool) (rows : List (ℕ × Proc)) (w : Proc) → EachOnce same_process rows → EachOnce same_process (set_value p rows w)
 set_once p [] w h = tt
 set_once p (e ∷ es) w h = set_once_by e w es (set_value p es w) (p e.0) h (same_any (λ key. key == e.0) p es w ∙ h.0) (set_once p es w h.1)
 
@@ -373,7 +375,8 @@ remove_none_by : (q : ℕ → Bool) (e : ℕ × Proc) (es more : List (ℕ × Pr
 remove_none_by q e es more true h k = (or_false (q e.0) (list_any (λ (row : ℕ × Proc). q row.0) es) h).1
 remove_none_by q e es more false h k = ap (λ b. b || list_any (λ (row : ℕ × Proc). q row.0) more) (or_false (q e.0) (list_any (λ (row : ℕ × Proc). q row.0) es) h).0 ∙ k
 
-remove_none : (q p : ℕ → Bool) (rows : List (ℕ × Proc)) → list_any (λ (row : ℕ × Proc). q row.0) rows ≡ false → list_any (λ (row : ℕ × Proc). q row.0) (remove_entry p rows) ≡ false
+-- and where none has a key, none has it behind
+pub remove_none : (q p : ℕ → Bool) (rows : List (ℕ × Proc)) → list_any (λ (row : ℕ × Proc). q row.0) rows ≡ false → list_any (λ (row : ℕ × Proc). q row.0) (remove_entry p rows) ≡ false
 remove_none q p [] h = refl
 remove_none q p (e ∷ es) h = remove_none_by q e es (remove_entry p es) (p e.0) h (remove_none q p es (or_false (q e.0) (list_any (λ (row : ℕ × Proc). q row.0) es) h).1)
 
@@ -381,7 +384,8 @@ remove_once_by : (e : ℕ × Proc) (es more : List (ℕ × Proc)) (b : Bool) →
 remove_once_by e es more true h none once = h.1
 remove_once_by e es more false h none once = (none, once)
 
-remove_once : (p : ℕ → Bool) (rows : List (ℕ × Proc)) → EachOnce same_process rows → EachOnce same_process (remove_entry p rows)
+-- each stands once where one is taken out
+pub remove_once : (p : ℕ → Bool) (rows : List (ℕ × Proc)) → EachOnce same_process rows → EachOnce same_process (remove_entry p rows)
 remove_once p [] h = tt
 remove_once p (e ∷ es) h = remove_once_by e es (remove_entry p es) (p e.0) h (remove_none (λ key. key == e.0) p es h.0) (remove_once p es h.1)
 
@@ -408,7 +412,8 @@ removed_by : (pid : ℕ) (e : ℕ × Proc) (es more : List (ℕ × Proc)) (b : B
 removed_by pid e es more true k none h = subst (λ (key : ℕ). list_any (λ (row : ℕ × Proc). row.0 == key) es ≡ false) (eqb-true e.0 pid k) none
 removed_by pid e es more false k none h = ap (λ b. b || list_any (λ (row : ℕ × Proc). row.0 == pid) more) k ∙ h
 
-removed_none : (pid : ℕ) (rows : List (ℕ × Proc)) → EachOnce same_process rows → list_any (λ (row : ℕ × Proc). row.0 == pid) (remove_entry (is_at (nat_cmp pid)) rows) ≡ false
+-- and it isn't there then
+pub removed_none : (pid : ℕ) (rows : List (ℕ × Proc)) → EachOnce same_process rows → list_any (λ (row : ℕ × Proc). row.0 == pid) (remove_entry (is_at (nat_cmp pid)) rows) ≡ false
 removed_none pid [] h = refl
 removed_none pid (e ∷ es) h =
     removed_by pid e es (remove_entry (is_at (nat_cmp pid)) es) (is_at (nat_cmp pid) e.0) (sym (at_is pid e.0)) h.0 (removed_none pid es h.1)

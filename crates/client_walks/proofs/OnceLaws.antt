@@ -21,12 +21,12 @@ use Rattle.client_procs.specs.Steps.{client_step}
 use Rattle.client_facts.specs.FileFacts.{same_process}
 use Rattle.client_facts.proofs.BootLaws.{put_once}
 use Rattle.client_facts.proofs.CostLaws.{less_once, none_left, processes_same}
-use Rattle.client_facts.proofs.PlaceLaws.{and_true, listed_here}
+use Rattle.client_facts.proofs.PlaceLaws.{and_true, listed_here, remove_once, set_once}
 use Rattle.client_facts.proofs.RowLaws.{all_append, all_less}
 use Rattle.client_walks.specs.Hands.{Held, Nothing, Coming, Holding, brought}
 use Rattle.client_walks.specs.PlacesOnce.{AreBornAt, InHand, IsBornAt, PlacesAreOnce}
 use Rattle.client_walks.proofs.Deeds.{Always, Hand, Keeps, nothing}
-use Rattle.client_walks.proofs.RowLaws.{apart_fewer, apart_put, each_less, each_out, each_put, each_removed, each_set, found_here, found_leaving, in_removed, in_set, is_in, is_out, none_leaves, none_removed, once_removed, once_set}
+use Rattle.client_walks.proofs.RowLaws.{apart_fewer, apart_put, each_less, each_out, each_put, each_removed, each_set, found_here, found_leaving, in_removed, in_set, is_in, is_out, none_leaves, none_removed}
 use Rattle.client_walks.proofs.SpotLaws.{by_spots}
 use Rattle.client_walks.proofs.Spots.{KeepsSpots, Spots, spots_of}
 use Rattle.client_walks.proofs.WalkLaws.{step_keeps}
@@ -85,7 +85,7 @@ none_of {V} table (row ∷ rows) few h = ap (λ b. b || list_any (λ (other : �
 pub placed_once : KeepsSpots Placed
 placed_once = record {
   sets = λ v hand pid old new e p. record {
-    once = once_set (is_at (nat_cmp pid)) v.procs new p.once;
+    once = set_once (is_at (nat_cmp pid)) v.procs new p.once;
     leaving_once = p.leaving_once;
     apart = apart_fewer v.procs (set_value (is_at (nat_cmp pid)) v.procs new) v.leaving (λ other h. in_set other (is_at (nat_cmp pid)) v.procs new ∙ h) p.apart;
     born = each_set (IsBornAt v.home) (is_at (nat_cmp pid)) v.procs new p.born;
@@ -127,7 +127,7 @@ placed_once = record {
     fits = tt;
   };
   takes = λ v pid proc e p. record {
-    once = once_removed (is_at (nat_cmp pid)) v.procs p.once;
+    once = remove_once (is_at (nat_cmp pid)) v.procs p.once;
     leaving_once = p.leaving_once;
     apart = apart_fewer v.procs (remove_entry (is_at (nat_cmp pid)) v.procs) v.leaving (λ other h. in_removed other (is_at (nat_cmp pid)) v.procs h) p.apart;
     born = each_removed (IsBornAt v.home) (is_at (nat_cmp pid)) v.procs p.born;

@@ -17,7 +17,7 @@ use Rattle.client_facts.specs.FileFacts.{same_process}
 use Rattle.client_facts.proofs.BootLaws.{put_none}
 use Rattle.client_facts.proofs.ComingLaws.{not_false}
 use Rattle.client_facts.proofs.CostLaws.{eq_turned}
-use Rattle.client_facts.proofs.PlaceLaws.{and_true, at_is, listed_here}
+use Rattle.client_facts.proofs.PlaceLaws.{and_true, at_is, listed_here, remove_none, removed_none, same_any}
 
 -- whether the process is among those that are here
 abbrev pub is_in : ℕ → List (ℕ × Proc) → Bool
@@ -29,22 +29,6 @@ is_out procs row = not (is_in row.0 procs)
 
 -- Set
 
-any_set_by : (q : ℕ → Bool) (e : ℕ × Proc) (w : Proc) (es more : List (ℕ × Proc)) (b : Bool) → list_any (λ (row : ℕ × Proc). q row.0) more ≡ list_any (λ (row : ℕ × Proc). q row.0) es → list_any (λ (row : ℕ × Proc). q row.0) (cond b ((e.0, w) ∷ es) (e ∷ more)) ≡ list_any (λ (row : ℕ × Proc). q row.0) (e ∷ es)
-any_set_by q e w es more true h = refl
-any_set_by q e w es more false h = ap (λ b. q e.0 || b) h
-
-any_set : (q p : ℕ → Bool) (rows : List (ℕ × Proc)) (w : Proc) → list_any (λ (row : ℕ × Proc). q row.0) (set_value p rows w) ≡ list_any (λ (row : ℕ × Proc). q row.0) rows
-any_set q p [] w = refl
-any_set q p (e ∷ es) w = any_set_by q e w es (set_value p es w) (p e.0) (any_set q p es w)
-
-once_set_by : (e : ℕ × Proc) (w : Proc) (es more : List (ℕ × Proc)) (b : Bool) → EachOnce same_process (e ∷ es) → list_any (same_process e) more ≡ false → EachOnce same_process more → EachOnce same_process (cond b ((e.0, w) ∷ es) (e ∷ more))
-once_set_by e w es more true h none once = h
-once_set_by e w es more false h none once = (none, once)
-
-pub once_set : (p : ℕ → Bool) (rows : List (ℕ × Proc)) (w : Proc) → EachOnce same_process rows → EachOnce same_process (set_value p rows w)
-once_set p [] w h = tt
-once_set p (e ∷ es) w h = once_set_by e w es (set_value p es w) (p e.0) h (any_set (λ key. key == e.0) p es w ∙ h.0) (once_set p es w h.1)
-
 each_set_by : (B : ℕ → Type 0) (e : ℕ × Proc) (w : Proc) (es more : List (ℕ × Proc)) (b : Bool) → AllByRecursion (λ (row : ℕ × Proc). B row.0) (e ∷ es) → AllByRecursion (λ (row : ℕ × Proc). B row.0) more → AllByRecursion (λ (row : ℕ × Proc). B row.0) (cond b ((e.0, w) ∷ es) (e ∷ more))
 each_set_by B e w es more true h k = h
 each_set_by B e w es more false h k = (h.0, k)
@@ -54,7 +38,7 @@ each_set B p [] w h = tt
 each_set B p (e ∷ es) w h = each_set_by B e w es (set_value p es w) (p e.0) h (each_set B p es w h.1)
 
 pub in_set : (pid : ℕ) (p : ℕ → Bool) (rows : List (ℕ × Proc)) (w : Proc) → is_in pid (set_value p rows w) ≡ is_in pid rows
-in_set pid p rows w = listed_here pid (set_value p rows w) ∙ any_set (λ key. key == pid) p rows w ∙ sym (listed_here pid rows)
+in_set pid p rows w = listed_here pid (set_value p rows w) ∙ same_any (λ key. key == pid) p rows w ∙ sym (listed_here pid rows)
 
 -- Put in
 
@@ -69,22 +53,6 @@ each_put B k v (e ∷ es) new h = each_put_by B k v e es (insert_entry nat_cmp e
 
 -- Taken out
 
-any_removed_by : (q : ℕ → Bool) (e : ℕ × Proc) (es more : List (ℕ × Proc)) (b : Bool) → list_any (λ (row : ℕ × Proc). q row.0) (e ∷ es) ≡ false → list_any (λ (row : ℕ × Proc). q row.0) more ≡ false → list_any (λ (row : ℕ × Proc). q row.0) (cond b es (e ∷ more)) ≡ false
-any_removed_by q e es more true h k = (or_false (q e.0) (list_any (λ (row : ℕ × Proc). q row.0) es) h).1
-any_removed_by q e es more false h k = ap (λ b. b || list_any (λ (row : ℕ × Proc). q row.0) more) (or_false (q e.0) (list_any (λ (row : ℕ × Proc). q row.0) es) h).0 ∙ k
-
-any_removed : (q p : ℕ → Bool) (rows : List (ℕ × Proc)) → list_any (λ (row : ℕ × Proc). q row.0) rows ≡ false → list_any (λ (row : ℕ × Proc). q row.0) (remove_entry p rows) ≡ false
-any_removed q p [] h = refl
-any_removed q p (e ∷ es) h = any_removed_by q e es (remove_entry p es) (p e.0) h (any_removed q p es (or_false (q e.0) (list_any (λ (row : ℕ × Proc). q row.0) es) h).1)
-
-once_removed_by : (e : ℕ × Proc) (es more : List (ℕ × Proc)) (b : Bool) → EachOnce same_process (e ∷ es) → list_any (same_process e) more ≡ false → EachOnce same_process more → EachOnce same_process (cond b es (e ∷ more))
-once_removed_by e es more true h none once = h.1
-once_removed_by e es more false h none once = (none, once)
-
-pub once_removed : (p : ℕ → Bool) (rows : List (ℕ × Proc)) → EachOnce same_process rows → EachOnce same_process (remove_entry p rows)
-once_removed p [] h = tt
-once_removed p (e ∷ es) h = once_removed_by e es (remove_entry p es) (p e.0) h (any_removed (λ key. key == e.0) p es h.0) (once_removed p es h.1)
-
 each_removed_by : (B : ℕ → Type 0) (e : ℕ × Proc) (es more : List (ℕ × Proc)) (b : Bool) → AllByRecursion (λ (row : ℕ × Proc). B row.0) (e ∷ es) → AllByRecursion (λ (row : ℕ × Proc). B row.0) more → AllByRecursion (λ (row : ℕ × Proc). B row.0) (cond b es (e ∷ more))
 each_removed_by B e es more true h k = h.1
 each_removed_by B e es more false h k = (h.0, k)
@@ -94,19 +62,11 @@ each_removed B p [] h = tt
 each_removed B p (e ∷ es) h = each_removed_by B e es (remove_entry p es) (p e.0) h (each_removed B p es h.1)
 
 pub in_removed : (pid : ℕ) (p : ℕ → Bool) (rows : List (ℕ × Proc)) → is_in pid rows ≡ false → is_in pid (remove_entry p rows) ≡ false
-in_removed pid p rows h = listed_here pid (remove_entry p rows) ∙ any_removed (λ key. key == pid) p rows (sym (listed_here pid rows) ∙ h)
-
-none_removed_by : (pid : ℕ) (e : ℕ × Proc) (es more : List (ℕ × Proc)) (b : Bool) → (e.0 == pid) ≡ b → list_any (same_process e) es ≡ false → list_any (λ (row : ℕ × Proc). row.0 == pid) more ≡ false → list_any (λ (row : ℕ × Proc). row.0 == pid) (cond b es (e ∷ more)) ≡ false
-none_removed_by pid e es more true k none h = subst (λ (key : ℕ). list_any (λ (row : ℕ × Proc). row.0 == key) es ≡ false) (eqb-true e.0 pid k) none
-none_removed_by pid e es more false k none h = ap (λ b. b || list_any (λ (row : ℕ × Proc). row.0 == pid) more) k ∙ h
-
-any_none : (pid : ℕ) (rows : List (ℕ × Proc)) → EachOnce same_process rows → list_any (λ (row : ℕ × Proc). row.0 == pid) (remove_entry (is_at (nat_cmp pid)) rows) ≡ false
-any_none pid [] h = refl
-any_none pid (e ∷ es) h = none_removed_by pid e es (remove_entry (is_at (nat_cmp pid)) es) (is_at (nat_cmp pid) e.0) (sym (at_is pid e.0)) h.0 (any_none pid es h.1)
+in_removed pid p rows h = listed_here pid (remove_entry p rows) ∙ remove_none (λ key. key == pid) p rows (sym (listed_here pid rows) ∙ h)
 
 -- it isn't there then
 pub none_removed : (pid : ℕ) (rows : List (ℕ × Proc)) → EachOnce same_process rows → is_in pid (remove_entry (is_at (nat_cmp pid)) rows) ≡ false
-none_removed pid rows h = listed_here pid (remove_entry (is_at (nat_cmp pid)) rows) ∙ any_none pid rows h
+none_removed pid rows h = listed_here pid (remove_entry (is_at (nat_cmp pid)) rows) ∙ removed_none pid rows h
 
 -- where none is found, nothing is taken out
 removed_same_by : (e : ℕ × Proc) (es more : List (ℕ × Proc)) (o : Option Proc) (b : Bool) → (o ≡ None → more ≡ es) → cond b (Some e.1) o ≡ None → cond b es (e ∷ more) ≡ e ∷ es

@@ -11,7 +11,7 @@ use unix_run::{same_call, same_reply};
 
 /// How far a process is with its calls (this project).
 #[derive(Debug, Drop)]
-pub(crate) enum Turn {
+pub(crate) enum CallProgress {
     /// So many calls have returned, and none is out.
     Between(u32),
     /// The call of that number is issued.
@@ -27,22 +27,24 @@ pub(crate) enum Turn {
 /// How far a process is after an event of its calls; None exactly where the event isn't in its turn. The one error is want of memory.
 pub(crate) fn turn_after(
     alloc: Global,
-    turn: &Turn,
+    turn: &CallProgress,
     event: &Event,
-) -> Result<Option<Turn>, NoMemory>
+) -> Result<Option<CallProgress>, NoMemory>
     ensures { Gives result (progress_after (progress_by turn.now) event.now) }
 {
     match turn {
-        Turn::Between(calls) => after_between(alloc, *calls, event),
-        Turn::Issued(number, call) => after_issued(alloc, *number, call, event),
-        Turn::Asked(number, call) => after_asked(alloc, *number, call, event),
-        Turn::Entered(number, call, reply) => Ok(after_entered(*number, call, reply, event)),
-        Turn::Over => Ok(None),
+        CallProgress::Between(calls) => after_between(alloc, *calls, event),
+        CallProgress::Issued(number, call) => after_issued(alloc, *number, call, event),
+        CallProgress::Asked(number, call) => after_asked(alloc, *number, call, event),
+        CallProgress::Entered(number, call, reply) => Ok(after_entered(
+            *number, call, reply, event,
+        )),
+        CallProgress::Over => Ok(None),
     }
 }
 
 // Between two calls: the next one is issued, or the process dies.
-fn after_between(alloc: Global, calls: u32, event: &Event) -> Result<Option<Turn>, NoMemory>
+fn after_between(alloc: Global, calls: u32, event: &Event) -> Result<Option<CallProgress>, NoMemory>
     ensures { Gives result (after_between calls event.now) }
 {
     match event {
@@ -53,24 +55,29 @@ fn after_between(alloc: Global, calls: u32, event: &Event) -> Result<Option<Turn
 }
 
 // The next call is issued, if it has the next number.
-fn issued(alloc: Global, calls: u32, number: u32, call: &Call) -> Result<Option<Turn>, NoMemory>
+fn issued(
+    alloc: Global,
+    calls: u32,
+    number: u32,
+    call: &Call,
+) -> Result<Option<CallProgress>, NoMemory>
     ensures { Gives result (progress_by_call calls number call.now) }
 {
     if number == 0 || number - 1 != calls {
         return Ok(None);
     }
-    Ok(Some(Turn::Issued(number, call.copy(alloc)?)))
+    Ok(Some(CallProgress::Issued(number, call.copy(alloc)?)))
 }
 
 // The process dies, if the entry has the number that would come next.
-fn died(calls: u32, entry: &Entry) -> Option<Turn>
+fn died(calls: u32, entry: &Entry) -> Option<CallProgress>
     ensures { option_map progress_by result ≡ death_by calls entry.now }
 {
     if entry.number == 0 || entry.number - 1 != calls {
         return None;
     }
     match entry.part {
-        Part::Death => Some(Turn::Over),
+        Part::Death => Some(CallProgress::Over),
         _ => None,
     }
 }
@@ -81,7 +88,7 @@ fn after_issued(
     number: u32,
     call: &Call,
     event: &Event,
-) -> Result<Option<Turn>, NoMemory>
+) -> Result<Option<CallProgress>, NoMemory>
     ensures { Gives result (after_issued number call.now event.now) }
 {
     match event {
@@ -90,7 +97,12 @@ fn after_issued(
     }
 }
 
-fn entered(alloc: Global, number: u32, call: &Call, entry: &Entry) -> Result<Option<Turn>, NoMemory>
+fn entered(
+    alloc: Global,
+    number: u32,
+    call: &Call,
+    entry: &Entry,
+) -> Result<Option<CallProgress>, NoMemory>
     ensures { Gives result (entered_by number call.now entry.now) }
 {
     if entry.number != number || !is_same_call(call, &entry.call) {
@@ -109,13 +121,13 @@ fn whole(
     number: u32,
     call: &Call,
     reply: &Option<Reply>,
-) -> Result<Option<Turn>, NoMemory>
+) -> Result<Option<CallProgress>, NoMemory>
     ensures { Gives result (whole_of number call.now reply.now) }
 {
     match reply {
         Some(reply) => {
             let call = call.copy(alloc)?;
-            Ok(Some(Turn::Entered(number, call, reply.copy(alloc)?)))
+            Ok(Some(CallProgress::Entered(number, call, reply.copy(alloc)?)))
         }
         None => Ok(None),
     }
@@ -127,12 +139,12 @@ fn asked(
     number: u32,
     call: &Call,
     reply: &Option<Reply>,
-) -> Result<Option<Turn>, NoMemory>
+) -> Result<Option<CallProgress>, NoMemory>
     ensures { Gives result (asked_by number call.now reply.now) }
 {
     match reply {
         Some(_) => Ok(None),
-        None => Ok(Some(Turn::Asked(number, call.copy(alloc)?))),
+        None => Ok(Some(CallProgress::Asked(number, call.copy(alloc)?))),
     }
 }
 
@@ -142,7 +154,7 @@ fn after_asked(
     number: u32,
     call: &Call,
     event: &Event,
-) -> Result<Option<Turn>, NoMemory>
+) -> Result<Option<CallProgress>, NoMemory>
     ensures { Gives result (after_asked number call.now event.now) }
 {
     match event {
@@ -151,7 +163,12 @@ fn after_asked(
     }
 }
 
-fn done(alloc: Global, number: u32, call: &Call, entry: &Entry) -> Result<Option<Turn>, NoMemory>
+fn done(
+    alloc: Global,
+    number: u32,
+    call: &Call,
+    entry: &Entry,
+) -> Result<Option<CallProgress>, NoMemory>
     ensures { Gives result (done_by number call.now entry.now) }
 {
     if entry.number != number || !is_same_call(call, &entry.call) {
@@ -164,7 +181,7 @@ fn done(alloc: Global, number: u32, call: &Call, entry: &Entry) -> Result<Option
 }
 
 // A call's entry is made: it returns.
-fn after_entered(number: u32, call: &Call, reply: &Reply, event: &Event) -> Option<Turn>
+fn after_entered(number: u32, call: &Call, reply: &Reply, event: &Event) -> Option<CallProgress>
     ensures { option_map progress_by result ≡ after_entered number call.now reply.now event.now }
 {
     match event {
@@ -183,13 +200,13 @@ fn after_entered(number: u32, call: &Call, reply: &Reply, event: &Event) -> Opti
 }
 
 // Behind the return of an exit or a bad step the process has ended.
-fn over_after(call: &Call, number: u32) -> Turn
+fn over_after(call: &Call, number: u32) -> CallProgress
     ensures { progress_by result ≡ over_after call.now number }
 {
     match call {
-        Call::Exit { .. } => Turn::Over,
-        Call::BadStep => Turn::Over,
-        _ => Turn::Between(number),
+        Call::Exit { .. } => CallProgress::Over,
+        Call::BadStep => CallProgress::Over,
+        _ => CallProgress::Between(number),
     }
 }
 
