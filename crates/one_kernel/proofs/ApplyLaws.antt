@@ -26,8 +26,8 @@ use Rattle.unix_run.specs.Among.{IsBounded}
 use Rattle.unix_run.specs.Entering.{Dies, made_state}
 use Rattle.unix_world.specs.Worlds.{unix_of}
 use Rattle.unix_world.proofs.ProcessLaws.{set_ascends, set_put}
-use Rattle.one_kernel.specs.declared.apply.Applied.{Applied}
-use Rattle.one_kernel.specs.declared.apply.Applied.TheVariants as applied
+use Rattle.one_kernel.specs.declared.applying.Applied.{Applied}
+use Rattle.one_kernel.specs.declared.applying.Applied.TheVariants as applied
 use Rattle.one_kernel.specs.Applied.{Applies, CallApplies, DiesAmong, applied_by, called, counted_world, enters}
 use Rattle.one_kernel.specs.Verdicts.{way_at, way_by, way_if, way_of}
 

@@ -15,8 +15,8 @@ use Rattle.unix_world.specs.declared.World.{World}
 use Rattle.unix_world.specs.Among.{Ascending}
 use Rattle.unix_run.specs.Entering.{made_state}
 use Rattle.unix_world.specs.Worlds.{unix_of}
-use Rattle.one_kernel.specs.declared.apply.Applied.{Applied}
-use Rattle.one_kernel.specs.declared.apply.Applied.TheVariants as applied
+use Rattle.one_kernel.specs.declared.applying.Applied.{Applied}
+use Rattle.one_kernel.specs.declared.applying.Applied.TheVariants as applied
 use Rattle.one_kernel.specs.Verdicts.{way_at, way_by}
 
 -- what became of an entry whose process has that way to its call, may do so many instructions, and that leads to that state: it is

@@ -2,7 +2,7 @@ ghost use Rattle.std.specs.Prelude.{◌≡◌, ◌≤◌, IfOk};
 ghost use Rattle.unix_calls.specs.Lawful.{Lawful};
 ghost use Rattle.one_kernel.specs.Replays.{ReplaysTo};
 
-use crate::apply::{Applied, apply};
+use crate::applying::{Applied, apply};
 use sprite_ids::{Items, NoMemory};
 use std::alloc::Global;
 use unix_calls::{Description, Entry, Process};

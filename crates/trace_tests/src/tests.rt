@@ -6,11 +6,11 @@ use sprite_ids::{
 use sprite_paths::Path;
 use std::alloc::Global;
 use std::test::*;
-use trace_text::print_trace;
+use trace_text::{TraceError, print_trace, read_trace};
 use unix_calls::{About, DropCause, Entry, Event, Part, Rec, SendKind};
 
 // The kernel of a record, and its line: of each event, in the order in which a run's counts name them.
-const EVENTS: [(u8, &str); 21] = [
+static EVENTS: [(u8, &str); 21] = [
     (1, "1 Burst 1001 10000\n"),
     (1, "1 Issue 1001 2 seek 3 18446744073709551615\n"),
     (1, "1 Enter 1001 2 whole seek 3 9 -> ok 9 0 \"\"\n"),
@@ -35,7 +35,7 @@ const EVENTS: [(u8, &str); 21] = [
 ];
 
 // The same of the choices that the lines above leave out.
-const CHOICES: [(u8, &str); 18] = [
+static CHOICES: [(u8, &str); 18] = [
     (1, "1 Enter 1001 2 death\n"),
     (1, "1 Enter 1001 2 ask seek 3 9 -> -\n"),
     (1, "1 Return 1001 2 err 10\n"),
@@ -55,6 +55,150 @@ const CHOICES: [(u8, &str); 18] = [
     (2, "2 Closed 2:3 1:9 1 both\n"),
     (1, "1 Enter 1001 2 \n"),
 ];
+
+// Rows of CHOICES whose records have no line of their own, and are not read: a fault that is none, and an entry whose parts
+// don't belong together.
+static UNREAD: [usize; 2] = [9, 17];
+
+// Texts, and the first line that is no record's; 0 where there is none.
+const TEXTS: [(&str, usize); 112] = [
+    ("", 0),
+    ("budget\n", 0),
+    ("stalled\n", 0),
+    ("1 Freeze 1001\n", 0),
+    ("1 Freeze 1001\nbudget\n", 0),
+    ("1 Freeze 1001\n16 Thaw 16200\nstalled\n", 0),
+    ("1 Burst 1001 0\n", 0),
+    ("1 Burst 1001 4294967295\n", 0),
+    ("1 Learned \"/\" 2\n", 0),
+    // no byte 10 at the end
+    ("1 Freeze 1001", 1),
+    ("1 Freeze 1001\n1 Thaw 1001", 2),
+    ("budget", 1),
+    ("1 Freeze 1001\nbudget", 2),
+    // not the last line
+    ("budget\nbudget\n", 1),
+    ("budget\n1 Freeze 1001\n", 1),
+    ("1 Freeze 1001\nstalled\n1 Thaw 1001\n", 2),
+    ("1 Freeze 1001\nbudgets\n", 2),
+    ("1 Freeze 1001\n1 Thaw 1001\n1 Thaw 0\n1 Thaw 0\n", 3),
+    // blank lines
+    ("\n", 1),
+    ("1 Freeze 1001\n\n", 2),
+    ("1 Freeze 1001\n\n1 Thaw 1001\n", 2),
+    // spaces
+    (" 1 Freeze 1001\n", 1),
+    ("1  Freeze 1001\n", 1),
+    ("1 Freeze  1001\n", 1),
+    ("1 Freeze 1001 \n", 1),
+    ("1\tFreeze 1001\n", 1),
+    ("1 Freeze 1001\r\n", 1),
+    // kernels
+    ("0 Freeze 1001\n", 1),
+    ("17 Freeze 1001\n", 1),
+    ("257 Freeze 1001\n", 1),
+    ("01 Freeze 1001\n", 1),
+    ("Freeze 1001\n", 1),
+    ("-1 Freeze 1001\n", 1),
+    // names
+    ("1 freeze 1001\n", 1),
+    ("1 Freezes 1001\n", 1),
+    ("1 Nothing 1001\n", 1),
+    ("1 1001\n", 1),
+    ("1 \n", 1),
+    ("1\n", 1),
+    // numbers, and how many fields there are
+    ("1 Freeze 1000\n", 1),
+    ("1 Freeze 17001\n", 1),
+    ("1 Freeze\n", 1),
+    ("1 Freeze 1001 1\n", 1),
+    ("1 Burst 1001\n", 1),
+    ("1 Burst 1001 1 2\n", 1),
+    ("1 Burst 1001 4294967296\n", 1),
+    ("1 Burst 1001 010\n", 1),
+    ("1 Burst 1001 -1\n", 1),
+    ("1 Filled 2:3 65536\n", 1),
+    ("1 Filled 2:3\n", 1),
+    // files and streams
+    ("1 Filled 0:3 1\n", 1),
+    ("1 Filled 17:3 1\n", 1),
+    ("1 Filled 2:03 1\n", 1),
+    ("1 Filled 2:4294967296 1\n", 1),
+    ("1 Filled 2 3 1\n", 1),
+    ("1 Filled 2.3 1\n", 1),
+    ("1 Filled 2: 3 1\n", 1),
+    ("1 Filled 3 1\n", 1),
+    ("2 Shared 2:3 9\n", 1),
+    ("2 Shared 2:3 17:9\n", 1),
+    // for whose sake a packet goes
+    ("1 Send 7 2 1001 other\n", 1),
+    ("1 Send 7 2 1001/ other\n", 1),
+    ("1 Send 7 2 1001/02 other\n", 1),
+    ("1 Send 7 2 1000/2 other\n", 1),
+    ("1 Send 7 2 -/2 other\n", 1),
+    ("1 Send 7 2 -- other\n", 1),
+    ("1 Send 7 2 other\n", 1),
+    ("1 Send 7 2  other\n", 1),
+    ("2 Deliver 7 1 0\n", 1),
+    // what is or is not
+    ("1 Expire 7 2\n", 1),
+    ("1 Expire 7 true\n", 1),
+    ("1 Expire 7 01\n", 1),
+    ("1 Expire 7\n", 1),
+    // prefixes
+    ("1 Learned \"\" 2\n", 1),
+    ("1 Learned \"a\" 2\n", 1),
+    ("1 Learned \"/a/\" 2\n", 1),
+    ("1 Learned \"//a\" 2\n", 1),
+    ("1 Learned \"/./a\" 2\n", 1),
+    ("1 Learned \"/a/..\" 2\n", 1),
+    ("1 Learned \"/a b\" 2\n", 1),
+    ("1 Learned \"/\\61\" 2\n", 1),
+    ("1 Learned /a 2\n", 1),
+    // kinds
+    ("1 Send 7 2 - op\n", 1),
+    ("1 Send 7 2 - fetch 2:3\n", 1),
+    ("1 Send 7 2 - write_back 2:3 1\n", 1),
+    ("1 Send 7 2 - broadcast /\n", 1),
+    ("1 Send 7 2 - Other\n", 1),
+    ("1 Send 7 2 - others\n", 1),
+    ("1 Send 7 2 - other 2:3\n", 1),
+    // words
+    ("1 Mode 2:3 5 read\n", 1),
+    ("2 Grant 2:3 1 4 On\n", 1),
+    ("2 Opened 2:3 1:9 1 on\n", 1),
+    ("2 Closed 2:3 1:9 1 readwrite\n", 1),
+    ("2 Callback 2:3 1 5 version\n", 1),
+    ("1 Dropped 2:3 1 recall\n", 1),
+    ("1 Fault 1 2 once\n", 1),
+    ("1 Fault 1 2 dropped\n", 1),
+    ("1 Fault 1 17 lost\n", 1),
+    // entries, calls and replies
+    ("1 Enter 1001 2 \n", 1),
+    ("1 Enter 1001 2\n", 1),
+    ("1 Enter 1001 2 whole tick\n", 1),
+    ("1 Enter 1001 2 ask tick -> ok 1 0 \"\"\n", 1),
+    ("1 Enter 1001 2 done tick -> -\n", 1),
+    ("1 Enter 1001 2 death tick\n", 1),
+    ("1001 2 death\n", 1),
+    ("1 Issue 1001 2\n", 1),
+    ("1 Issue 1001 2 nothing\n", 1),
+    ("1 Issue 1001 2 seek 3\n", 1),
+    ("1 Return 1001 2 -\n", 1),
+    ("1 Return 1001 2 err 0\n", 1),
+    ("1 Return 1001 2 err 21\n", 1),
+    ("1 Return 1001 2 ok 9 0\n", 1),
+];
+
+// Records as a run leaves them of one process that prints a line and ends.
+const HELLO: &str = "1 Burst 1001 9
+1 Issue 1001 1 print \"hello\\0a\"
+1 Enter 1001 1 whole print \"hello\\0a\" -> ok 0 0 \"\"
+1 Return 1001 1 ok 0 0 \"\"
+1 Burst 1001 3
+1 Issue 1001 2 exit 0
+1 Enter 1001 2 whole exit 0 -> ok 0 0 \"\"
+";
 
 // The kernels, the process, the file, the stream and the call of these lines.
 #[derive(Clone, Copy)]
@@ -435,6 +579,65 @@ fn loop_is_printed(alloc: Global, names: &Names) -> Result<bool, NoMemory> {
     Ok(text.as_slice() == lines.as_slice())
 }
 
+// ---- reading
+
+// The first of the lines that isn't read as one record which is printed as the line again, or is though it is one of the unread.
+fn first_unread(
+    alloc: Global,
+    lines: &[(u8, &str)],
+    unread: &[usize],
+) -> Result<Option<usize>, NoMemory> {
+    for (row, line) in lines.iter().enumerate() {
+        let read = read_again(alloc, line.1.as_bytes())?;
+        if read.is_some() == unread.contains(&row) || read.unwrap_or(1) != 1 {
+            return Ok(Some(row));
+        }
+    }
+    Ok(None)
+}
+
+// The first line that is no record's; 0 where there is none.
+fn bad_line(alloc: Global, text: &str) -> Result<usize, NoMemory> {
+    match read_trace(alloc, text.as_bytes()) {
+        Ok(_) => Ok(0),
+        Err(TraceError::Line(number)) => Ok(number),
+        Err(TraceError::NoMemory) => Err(NoMemory),
+    }
+}
+
+// The first text whose bad line is another.
+fn first_misread(alloc: Global, texts: &[(&str, usize)]) -> Result<Option<usize>, NoMemory> {
+    for (row, text) in texts.iter().enumerate() {
+        if bad_line(alloc, text.0)? != text.1 {
+            return Ok(Some(row));
+        }
+    }
+    Ok(None)
+}
+
+// How many records are read of the text, where they print as the text again.
+fn read_again(alloc: Global, text: &[u8]) -> Result<Option<usize>, NoMemory> {
+    match read_trace(alloc, text) {
+        Ok(trace) => {
+            let printed = print_trace(alloc, trace.records())?;
+            let same = printed.as_slice() == text;
+            Ok(if same {
+                Some(trace.records().len())
+            } else {
+                None
+            })
+        }
+        Err(TraceError::Line(_)) => Ok(None),
+        Err(TraceError::NoMemory) => Err(NoMemory),
+    }
+}
+
+// How many records are read of the trace of a program that loops for ever.
+fn loop_read(alloc: Global) -> Result<Option<usize>, NoMemory> {
+    let lines = loop_lines(alloc)?;
+    read_again(alloc, lines.as_slice())
+}
+
 #[test]
 fn each_event_has_its_line(rt: HostRuntime) -> Result<(), Fail> {
     assert_eq!(rt; first_other(rt.alloc(), &used_names()?)?, None);
@@ -450,5 +653,33 @@ fn each_choice_has_its_word(rt: HostRuntime) -> Result<(), Fail> {
 #[test]
 fn lines_stand_one_behind_another(rt: HostRuntime) -> Result<(), Fail> {
     assert!(rt; loop_is_printed(rt.alloc(), &used_names()?)?);
+    Ok(())
+}
+
+#[test]
+fn each_event_is_read(rt: HostRuntime) -> Result<(), NoMemory> {
+    assert_eq!(rt; first_unread(rt.alloc(), EVENTS.as_slice(), &[])?, None);
+    Ok(())
+}
+
+#[test]
+fn each_choice_is_read(rt: HostRuntime) -> Result<(), NoMemory> {
+    assert_eq!(rt;
+        first_unread(rt.alloc(), CHOICES.as_slice(), UNREAD.as_slice())?,
+        None
+    );
+    Ok(())
+}
+
+#[test]
+fn bad_lines_are_told(rt: HostRuntime) -> Result<(), NoMemory> {
+    assert_eq!(rt; first_misread(rt.alloc(), &TEXTS)?, None);
+    Ok(())
+}
+
+#[test]
+fn runs_are_read(rt: HostRuntime) -> Result<(), NoMemory> {
+    assert_eq!(rt; read_again(rt.alloc(), HELLO.as_bytes())?, Some(7));
+    assert_eq!(rt; loop_read(rt.alloc())?, Some(BURSTS));
     Ok(())
 }

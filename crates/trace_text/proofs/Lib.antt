@@ -1,1 +1,5 @@
 pub mod ToldLaws
+pub mod FieldLaws
+pub mod EventLaws
+pub mod LineLaws
+pub mod TraceLaws

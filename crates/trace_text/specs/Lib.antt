@@ -1,2 +1,4 @@
 pub mod Fields
+pub mod Events
 pub mod Traces
+pub mod Laws

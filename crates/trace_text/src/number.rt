@@ -1,58 +1,70 @@
-ghost use Rattle.std.specs.Fmt.{decimal};
-ghost use Rattle.trace_text.specs.Fields.{bool_field};
+ghost use Rattle.history_text.specs.Numbers.{number32, pid};
+ghost use Rattle.trace_text.specs.Fields.{block, kernel, transaction};
 
 use crate::field::TraceField;
+use history_text::{Field, FieldEnd, Reader};
 use sprite_ids::{BlockNo, Kernel, NoMemory, Pid, TxNo};
 use std::alloc::Global;
 
 impl TraceField for u32 {
-    ghost printed = { decimal };
+    ghost format = { number32 };
 
     fn put_field(&self, alloc: Global, out: &mut Vec<u8>) -> Result<(), NoMemory> {
-        let number = *self;
-        let digits = format!(in alloc; "{number}")?;
-        out.extend_from_slice(digits.as_bytes())?;
-        Ok(())
+        self.put(alloc, out)
     }
-}
 
-impl TraceField for Kernel {
-    ghost printed = { decimal };
-
-    fn put_field(&self, alloc: Global, out: &mut Vec<u8>) -> Result<(), NoMemory> {
-        u32::from(self.number()).put_field(alloc, out)
+    fn read_field(alloc: Global, from: &mut Reader) -> Result<u32, FieldEnd> {
+        u32::read_from(alloc, from)
     }
 }
 
 impl TraceField for Pid {
-    ghost printed = { decimal };
+    ghost format = { pid };
 
     fn put_field(&self, alloc: Global, out: &mut Vec<u8>) -> Result<(), NoMemory> {
-        self.number().put_field(alloc, out)
+        self.put(alloc, out)
+    }
+
+    fn read_field(alloc: Global, from: &mut Reader) -> Result<Pid, FieldEnd> {
+        Pid::read_from(alloc, from)
+    }
+}
+
+impl TraceField for Kernel {
+    ghost format = { kernel };
+
+    fn put_field(&self, alloc: Global, out: &mut Vec<u8>) -> Result<(), NoMemory> {
+        self.number().put(alloc, out)
+    }
+
+    fn read_field(alloc: Global, from: &mut Reader) -> Result<Kernel, FieldEnd> {
+        let number = u8::read_from(alloc, from)?;
+        Kernel::new(number).ok_or(FieldEnd::NotPrinted)
     }
 }
 
 impl TraceField for BlockNo {
-    ghost printed = { λ block. decimal block.0 };
+    ghost format = { block };
 
     fn put_field(&self, alloc: Global, out: &mut Vec<u8>) -> Result<(), NoMemory> {
-        u32::from(self.0).put_field(alloc, out)
+        u64::from(self.0).put(alloc, out)
+    }
+
+    fn read_field(alloc: Global, from: &mut Reader) -> Result<BlockNo, FieldEnd> {
+        let number = u64::read_from(alloc, from)?;
+        let number = u16::try_from(number).ok().ok_or(FieldEnd::NotPrinted)?;
+        Ok(BlockNo(number))
     }
 }
 
 impl TraceField for TxNo {
-    ghost printed = { λ tx. decimal tx.0 };
+    ghost format = { transaction };
 
     fn put_field(&self, alloc: Global, out: &mut Vec<u8>) -> Result<(), NoMemory> {
-        self.0.put_field(alloc, out)
+        self.0.put(alloc, out)
     }
-}
 
-impl TraceField for bool {
-    ghost printed = { bool_field };
-
-    fn put_field(&self, _alloc: Global, out: &mut Vec<u8>) -> Result<(), NoMemory> {
-        out.push(if *self { b'1' } else { b'0' })?;
-        Ok(())
+    fn read_field(alloc: Global, from: &mut Reader) -> Result<TxNo, FieldEnd> {
+        Ok(TxNo(u32::read_from(alloc, from)?))
     }
 }

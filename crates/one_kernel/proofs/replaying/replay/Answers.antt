@@ -3,7 +3,7 @@ use Rattle.unix_calls.specs.declared.entry.Entry.{Entry}
 use Rattle.unix_calls.specs.After.{after}
 use Rattle.unix_world.specs.Worlds.{unix_of}
 use Rattle.unix_world.proofs.BootLaws.{lawful_boots}
-use Rattle.one_kernel.specs.declared.apply.Applied.{Applied}
+use Rattle.one_kernel.specs.declared.applying.Applied.{Applied}
 use Rattle.one_kernel.specs.Applied.{Applies}
 use Rattle.one_kernel.specs.Verdicts.{verdict_from, way_of}
 use Rattle.one_kernel.proofs.CheckLaws.{check_not_made}

@@ -1,0 +1,82 @@
+ghost use Rattle.std.specs.Prelude.{◌≡◌, IfOk, OnOk, not};
+ghost use Rattle.call_journal.specs.PrefixBroadcasts.{broadcasts_well, prefixes_are_broadcast_until_learned};
+ghost use Rattle.trace_rules.specs.Learned.{LearnsOn, TellsLearned, is_new, is_new_broadcast};
+ghost use Rattle.trace_rules.specs.LearnedLaws.{learned_told, learns_on};
+
+use crate::judging::{LooksBack, each_keeps};
+use crate::learned::Learned;
+use indexmap::IndexSet;
+use sprite_ids::{Copying, Kernel, NoMemory};
+use sprite_paths::Path;
+use std::alloc::Global;
+use unix_calls::{Description, Event, Rec, SendKind};
+
+/// Whether a kernel of the trace asks for a prefix by broadcast only until it learns the prefix's server (Welch and Ousterhout
+/// 1986). The one error is want of memory.
+pub fn prefixes_are_broadcast_until_learned(
+    alloc: Global,
+    c: &Description,
+    trace: &[Rec],
+) -> Result<bool, NoMemory>
+    ensures { IfOk result (λ kept. kept ≡ prefixes_are_broadcast_until_learned c.now trace.now) }
+{
+    let mut judge = Broadcasts {
+        learned: IndexSet::new(alloc),
+    };
+    each_keeps(alloc, c, &mut judge, trace)
+}
+
+/// The prefixes that the kernels have learned so far (this project).
+#[derive(Drop)]
+pub(crate) struct Broadcasts {
+    pub(crate) learned: IndexSet<Learned>,
+}
+
+impl LooksBack for Broadcasts {
+    ghost test = { λ c past rec. broadcasts_well past rec.kernel rec.event };
+
+    ghost tells = { λ judge past. TellsLearned judge.learned.keys past.records };
+
+    ghost fits = { λ c judge rec. is_new_broadcast judge.learned.keys rec.kernel rec.event };
+
+    ghost goes_on = { λ rec old new. LearnsOn rec old.learned.keys new.learned.keys };
+
+    fn fits(&self, alloc: Global, _c: &Description, rec: &Rec) -> Result<bool, NoMemory> {
+        match &rec.event {
+            Event::Send {
+                kind: SendKind::Broadcast { prefix },
+                ..
+            } => is_new(alloc, &self.learned, rec.kernel, prefix),
+            _ => Ok(true),
+        }
+    }
+
+    fn go_on(&mut self, alloc: Global, rec: &Rec) -> Result<(), NoMemory> {
+        if let Event::Learned { prefix, .. } = &rec.event {
+            let prefix = prefix.copy(alloc)?;
+            self.learned.insert(Learned {
+                kernel: rec.kernel,
+                prefix,
+            })?;
+        }
+        Ok(())
+    }
+
+    ghost is_told = { learned_told };
+
+    ghost tells_on = { learns_on };
+}
+
+// Whether the kernel has not learned the prefix so far.
+fn is_new(
+    alloc: Global,
+    learned: &IndexSet<Learned>,
+    kernel: Kernel,
+    prefix: &Path,
+) -> Result<bool, NoMemory>
+    ensures { IfOk result (λ fit. fit ≡ is_new learned.now.keys kernel prefix.now) }
+{
+    let prefix = prefix.copy(alloc)?;
+    let asked = Learned { kernel, prefix };
+    Ok(!learned.contains(&asked))
+}

@@ -1,0 +1,14 @@
+//! The rules of a trace, each judged in one pass over its records (this project).
+#![tactic(auto)]
+
+mod broadcasts;
+mod fetches;
+mod judging;
+mod judging_ties;
+mod learned;
+mod operations;
+mod place;
+
+pub use broadcasts::prefixes_are_broadcast_until_learned;
+pub use fetches::fetches_are_of_absent_blocks;
+pub use operations::operations_go_out_uncached;

@@ -1,0 +1,3 @@
+pub mod TieLaws
+pub mod KnownLaws
+pub mod TellLaws
