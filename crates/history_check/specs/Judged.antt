@@ -10,7 +10,7 @@ use Rattle.one_kernel.specs.declared.verdict.Verdict.TheVariants as verdict
 use Rattle.one_kernel.specs.Verdicts.{verdict_of}
 use Rattle.history_check.specs.declared.judgement.Judgement.{Judgement}
 use Rattle.history_check.specs.declared.judgement.Judgement.TheVariants as judgement
-use Rattle.history_check.specs.Parts.{parts_of}
+use Rattle.text_lines.specs.Parts.{parts_of}
 
 -- how many instructions the processes of a history may do in all
 unfoldable pub most_instructions : ℕ

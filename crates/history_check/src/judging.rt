@@ -1,15 +1,15 @@
 ghost use Rattle.std.specs.Prelude.{◌≡◌, IfOk, Some};
 ghost use Rattle.unix_calls.specs.Lawful.{Lawful};
-ghost use Rattle.history_check.specs.Parts.{parts_of};
+ghost use Rattle.text_lines.specs.Parts.{parts_of};
 ghost use Rattle.history_check.specs.Judged.{BodyComesTo, ComesTo, FileComesTo};
 
 use crate::judgement::Judgement;
-use crate::separator::parts_of;
 use cluster_file::{FileEnd, read_description};
 use history_text::{HistoryError, read_history};
 use one_kernel::check;
 use sprite_ids::NoMemory;
 use std::alloc::Global;
+use text_lines::parts_of;
 use unix_calls::Description;
 
 /// How many instructions the processes of a history may do in all, up to the calls of its entries (this project).

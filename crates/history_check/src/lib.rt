@@ -4,7 +4,6 @@
 
 mod judgement;
 mod judging;
-mod separator;
 
 pub use judgement::Judgement;
 pub use judging::{MOST_INSTRUCTIONS, judge};

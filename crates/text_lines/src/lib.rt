@@ -1,6 +1,8 @@
-//! Texts by lines: where a line ends, and numbers in decimal (this project).
+//! Texts by lines: where a line ends, numbers in decimal, and texts of two parts (this project).
 #![tactic(auto)]
 
 mod lines;
+mod separator;
 
 pub use lines::{first_line, number, place_of};
+pub use separator::parts_of;

@@ -7,6 +7,7 @@ pub fn first_line(text: &[u8]) -> (&[u8], &[u8])
     requires { 0 < length text.now }
     ensures lines { lines_of text.now ≡ result.0.now ∷ lines_of result.1.now }
     ensures shorter { length result.1.now < length text.now }
+    ensures within { length result.0.now ≤ length text.now }
 {
     let end = place_of(text, b'\n');
     if end < text.len() {

@@ -1,5 +1,7 @@
 pub mod CutLaws
+pub mod FlagLaws
 pub mod FrameLaws
+pub mod FullLaws
 pub mod PieceLaws
 pub mod PlanLaws
 pub mod RunLaws

@@ -28,7 +28,7 @@ same_bytes (x ∷ xs) (y ∷ ys) e =
     let both = and_parts (x == y) (pointwise (λ a b. a == b) xs ys) e in
     ap₂ (λ (n : ℕ) (ns : List ℕ). n ∷ ns) (eqb-true x y both.0) (same_bytes xs ys both.1)
 
-bytes_same : (xs : List ℕ) → pointwise (λ a b. a == b) xs xs ≡ true
+pub bytes_same : (xs : List ℕ) → pointwise (λ a b. a == b) xs xs ≡ true
 bytes_same [] = refl
 bytes_same (x ∷ xs) = and_from (x == x) (pointwise (λ a b. a == b) xs xs) (eq-eqb x x refl) (bytes_same xs)
 
@@ -44,7 +44,7 @@ came_of c before = map (has_come before) (frames_of c)
 came_long : (c : Cut) (before : List Told) → length (came_of c before) ≡ count_of (length c.message)
 came_long c before = length-map (frames_of c) (has_come before) ∙ cut_long c.name c.message
 
-all_same : (c : Cut) (before : List Told) → all_came before c ≡ all (came_of c before)
+pub all_same : (c : Cut) (before : List Told) → all_came before c ≡ all (came_of c before)
 all_same c before = sym (list_all-map (λ (b : Bool). b) (has_come before) (frames_of c))
 
 map_same : (p q : List ℕ → Bool) (xs : List (List ℕ)) → ((k : ℕ) (x : List ℕ) → slice_get xs k ≡ Some x → q x ≡ p x) → map q xs ≡ map p xs
@@ -92,7 +92,7 @@ of_other c d before j frame answer cut other apart at = map_same (has_come befor
     (λ k x e. not_it before frame x answer (λ same. absurd (true≢false (sym (ap (λ n. is_message n c.name) (sym (told_apart c d j k frame x cut other at e same).0) ∙ itself c.name) ∙ apart))))
 
 -- what has come stays so
-come_stays : (before : List Told) (t : Told) (xs : List (List ℕ)) → list_all (has_come before) xs ≡ true → list_all (has_come (t ∷ before)) xs ≡ true
+pub come_stays : (before : List Told) (t : Told) (xs : List (List ℕ)) → list_all (has_come before) xs ≡ true → list_all (has_come (t ∷ before)) xs ≡ true
 come_stays before t [] e = refl
 come_stays before t (x ∷ xs) e =
     let both = and_parts (has_come before x) (list_all (has_come before) xs) e in
@@ -170,7 +170,7 @@ turns cuts are before g next c j frame answer among at s step = record {
     given_after : (d : Cut) → IsAmong cuts d → was_given ((frame, answer) ∷ before) d.name ≡ true → all_came ((frame, answer) ∷ before) d ≡ true
     given_after d in_cuts e = given_by d in_cuts (or_cases (gives d.name answer) (was_given before d.name) e)
 
-among_got : (xs : List (List ℕ)) (x : List ℕ) → IsAmong xs x → (i : ℕ) × (slice_get xs i ≡ Some x)
+pub among_got : (xs : List (List ℕ)) (x : List ℕ) → IsAmong xs x → (i : ℕ) × (slice_get xs i ≡ Some x)
 among_got xs x is = (is.0, slice_get_read xs (length xs) is.0 x refl is.1.0 is.1.1)
 
 -- a frame that is spelled
@@ -199,7 +199,7 @@ gathered_from cuts are before g (f ∷ fs) s of =
     let one = one_turn cuts are before g f of.0 s in
     (one.gathered, gathered_from cuts are ((f, answer_to g f) ∷ before) (after g f) fs one.stands of.1)
 
-none_came : (xs : List (List ℕ)) → map (has_come []) xs ≡ replicate (length xs) false
+pub none_came : (xs : List (List ℕ)) → map (has_come []) xs ≡ replicate (length xs) false
 none_came [] = refl
 none_came (x ∷ xs) = ap (λ (bs : List Bool). false ∷ bs) (none_came xs)
 

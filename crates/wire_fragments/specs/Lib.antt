@@ -1,3 +1,4 @@
+pub mod Bits
 pub mod Frames
 pub mod Gathering
 pub mod Pieces

@@ -97,3 +97,22 @@ AreGathered cuts before [] (answer ∷ answers) = ⊥
 AreGathered cuts before (frame ∷ frames) [] = ⊥
 AreGathered cuts before (frame ∷ frames) (answer ∷ answers) =
     IsGathered cuts before frame answer × AreGathered cuts ((frame, answer) ∷ before) frames answers
+
+-- ---- where there is room for each message
+
+-- whether that frame is among these
+abbrev pub is_sent : List (List ℕ) → List ℕ → Bool
+is_sent frames frame = list_any (λ (sent : List ℕ). pointwise (λ a b. a == b) sent frame) frames
+
+-- whether each frame of the message is among these
+abbrev pub all_sent : List (List ℕ) → Cut → Bool
+all_sent frames c = list_all (is_sent frames) (frames_of c)
+
+-- whether one of the answers gives the message of that name
+abbrev pub is_given : List Gathered → MessageId → Bool
+is_given answers name = list_any (gives name) answers
+
+-- no frame is turned away, and a message is given exactly where each of its frames came
+pub record AreAllGiven (cuts : List Cut) (frames : List (List ℕ)) (answers : List Gathered) : Type 0 where
+  pub none_full : list_any is_full answers ≡ false
+  pub each : (c : Cut) → IsAmong cuts c → is_given answers c.name ≡ all_sent frames c

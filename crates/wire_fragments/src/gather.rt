@@ -16,8 +16,8 @@ use std::marker::Model;
 /// The messages of which frames have come (this project). It keeps at most so many in part as it has room for, and knows
 /// each that it gave.
 ///
-/// Gathering a message takes time in proportion to its bytes. A message in part takes at most its bytes and one more for
-/// each of its frames.
+/// Gathering a message takes time in proportion to its bytes. A message in part takes 1,488 bytes and a bit for each of its
+/// frames.
 #[derive(Drop)]
 pub struct Gather {
     room: u16,

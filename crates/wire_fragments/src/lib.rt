@@ -3,6 +3,7 @@
 #![tactic(auto)]
 
 mod cutting;
+mod flags;
 mod gather;
 mod gathered;
 mod head;

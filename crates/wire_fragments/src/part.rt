@@ -2,23 +2,23 @@ ghost use Rattle.std.specs.Prelude.{◌≡◌, ◌≤◌, ◌<◌, ◌+◌, fals
 ghost use Rattle.wire_fragments.specs.Gathering.{plan_in};
 ghost use Rattle.wire_fragments.specs.Pieces.{empty_pieces, is_there, with_frame, written};
 
+use crate::flags::Flags;
 use crate::head::{FULL, Head};
 use crate::plan::Plan;
-use sprite_ids::{Bytes, Items, NoMemory};
+use sprite_ids::{Bytes, NoMemory};
 use std::alloc::Global;
 use std::marker::Model;
 
 /// A message of which not all frames have come. Contracts see of each frame whether it has come, and the bytes so far.
 #[derive(Drop)]
 pub struct Part {
-    came: Items<bool>,
+    came: Flags,
     bytes: Vec<u8>,
-    count: u16,
     missing: u16,
 }
 
 impl Model for Part {
-    ghost use Rattle.std.specs.Prelude.{◌≡◌, not, length};
+    ghost use Rattle.std.specs.Prelude.{◌≡◌, not};
     ghost use Rattle.std.specs.List.{count_by};
     ghost use Rattle.wire_fragments.specs.Pieces.{Pieces};
 
@@ -26,7 +26,7 @@ impl Model for Part {
 
     ghost view = { λ part. record { came = part.came; bytes = part.bytes.items } };
 
-    ghost invariant = { λ part. (part.count ≡ length part.came) × (part.missing ≡ count_by not part.came) };
+    ghost invariant = { λ part. part.missing ≡ count_by not part.came };
 }
 
 impl Part {
@@ -34,12 +34,11 @@ impl Part {
     pub(crate) fn empty(alloc: Global, count: u16) -> Result<Part, NoMemory>
         ensures { IfOk result (λ part. part ≡ empty_pieces count) }
     {
-        let came = vec![in alloc; false; usize::from(count)]?;
+        let came = Flags::new(alloc, count)?;
         let bytes = Vec::with_capacity(alloc, FULL * usize::from(count))?;
         Ok(Part {
-            came: Items::of_vec(came),
+            came,
             bytes,
-            count,
             missing: count,
         })
     }
@@ -51,8 +50,8 @@ impl Part {
         if self.is_there(head.index) {
             return Plan::Known;
         }
-        if self.count != head.count {
-            return Plan::Differs(self.count);
+        if self.came.len() != head.count {
+            return Plan::Differs(self.came.len());
         }
         if self.missing == 1 {
             Plan::Last
@@ -65,8 +64,7 @@ impl Part {
     fn is_there(&self, index: u16) -> bool
         ensures { result ≡ is_there self.now index }
     {
-        let index = usize::from(index);
-        index < self.came.len() && *self.came.at(index)
+        self.came.get(index)
     }
 
     // Keeps the piece of a frame that is missing. After want of memory, the one error, all is as before.
@@ -77,9 +75,8 @@ impl Part {
         ensures ok { OnOk result (self.new ≡ with_frame self.old index piece.now) }
         ensures err { OnErr result (self.new ≡ self.old) }
     {
-        let index = usize::from(index);
-        write(&mut self.bytes, FULL * index, piece)?;
-        let _before = self.came.replace(index, true);
+        write(&mut self.bytes, FULL * usize::from(index), piece)?;
+        self.came.set(index);
         self.missing -= 1;
         Ok(())
     }

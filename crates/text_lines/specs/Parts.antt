@@ -1,4 +1,4 @@
--- A text of two parts: a cluster file and a history, with a line `=====` between them.
+-- A text of two parts, with a line `=====` between them.
 use Rattle.std.specs.Prelude.{codes, ℕ, ◌+◌, ◌==◌, ◌&&◌, Bool, true, if◌then◌else◌, List, [], ◌∷◌, Option, Some, None, take, drop, nat_eq}
 use Rattle.std.specs.List.{starts_with}
 

@@ -1,12 +1,12 @@
 ghost use Rattle.std.specs.Prelude.{◌≡◌, ◌<◌, ◌+◌, true, drop, length, IfSome};
 ghost use Rattle.std.specs.Option.{option_map};
-ghost use Rattle.history_check.specs.Parts.{ends_line, is_separator, parts_of, separator_from};
+ghost use Rattle.text_lines.specs.Parts.{ends_line, is_separator, parts_of, separator_from};
 
-/// The line between a cluster file and a history.
+// The line between a cluster file and what stands behind it.
 const SEPARATOR: &[u8] = b"=====";
 
-/// What stands before the first line `=====` of a text, and what behind it; None where there is no such line.
-pub(crate) fn parts_of(text: &[u8]) -> Option<(&[u8], &[u8])>
+/// What stands before the first line `=====` of a text, and what behind it (this project); None exactly where there is no such line.
+pub fn parts_of(text: &[u8]) -> Option<(&[u8], &[u8])>
     ensures { option_map (λ parts. (parts.0.now, parts.1.now)) result ≡ parts_of text.now }
 {
     let place = separator_in(text)?;

@@ -1,0 +1,5 @@
+pub mod Digits
+pub mod Parcels
+pub mod Reports
+pub mod Sending
+pub mod Texts
