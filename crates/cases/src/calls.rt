@@ -60,6 +60,16 @@ const EVENTS: [&str; 4] = [
     "events-of-no-host",
 ];
 
+/// Packets that are sent in frames.
+const PACKETS: [&str; 6] = [
+    "frames-second-lost",
+    "frames-middle-piece-lost",
+    "frames-twice-and-late",
+    "frames-not-a-packet",
+    "frames-second-line-bad",
+    "frames-to-itself",
+];
+
 /// Cluster files that are refused, or whose process exits at once.
 const DESCRIPTIONS: [&str; 31] = [
     "exit-past-greatest",
@@ -145,6 +155,7 @@ pub fn print_all<R: Threads + Wait + Sync>(rt: &HostRuntime, threads: &R) -> io:
     print!(rt; "== check hello: ")?;
     print_call(rt, threads, &["check"], "hello", SOUND)?;
     print_events(rt, threads)?;
+    print_packets(rt, threads)?;
     print_pieces(rt, threads)?;
     print_seeds(rt, threads)?;
     print_words(rt, threads)?;
@@ -159,6 +170,15 @@ fn print_events<R: Threads + Wait + Sync>(rt: &HostRuntime, threads: &R) -> io::
     for name in EVENTS {
         print!(rt; "== lend {name}: ")?;
         print_call(rt, threads, &["lend"], name, SOUND)?;
+    }
+    Ok(())
+}
+
+/// What comes of packets in frames.
+fn print_packets<R: Threads + Wait + Sync>(rt: &HostRuntime, threads: &R) -> io::Result<()> {
+    for name in PACKETS {
+        print!(rt; "== frames {name}: ")?;
+        print_call(rt, threads, &["frames"], name, SOUND)?;
     }
     Ok(())
 }

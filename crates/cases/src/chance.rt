@@ -1,4 +1,4 @@
-ghost use Rattle.std.specs.Prelude.{◌≡◌, ◌<◌, ◌≤◌, All, length, IfOk, IfSome, OnErr, OnOk};
+ghost use Rattle.std.specs.Prelude.{◌≡◌, ◌<◌, ◌≤◌, All, length, IfSome};
 ghost use Rattle.kernel_threads.specs.Steps.{IsAmong};
 ghost use Rattle.sprite_cluster.specs.Finishing.{stands_so};
 ghost use Rattle.sprite_cluster.specs.Logs.{Holds};
@@ -124,32 +124,22 @@ fn step<V: Stepped>(alloc: Global, value: &mut V, kernel: Kernel, word: u32) -> 
     ensures holds { V.holds value.new }
     ensures origin { V.origin value.new ≡ V.origin value.old }
 {
-    match drawn_choice(alloc, value, kernel, word) {
-        Ok(Some(choice)) => value.step(alloc, kernel, choice).is_ok(),
-        Ok(None) => true,
-        Err(NoMemory) => false,
+    match drawn_choice(value, kernel, word) {
+        Some(choice) => value.step(alloc, kernel, choice).is_ok(),
+        None => true,
     }
 }
 
-// The kernel's choice at the word's place, modulo their number, where it has one. The one error is want of memory.
-fn drawn_choice<V: Stepped>(
-    alloc: Global,
-    value: &mut V,
-    kernel: Kernel,
-    word: u32,
-) -> Result<Option<V::Choice>, NoMemory>
-    requires holds { V.holds value.old }
-    requires running { V.finish_of value.old ≡ Finish.Running }
-    ensures among { IfOk result (λ choice. IfSome choice (λ c. IsAmong c (V.choices_at value.old kernel))) }
-    ensures ok { OnOk result (value.new ≡ value.old) }
-    ensures err { OnErr result (V.holds value.new) }
-    ensures origin { V.origin value.new ≡ V.origin value.old }
+// The kernel's choice at the word's place, modulo their number, where it has one.
+fn drawn_choice<V: Stepped>(value: &V, kernel: Kernel, word: u32) -> Option<V::Choice>
+    requires { V.holds value.now }
+    ensures { IfSome result (λ choice. IsAmong choice (V.choices_at value.now kernel)) }
 {
-    let choices = value.choices(alloc, kernel)?;
-    if choices.is_empty() {
-        return Ok(None);
+    let count = value.choice_count(kernel);
+    if count == 0 {
+        return None;
     }
-    Ok(Some(*choices.at(word as usize % choices.len())))
+    value.choice(kernel, u64::from(word) % count)
 }
 
 // A burst of the kernel begins, where a process of it can run, and is held. False where memory is wanting.

@@ -23,36 +23,39 @@ use Rattle.history_check.specs.declared.judgement.Judgement.TheVariants as judge
 use Rattle.sprite_top.specs.Judged.{TextCauses, judgement_status}
 use Rattle.sprite_words.specs.declared.Command.TheVariants as command
 use Rattle.sprite_words.specs.Words.{IsSpelled}
-use Rattle.sprite_top.specs.Top.{AsksFor, IsCommand, RunsOver, LoadCauses, EventsCauses, fault_line, printed, status_of, Causes, FileCauses, ClusterCauses}
+use Rattle.frames_text.specs.declared.FramesAnswer.{FramesAnswer}
+use Rattle.frames_text.specs.declared.FramesAnswer.TheVariants.{Lines, Refused}
+use Rattle.frames_text.specs.Texts.{Answers, AreTold}
+use Rattle.sprite_top.specs.Top.{Telling, PacketsCauses, told_answer, AsksFor, IsCommand, RunsOver, LoadCauses, EventsCauses, fault_line, printed, status_of, Causes, FileCauses, ClusterCauses}
 use Rattle.sprite_ids.specs.declared.running.Finish.{Finish}
 use Rattle.sprite_ids.specs.declared.running.Finish.TheVariants as finish
 use Rattle.run_judge.specs.Judged.{IsJudged}
 use Rattle.sprite_cluster.specs.Finishing.{IsSpent}
 
 -- what is due for a whole file is due for words that ask for it, whose source was read to its end
-of_file : (print : Printing) (state : Status) (words : List (List ℕ)) (left left_after : Option (List ℕ)) (faults faults_after : ℕ) (came : List ℕ) (closed : Option Closed) (due : List ℕ) → AsksFor print words → Consumes left left_after came → IsAtEnd left_after → length came ≤ 1048576 → FileCauses print state came closed due → Causes state words left left_after faults faults_after closed due
-of_file print status.Ended words left left_after faults faults_after came closed due are read end short why =
+of_file : (told : Telling) (print : Printing) (state : Status) (words : List (List ℕ)) (left left_after : Option (List ℕ)) (faults faults_after : ℕ) (came : List ℕ) (closed : Option Closed) (due : List ℕ) → AsksFor print words → Consumes left left_after came → IsAtEnd left_after → length came ≤ 1048576 → FileCauses print state came closed due → Causes told state words left left_after faults faults_after closed due
+of_file told print status.Ended words left left_after faults faults_after came closed due are read end short why =
     inl (record { print = print; asks = are; came = came; read = read; at_end = end; short = short; run_of = why })
-of_file print status.Refused words left left_after faults faults_after came closed due are read end short why =
+of_file told print status.Refused words left left_after faults faults_after came closed due are read end short why =
     inl (record { print = print; asks = are; came = came; read = read; cause = inl (end, short, why.1); no_run = why.0 })
-of_file print status.Stalled words left left_after faults faults_after came closed due are read end short why =
+of_file told print status.Stalled words left left_after faults faults_after came closed due are read end short why =
     inl (record { print = print; asks = are; came = came; read = read; at_end = end; short = short; run_of = why })
-of_file print status.Refuted words left left_after faults faults_after came closed due are read end short why =
+of_file told print status.Refuted words left left_after faults faults_after came closed due are read end short why =
     inl (record { print = print; asks = are; came = came; read = read; at_end = end; short = short; run_of = why })
-of_file print status.Budget words left left_after faults faults_after came closed due are read end short why =
+of_file told print status.Budget words left left_after faults faults_after came closed due are read end short why =
     inl (record { print = print; asks = are; came = came; read = read; at_end = end; short = short; run_of = why })
-of_file print status.Usage words left left_after faults faults_after came closed due are read end short why = absurd why
-of_file print status.ReadFault words left left_after faults faults_after came closed due are read end short why = absurd why
-of_file print status.NoMemory words left left_after faults faults_after came closed due are read end short why = absurd why
-of_file print status.Legal words left left_after faults faults_after came closed due are read end short why = absurd why
-of_file print status.Answered words left left_after faults faults_after came closed due are read end short why = absurd why
-of_file print status.NotLegal words left left_after faults faults_after came closed due are read end short why = absurd why
-of_file print status.Steps words left left_after faults faults_after came closed due are read end short why = absurd why
-of_file print status.WriteFault words left left_after faults faults_after came closed due are read end short why = absurd why
+of_file told print status.Usage words left left_after faults faults_after came closed due are read end short why = absurd why
+of_file told print status.ReadFault words left left_after faults faults_after came closed due are read end short why = absurd why
+of_file told print status.NoMemory words left left_after faults faults_after came closed due are read end short why = absurd why
+of_file told print status.Legal words left left_after faults faults_after came closed due are read end short why = absurd why
+of_file told print status.Answered words left left_after faults faults_after came closed due are read end short why = absurd why
+of_file told print status.NotLegal words left left_after faults faults_after came closed due are read end short why = absurd why
+of_file told print status.Steps words left left_after faults faults_after came closed due are read end short why = absurd why
+of_file told print status.WriteFault words left left_after faults faults_after came closed due are read end short why = absurd why
 
-pub from_file : (print : Printing) (words : List (List ℕ)) (left left_after : Option (List ℕ)) (faults faults_after : ℕ) (came : List ℕ) (r : Result Answer NoMemory) → AsksFor print words → Consumes left left_after came → IsAtEnd left_after → length came ≤ 1048576 → IfOk r (λ a. FileCauses print a.status came a.closed a.due) → IfOk r (λ a. Causes a.status words left left_after faults faults_after a.closed a.due)
-from_file print words left left_after faults faults_after came (Ok a) are read end short why = of_file print a.status words left left_after faults faults_after came a.closed a.due are read end short why
-from_file print words left left_after faults faults_after came (Err e) are read end short why = why
+pub from_file : (told : Telling) (print : Printing) (words : List (List ℕ)) (left left_after : Option (List ℕ)) (faults faults_after : ℕ) (came : List ℕ) (r : Result Answer NoMemory) → AsksFor print words → Consumes left left_after came → IsAtEnd left_after → length came ≤ 1048576 → IfOk r (λ a. FileCauses print a.status came a.closed a.due) → IfOk r (λ a. Causes told a.status words left left_after faults faults_after a.closed a.due)
+from_file told print words left left_after faults faults_after came (Ok a) are read end short why = of_file told print a.status words left left_after faults faults_after came a.closed a.due are read end short why
+from_file told print words left left_after faults faults_after came (Err e) are read end short why = why
 
 -- what is due for a described cluster is due for a whole file
 of_cluster : (print : Printing) (state : Status) (bytes : List ℕ) (c : Description) (closed : Option Closed) (due : List ℕ) → Describes bytes c → ClusterCauses print state c closed due → FileCauses print state bytes closed due
@@ -95,24 +98,24 @@ from_workload count c (Ok a) describes why = of_workload count a.status c a.clos
 from_workload count c (Err e) describes why = why
 
 -- and for words that ask for it, where nothing was read
-of_load : (count : ℕ) (state : Status) (words : List (List ℕ)) (left left_after : Option (List ℕ)) (faults faults_after : ℕ) (closed : Option Closed) (due : List ℕ) → IsSpelled (command.Load count) words → left_after ≡ left → LoadCauses count state closed due → Causes state words left left_after faults faults_after closed due
-of_load count status.Ended words left left_after faults faults_after closed due are same why = inr (record { count = count; asks = are; nothing_read = same; run_of = why })
-of_load count status.Budget words left left_after faults faults_after closed due are same why = inr (record { count = count; asks = are; nothing_read = same; run_of = why })
-of_load count status.Stalled words left left_after faults faults_after closed due are same why = inr (record { count = count; asks = are; nothing_read = same; run_of = why })
-of_load count status.Refuted words left left_after faults faults_after closed due are same why = inr (record { count = count; asks = are; nothing_read = same; run_of = why })
-of_load count status.Refused words left left_after faults faults_after closed due are same why = absurd why
-of_load count status.Usage words left left_after faults faults_after closed due are same why = absurd why
-of_load count status.ReadFault words left left_after faults faults_after closed due are same why = absurd why
-of_load count status.NoMemory words left left_after faults faults_after closed due are same why = absurd why
-of_load count status.Legal words left left_after faults faults_after closed due are same why = absurd why
-of_load count status.Answered words left left_after faults faults_after closed due are same why = absurd why
-of_load count status.NotLegal words left left_after faults faults_after closed due are same why = absurd why
-of_load count status.Steps words left left_after faults faults_after closed due are same why = absurd why
-of_load count status.WriteFault words left left_after faults faults_after closed due are same why = absurd why
+of_load : (told : Telling) (count : ℕ) (state : Status) (words : List (List ℕ)) (left left_after : Option (List ℕ)) (faults faults_after : ℕ) (closed : Option Closed) (due : List ℕ) → IsSpelled (command.Load count) words → left_after ≡ left → LoadCauses count state closed due → Causes told state words left left_after faults faults_after closed due
+of_load told count status.Ended words left left_after faults faults_after closed due are same why = inr (record { count = count; asks = are; nothing_read = same; run_of = why })
+of_load told count status.Budget words left left_after faults faults_after closed due are same why = inr (record { count = count; asks = are; nothing_read = same; run_of = why })
+of_load told count status.Stalled words left left_after faults faults_after closed due are same why = inr (record { count = count; asks = are; nothing_read = same; run_of = why })
+of_load told count status.Refuted words left left_after faults faults_after closed due are same why = inr (record { count = count; asks = are; nothing_read = same; run_of = why })
+of_load told count status.Refused words left left_after faults faults_after closed due are same why = absurd why
+of_load told count status.Usage words left left_after faults faults_after closed due are same why = absurd why
+of_load told count status.ReadFault words left left_after faults faults_after closed due are same why = absurd why
+of_load told count status.NoMemory words left left_after faults faults_after closed due are same why = absurd why
+of_load told count status.Legal words left left_after faults faults_after closed due are same why = absurd why
+of_load told count status.Answered words left left_after faults faults_after closed due are same why = absurd why
+of_load told count status.NotLegal words left left_after faults faults_after closed due are same why = absurd why
+of_load told count status.Steps words left left_after faults faults_after closed due are same why = absurd why
+of_load told count status.WriteFault words left left_after faults faults_after closed due are same why = absurd why
 
-pub from_load : (count : ℕ) (words : List (List ℕ)) (left left_after : Option (List ℕ)) (faults faults_after : ℕ) (r : Result Answer NoMemory) → IsSpelled (command.Load count) words → left_after ≡ left → IfOk r (λ a. LoadCauses count a.status a.closed a.due) → IfOk r (λ a. Causes a.status words left left_after faults faults_after a.closed a.due)
-from_load count words left left_after faults faults_after (Ok a) are same why = of_load count a.status words left left_after faults faults_after a.closed a.due are same why
-from_load count words left left_after faults faults_after (Err e) are same why = why
+pub from_load : (told : Telling) (count : ℕ) (words : List (List ℕ)) (left left_after : Option (List ℕ)) (faults faults_after : ℕ) (r : Result Answer NoMemory) → IsSpelled (command.Load count) words → left_after ≡ left → IfOk r (λ a. LoadCauses count a.status a.closed a.due) → IfOk r (λ a. Causes told a.status words left left_after faults faults_after a.closed a.due)
+from_load told count words left left_after faults faults_after (Ok a) are same why = of_load told count a.status words left left_after faults faults_after a.closed a.due are same why
+from_load told count words left left_after faults faults_after (Err e) are same why = why
 
 -- the line of a refusal is due for a file that has it
 pub from_refusal : (print : Printing) (bytes : List ℕ) (refusal : Refusal) (r : Result Answer NoMemory) → Refuses bytes refusal → IfOk r (λ a. a ≡ record { status = status.Refused; due = refusal_line refusal; closed = None }) → IfOk r (λ a. FileCauses print a.status bytes a.closed a.due)
@@ -141,29 +144,29 @@ no_other : (state : Status) (j : Judgement) → state ≡ judgement_status j →
 no_other state j is other = (let both : true ≡ false = sym (of_judgement j) ∙ (ap is_of_text (sym is) ∙ other) in absurd (cc (both)))
 
 -- what is due for a text is due for the words `check`, whose source was read to its end
-of_text : (state : Status) (words : List (List ℕ)) (left left_after : Option (List ℕ)) (faults faults_after : ℕ) (came : List ℕ) (closed : Option Closed) (due : List ℕ) → IsSpelled command.Check words → Consumes left left_after came → IsAtEnd left_after → length came ≤ 67108864 → TextCauses state came closed due → Causes state words left left_after faults faults_after closed due
+of_text : (told : Telling) (state : Status) (words : List (List ℕ)) (left left_after : Option (List ℕ)) (faults faults_after : ℕ) (came : List ℕ) (closed : Option Closed) (due : List ℕ) → IsSpelled command.Check words → Consumes left left_after came → IsAtEnd left_after → length came ≤ 67108864 → TextCauses state came closed due → Causes told state words left left_after faults faults_after closed due
 unfolding is_of_text
-of_text status.Legal words left left_after faults faults_after came closed due are read end short why =
+of_text told status.Legal words left left_after faults faults_after came closed due are read end short why =
     record { words_are = are; came = came; read = read; at_end = end; short = short; text = why }
-of_text status.NotLegal words left left_after faults faults_after came closed due are read end short why =
+of_text told status.NotLegal words left left_after faults faults_after came closed due are read end short why =
     record { words_are = are; came = came; read = read; at_end = end; short = short; text = why }
-of_text status.Steps words left left_after faults faults_after came closed due are read end short why =
+of_text told status.Steps words left left_after faults faults_after came closed due are read end short why =
     record { words_are = are; came = came; read = read; at_end = end; short = short; text = why }
-of_text status.Refused words left left_after faults faults_after came closed due are read end short why =
+of_text told status.Refused words left left_after faults faults_after came closed due are read end short why =
     inr (inl (record { words_are = are; came = came; read = read; at_end = end; short = short; text = why }))
-of_text status.Ended words left left_after faults faults_after came closed due are read end short why = absurd (no_other status.Ended why.judgement why.state_is refl)
-of_text status.Budget words left left_after faults faults_after came closed due are read end short why = absurd (no_other status.Budget why.judgement why.state_is refl)
-of_text status.Stalled words left left_after faults faults_after came closed due are read end short why = absurd (no_other status.Stalled why.judgement why.state_is refl)
-of_text status.Refuted words left left_after faults faults_after came closed due are read end short why = absurd (no_other status.Refuted why.judgement why.state_is refl)
-of_text status.Usage words left left_after faults faults_after came closed due are read end short why = absurd (no_other status.Usage why.judgement why.state_is refl)
-of_text status.ReadFault words left left_after faults faults_after came closed due are read end short why = absurd (no_other status.ReadFault why.judgement why.state_is refl)
-of_text status.NoMemory words left left_after faults faults_after came closed due are read end short why = absurd (no_other status.NoMemory why.judgement why.state_is refl)
-of_text status.Answered words left left_after faults faults_after came closed due are read end short why = absurd (no_other status.Answered why.judgement why.state_is refl)
-of_text status.WriteFault words left left_after faults faults_after came closed due are read end short why = absurd (no_other status.WriteFault why.judgement why.state_is refl)
+of_text told status.Ended words left left_after faults faults_after came closed due are read end short why = absurd (no_other status.Ended why.judgement why.state_is refl)
+of_text told status.Budget words left left_after faults faults_after came closed due are read end short why = absurd (no_other status.Budget why.judgement why.state_is refl)
+of_text told status.Stalled words left left_after faults faults_after came closed due are read end short why = absurd (no_other status.Stalled why.judgement why.state_is refl)
+of_text told status.Refuted words left left_after faults faults_after came closed due are read end short why = absurd (no_other status.Refuted why.judgement why.state_is refl)
+of_text told status.Usage words left left_after faults faults_after came closed due are read end short why = absurd (no_other status.Usage why.judgement why.state_is refl)
+of_text told status.ReadFault words left left_after faults faults_after came closed due are read end short why = absurd (no_other status.ReadFault why.judgement why.state_is refl)
+of_text told status.NoMemory words left left_after faults faults_after came closed due are read end short why = absurd (no_other status.NoMemory why.judgement why.state_is refl)
+of_text told status.Answered words left left_after faults faults_after came closed due are read end short why = absurd (no_other status.Answered why.judgement why.state_is refl)
+of_text told status.WriteFault words left left_after faults faults_after came closed due are read end short why = absurd (no_other status.WriteFault why.judgement why.state_is refl)
 
-pub from_text : (words : List (List ℕ)) (left left_after : Option (List ℕ)) (faults faults_after : ℕ) (came : List ℕ) (r : Result Answer NoMemory) → IsSpelled command.Check words → Consumes left left_after came → IsAtEnd left_after → length came ≤ 67108864 → IfOk r (λ a. TextCauses a.status came a.closed a.due) → IfOk r (λ a. Causes a.status words left left_after faults faults_after a.closed a.due)
-from_text words left left_after faults faults_after came (Ok a) are read end short why = of_text a.status words left left_after faults faults_after came a.closed a.due are read end short why
-from_text words left left_after faults faults_after came (Err e) are read end short why = why
+pub from_text : (told : Telling) (words : List (List ℕ)) (left left_after : Option (List ℕ)) (faults faults_after : ℕ) (came : List ℕ) (r : Result Answer NoMemory) → IsSpelled command.Check words → Consumes left left_after came → IsAtEnd left_after → length came ≤ 67108864 → IfOk r (λ a. TextCauses a.status came a.closed a.due) → IfOk r (λ a. Causes told a.status words left left_after faults faults_after a.closed a.due)
+from_text told words left left_after faults faults_after came (Ok a) are read end short why = of_text told a.status words left left_after faults faults_after came a.closed a.due are read end short why
+from_text told words left left_after faults faults_after came (Err e) are read end short why = why
 
 -- a run that is what was promised of it has the causes of its end
 accepted_at : (print : Printing) (c : Description) (run : Closed) (output due : List ℕ) (tally : Tally) (end : Finish) → run.description ≡ c → run.finish ≡ end → IsSpent c run.trace end → IsJudged c 40000000000 run.trace end output tally → due ≡ printed print c run.trace end → ClusterCauses print (status_of end) c (Some run) due
@@ -180,35 +183,65 @@ pub accepted : (print : Printing) (run : Closed) (output due : List ℕ) (tally 
 accepted print run output due tally spent j is = accepted_at print run.description run output due tally run.finish refl refl spent j is
 
 -- what is due for a text of events is due for the words `lend`, whose source was read to its end
-of_events : (state : Status) (words : List (List ℕ)) (left left_after : Option (List ℕ)) (faults faults_after : ℕ) (came : List ℕ) (closed : Option Closed) (due : List ℕ) → IsSpelled command.Lend words → Consumes left left_after came → IsAtEnd left_after → length came ≤ 1048576 → EventsCauses state came closed due → Causes state words left left_after faults faults_after closed due
-of_events status.Answered words left left_after faults faults_after came closed due are read end short why =
-    record { words_are = are; came = came; read = read; at_end = end; short = short; answers = why.0; no_run = why.1 }
-of_events status.Refused words left left_after faults faults_after came closed due are read end short why =
-    inr (inr (inr (record { words_are = are; came = came; read = read; cause = inl (end, short, why.0); no_run = why.1 })))
-of_events status.Ended words left left_after faults faults_after came closed due are read end short why = absurd why
-of_events status.Budget words left left_after faults faults_after came closed due are read end short why = absurd why
-of_events status.Stalled words left left_after faults faults_after came closed due are read end short why = absurd why
-of_events status.Refuted words left left_after faults faults_after came closed due are read end short why = absurd why
-of_events status.Usage words left left_after faults faults_after came closed due are read end short why = absurd why
-of_events status.ReadFault words left left_after faults faults_after came closed due are read end short why = absurd why
-of_events status.NoMemory words left left_after faults faults_after came closed due are read end short why = absurd why
-of_events status.Legal words left left_after faults faults_after came closed due are read end short why = absurd why
-of_events status.NotLegal words left left_after faults faults_after came closed due are read end short why = absurd why
-of_events status.Steps words left left_after faults faults_after came closed due are read end short why = absurd why
-of_events status.WriteFault words left left_after faults faults_after came closed due are read end short why = absurd why
+of_events : (told : Telling) (state : Status) (words : List (List ℕ)) (left left_after : Option (List ℕ)) (faults faults_after : ℕ) (came : List ℕ) (closed : Option Closed) (due : List ℕ) → IsSpelled command.Lend words → Consumes left left_after came → IsAtEnd left_after → length came ≤ 1048576 → EventsCauses state came closed due → Causes told state words left left_after faults faults_after closed due
+of_events told status.Answered words left left_after faults faults_after came closed due are read end short why =
+    inl (record { words_are = are; came = came; read = read; at_end = end; short = short; answers = why.0; no_run = why.1 })
+of_events told status.Refused words left left_after faults faults_after came closed due are read end short why =
+    inr (inr (inr (inl (record { words_are = are; came = came; read = read; cause = inl (end, short, why.0); no_run = why.1 }))))
+of_events told status.Ended words left left_after faults faults_after came closed due are read end short why = absurd why
+of_events told status.Budget words left left_after faults faults_after came closed due are read end short why = absurd why
+of_events told status.Stalled words left left_after faults faults_after came closed due are read end short why = absurd why
+of_events told status.Refuted words left left_after faults faults_after came closed due are read end short why = absurd why
+of_events told status.Usage words left left_after faults faults_after came closed due are read end short why = absurd why
+of_events told status.ReadFault words left left_after faults faults_after came closed due are read end short why = absurd why
+of_events told status.NoMemory words left left_after faults faults_after came closed due are read end short why = absurd why
+of_events told status.Legal words left left_after faults faults_after came closed due are read end short why = absurd why
+of_events told status.NotLegal words left left_after faults faults_after came closed due are read end short why = absurd why
+of_events told status.Steps words left left_after faults faults_after came closed due are read end short why = absurd why
+of_events told status.WriteFault words left left_after faults faults_after came closed due are read end short why = absurd why
 
-pub from_events : (words : List (List ℕ)) (left left_after : Option (List ℕ)) (faults faults_after : ℕ) (came : List ℕ) (r : Result Answer NoMemory) → IsSpelled command.Lend words → Consumes left left_after came → IsAtEnd left_after → length came ≤ 1048576 → IfOk r (λ a. EventsCauses a.status came a.closed a.due) → IfOk r (λ a. Causes a.status words left left_after faults faults_after a.closed a.due)
-from_events words left left_after faults faults_after came (Ok a) are read end short why = of_events a.status words left left_after faults faults_after came a.closed a.due are read end short why
-from_events words left left_after faults faults_after came (Err e) are read end short why = why
+pub from_events : (told : Telling) (words : List (List ℕ)) (left left_after : Option (List ℕ)) (faults faults_after : ℕ) (came : List ℕ) (r : Result Answer NoMemory) → IsSpelled command.Lend words → Consumes left left_after came → IsAtEnd left_after → length came ≤ 1048576 → IfOk r (λ a. EventsCauses a.status came a.closed a.due) → IfOk r (λ a. Causes told a.status words left left_after faults faults_after a.closed a.due)
+from_events told words left left_after faults faults_after came (Ok a) are read end short why = of_events told a.status words left left_after faults faults_after came a.closed a.due are read end short why
+from_events told words left left_after faults faults_after came (Err e) are read end short why = why
+
+-- what is due for a text of packets is due for the words `frames`, whose source was read to its end
+of_packets : (told : Telling) (state : Status) (words : List (List ℕ)) (left left_after : Option (List ℕ)) (faults faults_after : ℕ) (came : List ℕ) (closed : Option Closed) (due : List ℕ) → IsSpelled command.Frames words → Consumes left left_after came → IsAtEnd left_after → length came ≤ 67108864 → PacketsCauses told state came closed due → Causes told state words left left_after faults faults_after closed due
+of_packets told status.Answered words left left_after faults faults_after came closed due are read end short why =
+    inr (record { words_are = are; came = came; read = read; at_end = end; short = short; tells = why.0; no_run = why.1 })
+of_packets told status.Refused words left left_after faults faults_after came closed due are read end short why =
+    inr (inr (inr (inr (record { words_are = are; came = came; read = read; cause = inl (end, short, why.0); no_run = why.1 }))))
+of_packets told status.Ended words left left_after faults faults_after came closed due are read end short why = absurd why
+of_packets told status.Budget words left left_after faults faults_after came closed due are read end short why = absurd why
+of_packets told status.Stalled words left left_after faults faults_after came closed due are read end short why = absurd why
+of_packets told status.Refuted words left left_after faults faults_after came closed due are read end short why = absurd why
+of_packets told status.Usage words left left_after faults faults_after came closed due are read end short why = absurd why
+of_packets told status.ReadFault words left left_after faults faults_after came closed due are read end short why = absurd why
+of_packets told status.NoMemory words left left_after faults faults_after came closed due are read end short why = absurd why
+of_packets told status.Legal words left left_after faults faults_after came closed due are read end short why = absurd why
+of_packets told status.NotLegal words left left_after faults faults_after came closed due are read end short why = absurd why
+of_packets told status.Steps words left left_after faults faults_after came closed due are read end short why = absurd why
+of_packets told status.WriteFault words left left_after faults faults_after came closed due are read end short why = absurd why
+
+pub from_packets : (told : Telling) (words : List (List ℕ)) (left left_after : Option (List ℕ)) (faults faults_after : ℕ) (came : List ℕ) (r : Result Answer NoMemory) → IsSpelled command.Frames words → Consumes left left_after came → IsAtEnd left_after → length came ≤ 67108864 → IfOk r (λ a. PacketsCauses told a.status came a.closed a.due) → IfOk r (λ a. Causes told a.status words left left_after faults faults_after a.closed a.due)
+from_packets told words left left_after faults faults_after came (Ok a) are read end short why = of_packets told a.status words left left_after faults faults_after came a.closed a.due are read end short why
+from_packets told words left left_after faults faults_after came (Err e) are read end short why = why
+
+-- what was told of a text is due for it
+told_by : {L : Type 0} (faults asked : L → ℕ → ℕ → ℕ) (before after : L) (text : List ℕ) (answer : FramesAnswer) → Answers faults asked before after text answer → PacketsCauses (AreTold faults asked before after) (told_answer answer).status text (told_answer answer).closed (told_answer answer).due
+told_by faults asked before after text (Lines lines) why = (why, refl)
+told_by faults asked before after text (Refused line) why = (why, refl)
+
+pub from_told : {L : Type 0} (faults asked : L → ℕ → ℕ → ℕ) (before after : L) (text : List ℕ) (answer : FramesAnswer) (a : Answer) → a ≡ told_answer answer → Answers faults asked before after text answer → PacketsCauses (AreTold faults asked before after) a.status text a.closed a.due
+from_told faults asked before after text answer a is why = subst (λ (b : Answer). PacketsCauses (AreTold faults asked before after) b.status text b.closed b.due) (sym is) (told_by faults asked before after text answer why)
 
 -- what a fault of the source leaves due for words that are a command
 fault_rose : (old new before now : ℕ) → IsFault old new before now → Rose old new
 fault_rose old new before now fault = fault.rose
 
-pub from_fault : (words : List (List ℕ)) (left left_after : Option (List ℕ)) (faults faults_after before now : ℕ) (r : Result Answer NoMemory) → IsCommand words → IsByCount faults faults_after (read_end.Fault before now) → IfOk r (λ a. a ≡ record { status = status.ReadFault; due = fault_line; closed = None }) → IfOk r (λ a. Causes a.status words left left_after faults faults_after a.closed a.due)
-from_fault words left left_after faults faults_after before now (Ok a) are fault made =
-    subst (λ (b : Answer). Causes b.status words left left_after faults faults_after b.closed b.due) (sym made) (record { words_are = are; rose = fault_rose faults faults_after before now fault; line = record { no_run = refl; output = refl } })
-from_fault words left left_after faults faults_after before now (Err e) are fault made = made
+pub from_fault : (told : Telling) (words : List (List ℕ)) (left left_after : Option (List ℕ)) (faults faults_after before now : ℕ) (r : Result Answer NoMemory) → IsCommand words → IsByCount faults faults_after (read_end.Fault before now) → IfOk r (λ a. a ≡ record { status = status.ReadFault; due = fault_line; closed = None }) → IfOk r (λ a. Causes told a.status words left left_after faults faults_after a.closed a.due)
+from_fault told words left left_after faults faults_after before now (Ok a) are fault made =
+    subst (λ (b : Answer). Causes told b.status words left left_after faults faults_after b.closed b.due) (sym made) (record { words_are = are; rose = fault_rose faults faults_after before now fault; line = record { no_run = refl; output = refl } })
+from_fault told words left left_after faults faults_after before now (Err e) are fault made = made
 
 -- nothing was run, so nothing is told of it
 pub none_over : {L : Type 0} (faults asked : L → ℕ → ℕ → ℕ) (before after : L) (r : Result Answer NoMemory) → IfOk r (λ a. a.closed ≡ None) → IfOk r (λ a. RunsOver faults asked before after a.closed)

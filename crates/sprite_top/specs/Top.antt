@@ -6,6 +6,7 @@ use Rattle.sprite_ids.specs.declared.running.Finish.{Finish}
 use Rattle.sprite_ids.specs.declared.running.Finish.TheVariants as finish
 use Rattle.sprite_bytes.specs.Counts.{Rose}
 use Rattle.call_journal.specs.declared.closed.Closed.{Closed}
+use Rattle.sprite_top.specs.declared.top.Answer.{Answer}
 use Rattle.sprite_top.specs.declared.top.Status.{Status}
 use Rattle.sprite_top.specs.declared.top.Status.TheVariants as status
 use Rattle.unix_calls.specs.declared.description.Description.{Description}
@@ -19,6 +20,9 @@ use Rattle.report_print.specs.Stats.{stats_of}
 use Rattle.report_print.specs.Summaries.{summary_of}
 use Rattle.workload_maker.specs.Workloads.{workload_text}
 use Rattle.lend_text.specs.Bodies.{answer_text}
+use Rattle.frames_text.specs.declared.FramesAnswer.{FramesAnswer}
+use Rattle.frames_text.specs.declared.FramesAnswer.TheVariants.{Lines, Refused}
+use Rattle.frames_text.specs.Texts.{HoldsPackets, IsTextRefusal}
 use Rattle.history_check.specs.declared.judgement.Judgement.{Judgement}
 use Rattle.history_check.specs.Judged.{ComesTo}
 use Rattle.sprite_top.specs.Judged.{TextCauses, judgement_status}
@@ -58,6 +62,7 @@ printing_of command.History = Some printing.History
 printing_of (command.Load count) = None
 printing_of command.Check = None
 printing_of command.Trace = Some printing.Trace
+printing_of command.Frames = None
 printing_of command.Lend = None
 
 -- the words spell a command that runs the cluster of a cluster file and prints that of it
@@ -81,7 +86,7 @@ printed printing.Trace c trace end = trace_of trace ++ last_line end
 
 -- the lines that are written where nothing was run
 abbrev pub usage_line : List ℕ
-usage_line = codes "usage: sprite run | run --seed N | run --stats | history | load N | check | trace | lend\n"
+usage_line = codes "usage: sprite run | run --seed N | run --stats | history | load N | check | trace | frames | lend\n"
 
 abbrev pub too_long_line : List ℕ
 too_long_line = codes "refused: 1\n"
@@ -317,10 +322,42 @@ pub record IsLendRefused (words : List (List ℕ)) (left left_after : Option (Li
   pub cause : AreNoEvents left_after came due
   pub no_run : closed ≡ None
 
--- what was read is refused: as a cluster file, as a text that is to be checked, since it is too long, or as a text of events
+-- what a text of packets and the lines that tell of them have to do with each other
+abbrev pub Telling : Type 1
+Telling = List ℕ → List ℕ → Type 0
+
+-- the words are `frames`, the source was read to its end, and what is due tells what came of the packets that came
+pub record IsFramed (told : Telling) (words : List (List ℕ)) (left left_after : Option (List ℕ)) (closed : Option Closed) (due : List ℕ) : Type 0 where
+  pub words_are : IsSpelled command.Frames words
+  pub came : List ℕ
+  pub read : Consumes left left_after came
+  pub at_end : IsAtEnd left_after
+  pub short : length came ≤ 67108864
+  pub tells : told came due
+  pub no_run : closed ≡ None
+
+-- events were answered, or packets were sent
+abbrev pub IsAnswered : Telling → List (List ℕ) → Option (List ℕ) → Option (List ℕ) → Option Closed → List ℕ → Type 0
+IsAnswered told words left left_after closed due = IsLent words left left_after closed due ⊎ IsFramed told words left left_after closed due
+
+-- bytes that are read to their end and are refused as a text of packets, or too many bytes
+abbrev pub AreNoPackets : Option (List ℕ) → List ℕ → List ℕ → Type 0
+AreNoPackets left_after came due =
+    (IsAtEnd left_after × (length came ≤ 67108864) × IsTextRefusal came due) ⊎ ((67108864 < length came) × (due ≡ too_long_line))
+
+-- the words are `frames`, and what was read is no text of packets
+pub record IsFramesRefused (words : List (List ℕ)) (left left_after : Option (List ℕ)) (closed : Option Closed) (due : List ℕ) : Type 0 where
+  pub words_are : IsSpelled command.Frames words
+  pub came : List ℕ
+  pub read : Consumes left left_after came
+  pub cause : AreNoPackets left_after came due
+  pub no_run : closed ≡ None
+
+-- what was read is refused: as a cluster file, as a text that is to be checked, since it is too long, as a text of events, or as one of
+-- packets
 abbrev pub IsRefused : List (List ℕ) → Option (List ℕ) → Option (List ℕ) → Option Closed → List ℕ → Type 0
 IsRefused words left left_after closed due =
-    IsRunRefused words left left_after closed due ⊎ (IsChecked status.Refused words left left_after closed due ⊎ (IsTextTooLong words left left_after closed due ⊎ IsLendRefused words left left_after closed due))
+    IsRunRefused words left left_after closed due ⊎ (IsChecked status.Refused words left left_after closed due ⊎ (IsTextTooLong words left left_after closed due ⊎ (IsLendRefused words left left_after closed due ⊎ IsFramesRefused words left left_after closed due)))
 
 -- the words are no command, and nothing was read
 pub record IsUsage (words : List (List ℕ)) (left left_after : Option (List ℕ)) (faults faults_after : ℕ) (closed : Option Closed) (due : List ℕ) : Type 0 where
@@ -336,20 +373,20 @@ pub record IsReadFault (words : List (List ℕ)) (faults faults_after : ℕ) (cl
   pub line : IsLine closed due fault_line
 
 -- why a status comes, before anything is written
-abbrev pub Causes : Status → List (List ℕ) → Option (List ℕ) → Option (List ℕ) → ℕ → ℕ → Option Closed → List ℕ → Type 0
-Causes status.Ended words left left_after faults faults_after closed due = IsEnded finish.AllEnded words left left_after closed due
-Causes status.Budget words left left_after faults faults_after closed due = IsEnded finish.Budget words left left_after closed due
-Causes status.Stalled words left left_after faults faults_after closed due = IsEnded finish.Stalled words left left_after closed due
-Causes status.Refuted words left left_after faults faults_after closed due = IsRefuted words left left_after closed due
-Causes status.Legal words left left_after faults faults_after closed due = IsChecked status.Legal words left left_after closed due
-Causes status.NotLegal words left left_after faults faults_after closed due = IsChecked status.NotLegal words left left_after closed due
-Causes status.Steps words left left_after faults faults_after closed due = IsChecked status.Steps words left left_after closed due
-Causes status.Answered words left left_after faults faults_after closed due = IsLent words left left_after closed due
-Causes status.Refused words left left_after faults faults_after closed due = IsRefused words left left_after closed due
-Causes status.Usage words left left_after faults faults_after closed due = IsUsage words left left_after faults faults_after closed due
-Causes status.ReadFault words left left_after faults faults_after closed due = IsReadFault words faults faults_after closed due
-Causes status.NoMemory words left left_after faults faults_after closed due = ⊥
-Causes status.WriteFault words left left_after faults faults_after closed due = ⊥
+abbrev pub Causes : Telling → Status → List (List ℕ) → Option (List ℕ) → Option (List ℕ) → ℕ → ℕ → Option Closed → List ℕ → Type 0
+Causes told status.Ended words left left_after faults faults_after closed due = IsEnded finish.AllEnded words left left_after closed due
+Causes told status.Budget words left left_after faults faults_after closed due = IsEnded finish.Budget words left left_after closed due
+Causes told status.Stalled words left left_after faults faults_after closed due = IsEnded finish.Stalled words left left_after closed due
+Causes told status.Refuted words left left_after faults faults_after closed due = IsRefuted words left left_after closed due
+Causes told status.Legal words left left_after faults faults_after closed due = IsChecked status.Legal words left left_after closed due
+Causes told status.NotLegal words left left_after faults faults_after closed due = IsChecked status.NotLegal words left left_after closed due
+Causes told status.Steps words left left_after faults faults_after closed due = IsChecked status.Steps words left left_after closed due
+Causes told status.Answered words left left_after faults faults_after closed due = IsAnswered told words left left_after closed due
+Causes told status.Refused words left left_after faults faults_after closed due = IsRefused words left left_after closed due
+Causes told status.Usage words left left_after faults faults_after closed due = IsUsage words left left_after faults faults_after closed due
+Causes told status.ReadFault words left left_after faults faults_after closed due = IsReadFault words faults faults_after closed due
+Causes told status.NoMemory words left left_after faults faults_after closed due = ⊥
+Causes told status.WriteFault words left left_after faults faults_after closed due = ⊥
 
 -- what is due for the bytes of a whole file
 abbrev pub FileCauses : Printing → Status → List ℕ → Option Closed → List ℕ → Type 0
@@ -382,6 +419,17 @@ EventsCauses status.Answered text closed due = (answer_text text ≡ Ok due) × 
 EventsCauses status.Refused text closed due = IsBadLine text due × (closed ≡ None)
 EventsCauses other text closed due = ⊥
 
+-- what is due for a text of packets
+abbrev pub PacketsCauses : Telling → Status → List ℕ → Option Closed → List ℕ → Type 0
+PacketsCauses told status.Answered text closed due = told text due × (closed ≡ None)
+PacketsCauses told status.Refused text closed due = IsTextRefusal text due × (closed ≡ None)
+PacketsCauses told other text closed due = ⊥
+
+-- what was told of a text of packets, as an answer
+abbrev pub told_answer : FramesAnswer → Answer
+told_answer (Lines lines) = record { status = status.Answered; due = lines; closed = None }
+told_answer (Refused line) = record { status = status.Refused; due = line; closed = None }
+
 -- what was due was written behind what the sink held
 pub record Wrote (held held_after : Option (List ℕ)) (Due : List ℕ → Type 0) : Type 0 where
   pub due : List ℕ
@@ -405,7 +453,7 @@ status_of finish.Budget = status.Budget
 status_of finish.Stalled = status.Stalled
 status_of _ = status.Refuted
 
--- what a run of a described cluster, the check of a history, an answer to events, a refused file, and words that are no command may come to
+-- what a run of a described cluster, the check of a history, an answer to events or packets, a refused file, and words that are no command may come to
 abbrev pub IsOfRun : Status → Type 0
 IsOfRun status.Ended = Unit {0}
 IsOfRun status.Budget = Unit {0}
@@ -449,6 +497,7 @@ pub record Completes (state : Status) (words : List (List ℕ)) (left : Option (
   pub loads : (count : ℕ) → IsSpelled (command.Load count) words → NoFault faults faults_after → NoFault sunk sunk_after → IsOfRun state
   pub checks : (bytes : List ℕ) → IsSpelled command.Check words → left ≡ Some bytes → length bytes ≤ 67108864 → ((j : Judgement) → ComesTo bytes j → judgement_status j ≢ status.Refused) → NoFault faults faults_after → NoFault sunk sunk_after → IsOfCheck state
   pub answers : (bytes lines : List ℕ) → IsSpelled command.Lend words → left ≡ Some bytes → length bytes ≤ 1048576 → answer_text bytes ≡ Ok lines → NoFault faults faults_after → NoFault sunk sunk_after → IsOfAnswer state
+  pub tells : (bytes : List ℕ) → IsSpelled command.Frames words → left ≡ Some bytes → length bytes ≤ 67108864 → HoldsPackets bytes → NoFault faults faults_after → NoFault sunk sunk_after → IsOfAnswer state
   pub refuses : (print : Printing) (bytes : List ℕ) (refusal : Refusal) → AsksFor print words → left ≡ Some bytes → Refuses bytes refusal → NoFault faults faults_after → IsOfRefusal state
   pub refuses_words : (IsCommand words → ⊥) → IsOfUsage state
 

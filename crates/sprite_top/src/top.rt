@@ -1,15 +1,17 @@
-ghost use Rattle.std.specs.Prelude.{◌≡◌, ◌≤◌, ℕ, List, None, IfOk};
+ghost use Rattle.std.specs.Prelude.{◌≡◌, ◌≤◌, ℕ, List, None, IfOk, length};
 ghost use Rattle.sprite_words.specs.Words.{spelled, IsSpelled};
-ghost use Rattle.sprite_words.specs.declared.Command.TheVariants.{Check, Lend};
+ghost use Rattle.sprite_words.specs.declared.Command.TheVariants.{Check, Frames, Lend};
 ghost use Rattle.sprite_ids.specs.declared.running.Finish.TheVariants.{AllEnded, Budget as Spent, Stalled as Stopped};
+ghost use Rattle.frames_text.specs.Texts.{AreTold};
 ghost use Rattle.report_print.specs.Refused.{refusal_line};
 ghost use Rattle.sprite_top.specs.Judged.{TextCauses, judgement_status, verdict_status};
-ghost use Rattle.sprite_top.specs.Top.{AllWereReached, Completes, IsRunOver, RunsOver, TellsFaults, TellsWireOf, AsksFor, LoadCauses, EventsCauses, RoseForCause, IsEnded, IsChecked, IsLent, IsRefuted, IsRefused, IsUsage, IsReadFault, Causes, FileCauses, Wrote, Broke, status_number};
+ghost use Rattle.sprite_top.specs.Top.{AllWereReached, Completes, IsRunOver, RunsOver, TellsFaults, TellsWireOf, AsksFor, LoadCauses, EventsCauses, PacketsCauses, told_answer, RoseForCause, IsEnded, IsChecked, IsAnswered, IsRefuted, IsRefused, IsUsage, IsReadFault, Causes, FileCauses, Wrote, Broke, status_number};
 
 use crate::clusters::answer_cluster;
 use crate::judged::{judgement_line, numbered_line};
 use call_journal::Closed;
 use cluster_file::{FileEnd, Refusal, read_description};
+use frames_text::{FramesAnswer, send_text};
 use history_check::{Judgement, judge};
 use kernel_threads::Watch;
 use lend_text::{LendError, lend_text};
@@ -27,12 +29,12 @@ use workload_maker::workload;
 /// How many bytes a cluster file, or a text of events, may have.
 const FILE_BYTES: usize = 1_048_576;
 
-/// How many bytes a cluster file, a line `=====` and a history may have.
+/// How many bytes a cluster file, a line `=====` and a history, or packets, may have.
 const TEXT_BYTES: usize = 67_108_864;
 
 /// What is written where the words are no command.
 const USAGE_LINE: &[u8] =
-    b"usage: sprite run | run --seed N | run --stats | history | load N | check | trace | lend\n";
+    b"usage: sprite run | run --seed N | run --stats | history | load N | check | trace | frames | lend\n";
 
 /// What is written for more bytes than the command may read.
 const TOO_LONG_LINE: &[u8] = b"refused: 1\n";
@@ -119,7 +121,8 @@ pub struct Answer {
 /// The words are those behind the program's name: `run`, `run --seed N`, `run --stats`, `history` and `trace` run the cluster of a
 /// cluster file and print its output, that and the counts of its trace, its journal or its trace, and `check` judges a history, which
 /// stands behind a cluster file and a line `=====`, against the one-kernel Unix, without running a cluster; `load N` runs a workload of N
-/// processes and prints its summary; `lend` answers a text of events of hosts that are lent. A cluster is run by a thread for each of
+/// processes and prints its summary; `frames` sends packets, which stand behind a cluster file and a line `=====`, in frames over the
+/// link, without running a cluster; `lend` answers a text of events of hosts that are lent. A cluster is run by a thread for each of
 /// its kernels, which tell `watch` where they are; by one thread, which tells nothing, where there is a seed. It may wait for ever.
 /// All that is due is made before its first byte is written. Want of memory may come at any point before, and then nothing is
 /// written. Where a source or a sink tells nothing of its bytes, the clauses say that some bytes were read or written so.
@@ -140,12 +143,12 @@ pub fn sprite<R: Threads + Wait + Sync, S: Source, K: Sink, L: Link + Send, W: W
     ensures legal { result.status ≡ Status.Legal → Wrote (K.held sink.old) (K.held sink.new) (IsChecked Status.Legal (spelled words.now) (S.left source.old) (S.left source.new) result.closed) }
     ensures not_legal { result.status ≡ Status.NotLegal → Wrote (K.held sink.old) (K.held sink.new) (IsChecked Status.NotLegal (spelled words.now) (S.left source.old) (S.left source.new) result.closed) }
     ensures steps { result.status ≡ Status.Steps → Wrote (K.held sink.old) (K.held sink.new) (IsChecked Status.Steps (spelled words.now) (S.left source.old) (S.left source.new) result.closed) }
-    ensures answered { result.status ≡ Status.Answered → Wrote (K.held sink.old) (K.held sink.new) (IsLent (spelled words.now) (S.left source.old) (S.left source.new) result.closed) }
+    ensures answered { result.status ≡ Status.Answered → Wrote (K.held sink.old) (K.held sink.new) (IsAnswered (AreTold L.faults L.asked link result.link) (spelled words.now) (S.left source.old) (S.left source.new) result.closed) }
     ensures refused { result.status ≡ Status.Refused → Wrote (K.held sink.old) (K.held sink.new) (IsRefused (spelled words.now) (S.left source.old) (S.left source.new) result.closed) }
     ensures usage { result.status ≡ Status.Usage → Wrote (K.held sink.old) (K.held sink.new) (IsUsage (spelled words.now) (S.left source.old) (S.left source.new) (S.faults source.old) (S.faults source.new) result.closed) }
     ensures read_fault { result.status ≡ Status.ReadFault → Wrote (K.held sink.old) (K.held sink.new) (IsReadFault (spelled words.now) (S.faults source.old) (S.faults source.new) result.closed) }
     ensures no_memory { result.status ≡ Status.NoMemory → (K.held sink.new ≡ K.held sink.old) × (result.closed ≡ None) }
-    ensures write_fault { result.status ≡ Status.WriteFault → Broke (K.held sink.old) (K.held sink.new) (K.faults sink.old) (K.faults sink.new) (λ status. Causes status (spelled words.now) (S.left source.old) (S.left source.new) (S.faults source.old) (S.faults source.new) result.closed) }
+    ensures write_fault { result.status ≡ Status.WriteFault → Broke (K.held sink.old) (K.held sink.new) (K.faults sink.old) (K.faults sink.new) (λ status. Causes (AreTold L.faults L.asked link result.link) status (spelled words.now) (S.left source.old) (S.left source.new) (S.faults source.old) (S.faults source.new) result.closed) }
     ensures run { IsRunOver L.faults L.asked link result.link result.closed }
     ensures faults { TellsFaults L.faults link result.link result.closed }
     ensures wire { TellsWireOf L.faults L.asked link result.link result.closed }
@@ -185,7 +188,7 @@ fn answer_to<R: Threads + Wait + Sync, S: Source, L: Link + Send, W: Watch + Syn
     link: L,
     watch: &W,
 ) -> (Result<Answer, NoMemory>, L)
-    ensures causes { IfOk result.0 (λ a. Causes a.status (spelled words.now) (S.left source.old) (S.left source.new) (S.faults source.old) (S.faults source.new) a.closed a.due) }
+    ensures causes { IfOk result.0 (λ a. Causes (AreTold L.faults L.asked link result.1) a.status (spelled words.now) (S.left source.old) (S.left source.new) (S.faults source.old) (S.faults source.new) a.closed a.due) }
     ensures over { IfOk result.0 (λ a. RunsOver L.faults L.asked link result.1 a.closed) }
 {
     match command_of(words) {
@@ -245,8 +248,9 @@ fn answer_to<R: Threads + Wait + Sync, S: Source, L: Link + Send, W: Watch + Syn
             )
         }
         Some(Command::Load(count)) => answer_load(rt, alloc, count, link, watch),
-        Some(Command::Check) => (answer_check(alloc, source), link),
-        Some(Command::Lend) => (answer_lend(alloc, source), link),
+        Some(Command::Check) => answer_check(alloc, source, link),
+        Some(Command::Frames) => answer_frames(alloc, source, link),
+        Some(Command::Lend) => answer_lend(alloc, source, link),
         None => (refuse(alloc, Status::Usage, USAGE_LINE), link),
     }
 }
@@ -261,7 +265,7 @@ fn answer_run<R: Threads + Wait + Sync, S: Source, L: Link + Send, W: Watch + Sy
     link: L,
     watch: &W,
 ) -> (Result<Answer, NoMemory>, L)
-    ensures causes { (words : List (List ℕ)) → AsksFor print words → IfOk result.0 (λ a. Causes a.status words (S.left source.old) (S.left source.new) (S.faults source.old) (S.faults source.new) a.closed a.due) }
+    ensures causes { (words : List (List ℕ)) → AsksFor print words → IfOk result.0 (λ a. Causes (AreTold L.faults L.asked link result.1) a.status words (S.left source.old) (S.left source.new) (S.faults source.old) (S.faults source.new) a.closed a.due) }
     ensures over { IfOk result.0 (λ a. RunsOver L.faults L.asked link result.1 a.closed) }
 {
     match read_all(alloc, source, FILE_BYTES) {
@@ -300,29 +304,87 @@ fn answer_load<R: Threads + Wait + Sync, L: Link + Send, W: Watch + Sync>(
     }
 }
 
-/// What is due for the word `check` and this source. The one error is want of memory.
-fn answer_check<S: Source>(alloc: Global, source: &mut S) -> Result<Answer, NoMemory>
-    ensures no_run { IfOk result (λ a. a.closed ≡ None) }
-    ensures causes { (words : List (List ℕ)) → IsSpelled Check words → IfOk result (λ a. Causes a.status words (S.left source.old) (S.left source.new) (S.faults source.old) (S.faults source.new) a.closed a.due) }
+/// What is due for the word `check` and this source, and the link. The one error is want of memory.
+fn answer_check<S: Source, L: Link>(
+    alloc: Global,
+    source: &mut S,
+    link: L,
+) -> (Result<Answer, NoMemory>, L)
+    ensures no_run { IfOk result.0 (λ a. a.closed ≡ None) }
+    ensures causes { (words : List (List ℕ)) → IsSpelled Check words → IfOk result.0 (λ a. Causes (AreTold L.faults L.asked link result.1) a.status words (S.left source.old) (S.left source.new) (S.faults source.old) (S.faults source.new) a.closed a.due) }
 {
     match read_all(alloc, source, TEXT_BYTES) {
-        Ok(bytes) => answer_text(alloc, bytes.as_slice()),
-        Err(ReadEnd::TooLong) => refuse(alloc, Status::Refused, TOO_LONG_LINE),
-        Err(ReadEnd::Fault { .. }) => refuse(alloc, Status::ReadFault, FAULT_LINE),
-        Err(ReadEnd::NoMemory) => Err(NoMemory),
+        Ok(bytes) => (answer_text(alloc, bytes.as_slice()), link),
+        Err(ReadEnd::TooLong) => (refuse(alloc, Status::Refused, TOO_LONG_LINE), link),
+        Err(ReadEnd::Fault { .. }) => (refuse(alloc, Status::ReadFault, FAULT_LINE), link),
+        Err(ReadEnd::NoMemory) => (Err(NoMemory), link),
     }
 }
 
-/// What is due for the word `lend` and this source. The one error is want of memory.
-fn answer_lend<S: Source>(alloc: Global, source: &mut S) -> Result<Answer, NoMemory>
-    ensures no_run { IfOk result (λ a. a.closed ≡ None) }
-    ensures causes { (words : List (List ℕ)) → IsSpelled Lend words → IfOk result (λ a. Causes a.status words (S.left source.old) (S.left source.new) (S.faults source.old) (S.faults source.new) a.closed a.due) }
+/// What is due for the word `frames` and this source, and the link. The one error is want of memory.
+fn answer_frames<S: Source, L: Link>(
+    alloc: Global,
+    source: &mut S,
+    link: L,
+) -> (Result<Answer, NoMemory>, L)
+    ensures no_run { IfOk result.0 (λ a. a.closed ≡ None) }
+    ensures causes { (words : List (List ℕ)) → IsSpelled Frames words → IfOk result.0 (λ a. Causes (AreTold L.faults L.asked link result.1) a.status words (S.left source.old) (S.left source.new) (S.faults source.old) (S.faults source.new) a.closed a.due) }
+{
+    match read_all(alloc, source, TEXT_BYTES) {
+        Ok(bytes) => answer_packets(alloc, bytes.as_slice(), link),
+        Err(ReadEnd::TooLong) => (refuse(alloc, Status::Refused, TOO_LONG_LINE), link),
+        Err(ReadEnd::Fault { .. }) => (refuse(alloc, Status::ReadFault, FAULT_LINE), link),
+        Err(ReadEnd::NoMemory) => (Err(NoMemory), link),
+    }
+}
+
+/// What is due for a whole text that is to hold a cluster file and packets, and the link. The one error is want of memory.
+#[tactic(auto, using(crate::proofs::TopLaws::from_told))]
+fn answer_packets<L: Link>(alloc: Global, text: &[u8], link: L) -> (Result<Answer, NoMemory>, L)
+    requires { length text.now ≤ 67108864 }
+    ensures no_run { IfOk result.0 (λ a. a.closed ≡ None) }
+    ensures causes { IfOk result.0 (λ a. PacketsCauses (AreTold L.faults L.asked link result.1) a.status text.now a.closed a.due) }
+{
+    let mut link = link;
+    match send_text(alloc, &mut link, text) {
+        Ok(told) => (Ok(told_answer(told)), link),
+        Err(NoMemory) => (Err(NoMemory), link),
+    }
+}
+
+/// What was told of a text of packets, as an answer.
+fn told_answer(told: FramesAnswer) -> Answer
+    ensures answer { result ≡ told_answer told }
+    ensures no_run { result.closed ≡ None }
+{
+    match told {
+        FramesAnswer::Lines(lines) => Answer {
+            status: Status::Answered,
+            due: lines,
+            closed: None,
+        },
+        FramesAnswer::Refused(line) => Answer {
+            status: Status::Refused,
+            due: line,
+            closed: None,
+        },
+    }
+}
+
+/// What is due for the word `lend` and this source, and the link. The one error is want of memory.
+fn answer_lend<S: Source, L: Link>(
+    alloc: Global,
+    source: &mut S,
+    link: L,
+) -> (Result<Answer, NoMemory>, L)
+    ensures no_run { IfOk result.0 (λ a. a.closed ≡ None) }
+    ensures causes { (words : List (List ℕ)) → IsSpelled Lend words → IfOk result.0 (λ a. Causes (AreTold L.faults L.asked link result.1) a.status words (S.left source.old) (S.left source.new) (S.faults source.old) (S.faults source.new) a.closed a.due) }
 {
     match read_all(alloc, source, FILE_BYTES) {
-        Ok(bytes) => answer_events(alloc, bytes.as_slice()),
-        Err(ReadEnd::TooLong) => refuse(alloc, Status::Refused, TOO_LONG_LINE),
-        Err(ReadEnd::Fault { .. }) => refuse(alloc, Status::ReadFault, FAULT_LINE),
-        Err(ReadEnd::NoMemory) => Err(NoMemory),
+        Ok(bytes) => (answer_events(alloc, bytes.as_slice()), link),
+        Err(ReadEnd::TooLong) => (refuse(alloc, Status::Refused, TOO_LONG_LINE), link),
+        Err(ReadEnd::Fault { .. }) => (refuse(alloc, Status::ReadFault, FAULT_LINE), link),
+        Err(ReadEnd::NoMemory) => (Err(NoMemory), link),
     }
 }
 

@@ -1,5 +1,5 @@
 -- Words spell one command at most.
-use Rattle.std.proofs.Common.{codes, ◌≡◌, ℕ, ◌+◌, ◌*◌, List, [], ◌∷◌, refl, sym, ap, ◌∙◌}
+use Rattle.std.proofs.Common.{◌≡◌, ℕ, ◌+◌, ◌*◌, List, [], ◌∷◌, sym, ap, ◌∙◌}
 use Rattle.sprite_words.specs.declared.command.Command.{Command}
 use Rattle.sprite_words.specs.declared.command.Command.TheVariants as command
 use Rattle.sprite_words.specs.Words.{IsSpelled}
@@ -28,6 +28,7 @@ form_of command.History = 1104
 form_of (command.Load count) = 2108
 form_of command.Check = 1099
 form_of command.Trace = 1116
+form_of command.Frames = 1102
 form_of command.Lend = 1108
 
 form_is : (one : Command) (words : List (List ℕ)) → IsSpelled one words → told_by words ≡ form_of one
@@ -39,6 +40,7 @@ form_is command.History words is = ap told_by is
 form_is (command.Load count) words is = ap told_by is.words_are
 form_is command.Check words is = ap told_by is
 form_is command.Trace words is = ap told_by is
+form_is command.Frames words is = ap told_by is
 form_is command.Lend words is = ap told_by is
 
 -- two commands that the same words spell have one form

@@ -72,6 +72,7 @@ IsSpelled command.History words = words ≡ codes "history" ∷ []
 IsSpelled (command.Load count) words = IsLoad words count
 IsSpelled command.Check words = words ≡ codes "check" ∷ []
 IsSpelled command.Trace words = words ≡ codes "trace" ∷ []
+IsSpelled command.Frames words = words ≡ codes "frames" ∷ []
 IsSpelled command.Lend words = words ≡ codes "lend" ∷ []
 
 -- the command that words spell; none exactly where they spell none

@@ -20,6 +20,8 @@ pub enum Command {
     Check,
     /// `trace`: the same as `run`, with the trace printed.
     Trace,
+    /// `frames`: packets are sent in frames over the link of a cluster file, and what came of each is told.
+    Frames,
     /// `lend`: the events of a daemon that lends idle hosts are answered.
     Lend,
 }
@@ -53,6 +55,9 @@ fn one_word(word: &String) -> Option<Command>
     }
     if is_word(word, "trace") {
         return Some(Command::Trace);
+    }
+    if is_word(word, "frames") {
+        return Some(Command::Frames);
     }
     if is_word(word, "lend") {
         return Some(Command::Lend);

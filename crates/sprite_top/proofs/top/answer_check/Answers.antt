@@ -4,13 +4,14 @@ use Rattle.sprite_bytes.specs.declared.read_end.ReadEnd.{ReadEnd}
 use Rattle.sprite_words.specs.declared.Command.TheVariants as command
 use Rattle.sprite_top.specs.declared.top.Answer.{Answer}
 use Rattle.sprite_top.specs.Judged.{TextCauses}
+use Rattle.frames_text.specs.Texts.{AreTold}
 use Rattle.sprite_top.proofs.TopLaws.{from_fault, from_text}
 use Rattle.sprite_top.proofs.top.answer_check.Goals as goal
 
 pub returns-in-Ok-clause-causes : goal.returns-in-Ok-clause-causes
 returns-in-Ok-clause-causes g c = λ words asks.
-    from_text words _ _ _ _ c.in-Ok.bytes.items c.answer_text.result asks c.in-Ok.ensures.whole c.in-Ok.ensures.end c.in-Ok.ensures.short (subst (λ (came : List ℕ). IfOk c.answer_text.result (λ (a : Answer). TextCauses a.status came a.closed a.due)) c.as_slice.ensures.value c.answer_text.ensures)
+    from_text (AreTold g.L.Link.faults g.L.Link.asked c.args.link c.args.link) words _ _ _ _ c.in-Ok.bytes.items c.answer_text.result asks c.in-Ok.ensures.whole c.in-Ok.ensures.end c.in-Ok.ensures.short (subst (λ (came : List ℕ). IfOk c.answer_text.result (λ (a : Answer). TextCauses a.status came a.closed a.due)) c.as_slice.ensures.value c.answer_text.ensures)
 
 pub returns-in-Err-Fault-clause-causes : goal.returns-in-Err-Fault-clause-causes
 returns-in-Err-Fault-clause-causes g c = λ words asks.
-    from_fault words _ _ _ _ c.in-Err-Fault.field-0-0 c.in-Err-Fault.field-0-1 c.refuse-in-Err-Fault.result (command.Check, asks) (subst (λ (end : ReadEnd). IsByCount (g.S.Source.faults c.args.source.now) (g.S.Source.faults c.read_all.new.source) end) c.in-Err-Fault.field-0-is c.in-Err-Fault.ensures.fault) c.refuse-in-Err-Fault.ensures
+    from_fault (AreTold g.L.Link.faults g.L.Link.asked c.args.link c.args.link) words _ _ _ _ c.in-Err-Fault.field-0-0 c.in-Err-Fault.field-0-1 c.refuse-in-Err-Fault.result (command.Check, asks) (subst (λ (end : ReadEnd). IsByCount (g.S.Source.faults c.args.source.now) (g.S.Source.faults c.read_all.new.source) end) c.in-Err-Fault.field-0-is c.in-Err-Fault.ensures.fault) c.refuse-in-Err-Fault.ensures

@@ -1,4 +1,5 @@
 use Rattle.sprite_words.specs.Words.{spelled}
+use Rattle.frames_text.specs.Texts.{AreTold}
 use Rattle.sprite_top.proofs.CauseLaws.{answer_reached, answer_rose}
 use Rattle.sprite_top.proofs.CompleteLaws.{answer_completes}
 use Rattle.sprite_top.proofs.top.sprite.Goals as goal
@@ -11,7 +12,7 @@ returns-in-Ok-write_all-clause-reached g c = answer_reached g.L.Link.faults g.L.
 
 pub returns-in-Ok-write_all-clause-complete : goal.returns-in-Ok-write_all-clause-complete
 returns-in-Ok-write_all-clause-complete g c =
-    answer_completes (g.K.Sink.faults c.args.sink.now) (g.K.Sink.faults c.write_all.new.sink) (spelled c.args.words.now) (g.S.Source.left c.args.source.now) (g.S.Source.left c.answer_to-answer.new.source) (g.S.Source.faults c.args.source.now) (g.S.Source.faults c.answer_to-answer.new.source) c.answer_to-answer.result.0 c.in-Ok.answer c.in-Ok.is c.answer_to-answer.ensures.causes
+    answer_completes (AreTold g.L.Link.faults g.L.Link.asked c.args.link c.answer_to-answer.result.1) (g.K.Sink.faults c.args.sink.now) (g.K.Sink.faults c.write_all.new.sink) (spelled c.args.words.now) (g.S.Source.left c.args.source.now) (g.S.Source.left c.answer_to-answer.new.source) (g.S.Source.faults c.args.source.now) (g.S.Source.faults c.answer_to-answer.new.source) c.answer_to-answer.result.0 c.in-Ok.answer c.in-Ok.is c.answer_to-answer.ensures.causes
 
 pub returns-clause-rose : goal.returns-clause-rose
 returns-clause-rose g c = answer_rose g.L.Link.faults g.L.Link.asked c.args.link c.answer_to-answer.result.1 c.answer_to-answer.result.0 c.in-Ok.answer c.in-Ok.is c.answer_to-answer.ensures.over
