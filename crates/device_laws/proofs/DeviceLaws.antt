@@ -2,14 +2,12 @@
 use Rattle.std.proofs.Common.{◌≡◌, ◌≢◌, ◌≤◌, ◌+◌, ◌==◌, ℕ, zero, suc, Bool, true, false, ◌&&◌, ◌||◌, cond, not, nat_le, nat_lt, List, [], ◌∷◌, ◌++◌, length, Option, Some, None, option_map, refl, sym, ap, ap₂, subst, ◌∙◌, arith}
 use Rattle.std.specs.List.{list_any}
 use Rattle.std.specs.Option.{option_and_then, is_some}
-use Rattle.std.proofs.lemmas.Bool.{cases_Bool, true≢false, eq-eqb, eqb-true, ne_eqb, leb-true}
-use Rattle.byteorder.specs.Endian.{little_bytes}
+use Rattle.std.proofs.lemmas.Bool.{true≢false, eq-eqb, eqb-true, ne_eqb, leb-true}
 use Rattle.sprite_ids.specs.AskKind.{ask_number}
 use Rattle.sprite_ids.specs.declared.AskKind.{AskKind}
-use Rattle.sprite_ids.specs.declared.AskKind.TheVariants as kinds
 use Rattle.sprite_ids.specs.declared.Errno.{Errno}
 use Rattle.sprite_ids.specs.declared.Errno.TheVariants as errno
-use Rattle.process_machine.specs.Runs.{at_next_call, call_of_next}
+use Rattle.process_machine.specs.Runs.{call_of_next}
 use Rattle.process_machine.specs.declared.call.Call.{Call}
 use Rattle.process_machine.specs.declared.call.Call.TheVariants as call
 use Rattle.process_machine.specs.declared.call.Reply.{Reply}
@@ -22,29 +20,24 @@ use Rattle.pseudo_device.specs.Device.{Asks, IsTaken, first_refusal, is_put_refu
 use Rattle.unix_calls.specs.declared.Description.{Description}
 use Rattle.unix_calls.specs.declared.Entry.{Entry}
 use Rattle.unix_calls.specs.declared.entry.Part.TheVariants as part
-use Rattle.unix_calls.specs.declared.state.Answer.{Answer}
 use Rattle.unix_calls.specs.declared.state.Ask.{Ask as UnixAsk}
 use Rattle.unix_calls.specs.declared.state.Device.{Device}
-use Rattle.unix_calls.specs.declared.state.Object.{Object}
-use Rattle.unix_calls.specs.declared.state.Object.TheVariants.{OfDevice, OfMaster}
 use Rattle.unix_calls.specs.declared.state.Process.{Process}
-use Rattle.unix_calls.specs.declared.state.Stream.{Stream}
-use Rattle.unix_calls.specs.State.{Unix, device_at, holds_master_of, is_alive, lives, process_at, put_process, stream_of, with_device, with_process}
-use Rattle.unix_calls.specs.Answers.{Outcome, Answered, GoesTo, Waits, is_done, nothing, program_at, refuses, replied, replies, value}
+use Rattle.unix_calls.specs.State.{Unix, device_at, holds_master_of, is_alive, process_at, put_process, stream_of, with_device, with_process}
+use Rattle.unix_calls.specs.Answers.{Outcome, Answered, GoesTo, Waits, is_done, nothing, program_at, refuses, replied, replies}
 use Rattle.unix_calls.specs.StreamCalls.{at_stream, read_object, with_found, write_object}
-use Rattle.unix_calls.specs.DeviceCalls.{answer_for, answer_of, asked_bytes, at_master, device_of, errno_of, get_from, ioctl_object, kind_of, left, most_of, put_to, puts, reply_of, taken, takes, takes_first, with_device_of, without_answer}
-use Rattle.unix_calls.specs.After.{after, after_ask, after_done, after_living, after_of, after_part, after_whole, answer_due, asked, at_image, at_program, blocked, counted, done_at, done_with, fetched, is_wait, next_is, outcome, waits_at, waits_in, waits_on}
-use Rattle.unix_calls.specs.Same.{same_call, same_reply}
+use Rattle.unix_calls.specs.DeviceCalls.{answer_for, answer_of, asked_bytes, at_master, device_of, get_from, ioctl_object, kind_of, left, most_of, put_to, puts, reply_of, taken, takes_first, with_device_of, without_answer}
+use Rattle.unix_calls.specs.After.{after, after_ask, after_living, after_of, after_part, answer_due, asked, at_image, at_program, counted, done_at, done_with, fetched, is_wait, next_is, outcome, waits_at, waits_in, waits_on}
 use Rattle.unix_calls.proofs.SameLaws.{call_same, reply_same}
-use Rattle.unix_calls.proofs.ProcessLaws.{found_pid, put_there}
-use Rattle.home_laws.specs.Calls.{Calls, IsNextCall, call_entry}
+use Rattle.unix_calls.proofs.ProcessLaws.{found_pid}
+use Rattle.home_laws.specs.Calls.{Calls, call_entry}
 use Rattle.home_laws.proofs.EntryLaws.{answered, called_by, called_in, opened}
 use Rattle.device_laws.specs.Devices.{AreAsks, AreInHand, AsksFor, Reads, Writes, Commands, CanAsk, ByRead, ByWrite, ByCommand, Goes, IsAsk, IsInside, Masters, TellsTheSame, ask_entry, done_entry}
-use Rattle.device_laws.specs.Laws.{AsksAsOne, Ends, EndsAsOne, Gets, GetsAsOne, IsNumberOf, Puts, PutsAsOne}
+use Rattle.device_laws.specs.Laws.{AsksAsOne, EndsAsOne, GetsAsOne, IsNumberOf, PutsAsOne}
 
 -- ---- devices
 
-found_place : (ds : List Device) (place : ℕ) (d : Device) → device_at ds place ≡ Some d → d.place ≡ place
+pub found_place : (ds : List Device) (place : ℕ) (d : Device) → device_at ds place ≡ Some d → d.place ≡ place
 found_place [] place d h = absurd (cc)
 found_place (x ∷ ds) place d h = by (x.place == place) refl h (found_place ds place d)
   where
@@ -52,7 +45,7 @@ found_place (x ∷ ds) place d h = by (x.place == place) refl h (found_place ds 
     by true e h rest = let same : x ≡ d = cc in ap (λ (k : Device). k.place) (sym same) ∙ eqb-true x.place place e
     by false e h rest = rest h
 
-put_device : (ds : List Device) (place : ℕ) (d new : Device) → device_at ds place ≡ Some d → new.place ≡ place → device_at (with_device new ds) place ≡ Some new
+pub put_device : (ds : List Device) (place : ℕ) (d new : Device) → device_at ds place ≡ Some d → new.place ≡ place → device_at (with_device new ds) place ≡ Some new
 put_device [] place d new h same = absurd (cc)
 put_device (x ∷ ds) place d new h same = by (x.place == place) refl h (put_device ds place d new)
   where
@@ -64,7 +57,7 @@ put_device (x ∷ ds) place d new h same = by (x.place == place) refl h (put_dev
         ap (λ b. device_at (cond b (new ∷ ds) (x ∷ with_device new ds)) place) (ap (λ n. x.place == n) same ∙ e)
         ∙ ap (λ b. cond b (Some x) (device_at (with_device new ds) place)) e ∙ rest h same
 
-other_device : (ds : List Device) (new : Device) (other : ℕ) → other ≢ new.place → device_at (with_device new ds) other ≡ device_at ds other
+pub other_device : (ds : List Device) (new : Device) (other : ℕ) → other ≢ new.place → device_at (with_device new ds) other ≡ device_at ds other
 other_device [] new other apart = refl
 other_device (x ∷ ds) new other apart = by (x.place == new.place) refl (other_device ds new other apart)
   where
@@ -374,7 +367,7 @@ puts_as_one c u pid number fd bytes error code place device asks calls numbered 
 inside_by : {c : Description} {u : Unix} {pid number : ℕ} {called : Call} {place : ℕ} → IsInside c u pid number called place → Process
 inside_by inside = record inside.process { image = inside.next.image }
 
-any_put : (test : Process → Bool) (q : Process) (ps : List Process) → test q ≡ false → list_any test ps ≡ false → list_any test (put_process q ps) ≡ false
+pub any_put : (test : Process → Bool) (q : Process) (ps : List Process) → test q ≡ false → list_any test ps ≡ false → list_any test (put_process q ps) ≡ false
 any_put test q [] h k = ap (λ b. b || false) h
 any_put test q (x ∷ ps) h k = by (q.pid == x.pid) (nat_lt q.pid x.pid) (any_put test q ps h)
   where
@@ -391,7 +384,7 @@ any_put test q (x ∷ ps) h k = by (q.pid == x.pid) (nat_lt q.pid x.pid) (any_pu
     by false true on = ap₂ (λ a b. a || b) h k
     by false false on = ap₂ (λ a b. a || b) (first (test x) (list_any test ps) k) (on (rest (test x) (list_any test ps) k))
 
-none_of : (test : Process → Bool) (ps : List Process) (pid : ℕ) (p : Process) → list_any test ps ≡ false → process_at ps pid ≡ Some p → test p ≡ false
+pub none_of : (test : Process → Bool) (ps : List Process) (pid : ℕ) (p : Process) → list_any test ps ≡ false → process_at ps pid ≡ Some p → test p ≡ false
 none_of test [] pid p h there = absurd (cc)
 none_of test (x ∷ ps) pid p h there = by (x.pid == pid) there (none_of test ps pid p)
   where
@@ -407,7 +400,7 @@ none_of test (x ∷ ps) pid p h there = by (x.pid == pid) there (none_of test ps
     by true there on = let same : x ≡ p = cc in subst (λ (k : Process). test k ≡ false) same (first (test x) (list_any test ps) h)
     by false there on = on (rest (test x) (list_any test ps) h) there
 
-done_opened : (c : Description) (u : Unix) (pid number : ℕ) (called : Call) (place : ℕ) (device : Device) (reply : Reply) (inside : IsInside c u pid number called place) → device_at u.devices place ≡ Some device
+pub done_opened : (c : Description) (u : Unix) (pid number : ℕ) (called : Call) (place : ℕ) (device : Device) (reply : Reply) (inside : IsInside c u pid number called place) → device_at u.devices place ≡ Some device
     → answer_due (with_process (record inside.process { image = inside.next.image }) u) (record inside.process { image = inside.next.image }) device (answer_for inside.process.pid device.answers) ≡ Some reply
     → after c u (done_entry pid number called reply) ≡ Some (counted (with_process (replied c (record inside.process { image = inside.next.image }) reply) (fetched (with_process (record inside.process { image = inside.next.image }) u) (record inside.process { image = inside.next.image }) device)))
 done_opened c u pid number called place device reply inside there due =

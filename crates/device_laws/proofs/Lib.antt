@@ -1,1 +1,3 @@
 pub mod DeviceLaws
+pub mod GoneLaws
+pub mod RunLaws

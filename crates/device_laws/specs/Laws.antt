@@ -1,5 +1,5 @@
 -- What a device's kernel does with asks is what the one-kernel Unix does.
-use Rattle.std.specs.Prelude.{◌≡◌, ℕ, zero, suc, Bool, true, false, List, [], ◌∷◌, ◌++◌, Option, Some, None, length}
+use Rattle.std.specs.Prelude.{◌≡◌, ℕ, zero, suc, true, false, List, [], ◌∷◌, ◌++◌, Option, Some, None}
 use Rattle.sprite_ids.specs.declared.Errno.{Errno}
 use Rattle.sprite_ids.specs.declared.Errno.TheVariants as errno
 use Rattle.process_machine.specs.declared.call.Call.{Call}
@@ -10,7 +10,6 @@ use Rattle.pseudo_device.specs.declared.Ask.{Ask}
 use Rattle.pseudo_device.specs.declared.TakeEnd.TheVariants.{Busy, Empty, Long}
 use Rattle.pseudo_device.specs.Device.{Asks, IsTaken, is_put_refused, reply_of, take_refusal, takes, told}
 use Rattle.unix_calls.specs.declared.Description.{Description}
-use Rattle.unix_calls.specs.declared.state.Answer.{Answer}
 use Rattle.unix_calls.specs.declared.state.Device.{Device}
 use Rattle.unix_calls.specs.State.{Unix, device_at, is_alive}
 use Rattle.unix_calls.specs.Answers.{nothing}

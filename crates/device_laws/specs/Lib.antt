@@ -1,2 +1,4 @@
 pub mod Devices
+pub mod Gone
 pub mod Laws
+pub mod Runs

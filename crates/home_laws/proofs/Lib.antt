@@ -4,6 +4,8 @@ pub mod HomeCallLaws
 pub mod HomeLaws
 pub mod KillLaws
 pub mod LeadLaws
+pub mod RequestLaws
+pub mod RunLaws
 pub mod StartLaws
 pub mod TellLaws
 pub mod WaitCallLaws

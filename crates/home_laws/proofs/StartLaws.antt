@@ -106,7 +106,7 @@ begins_all programs table ps (line ∷ lines) few h =
     by (Some program) = let more = length_put (new_process (next_pid ps line.host) (fresh_machine program line.arg)) ps in omega (arith, few, more)
 
 -- the home of a table stays
-home_stays : (programs : List ProgramLine) (table : Table) (lines : List StartLine) → (with_lines programs lines table).home ≡ table.home
+pub home_stays : (programs : List ProgramLine) (table : Table) (lines : List StartLine) → (with_lines programs lines table).home ≡ table.home
 home_stays programs table [] = refl
 home_stays programs table (line ∷ lines) = home_stays programs (with_line programs line table) lines ∙ by (program_at programs line.program) (line.host == table.home)
   where

@@ -3,5 +3,7 @@ pub mod Calls
 pub mod Deeds
 pub mod Homes
 pub mod Laws
+pub mod Requests
+pub mod Runs
 pub mod Start
 pub mod Tells

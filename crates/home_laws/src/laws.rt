@@ -1,4 +1,6 @@
 ghost use Rattle.home_laws.specs.Laws.{DeathsAsOne, HomesAnswerAsOne, KillsAsOne, WaitsAreBlocked};
+ghost use Rattle.home_laws.specs.Requests.{RequestsAreServed, RequestsGoOnFitting};
+ghost use Rattle.home_laws.specs.Runs.{HomesRunAsOne, HomesRunFromTheStart};
 ghost use Rattle.home_laws.specs.Start.{StartsAsOne, TablesGoOn};
 ghost use Rattle.home_laws.specs.Tells.{TablesTell};
 
@@ -39,4 +41,28 @@ pub fn tables_go_on()
 /// for alike, has the same kills pending, and gives the next process the same number (this project).
 pub fn tables_tell()
     ensures { TablesTell }
+{}
+
+/// A law: a request that fits a home (the next call of one of its processes, a `kill` of one, or the death of one that a kill is pending
+/// for) still fits behind each entry of any other process, however long it is on its way (this project).
+pub fn requests_go_on_fitting()
+    ensures { RequestsGoOnFitting }
+{}
+
+/// A law: a home serves a request that fits as the one-kernel Unix does: it answers it, or parks a `wait` that blocks there too (this
+/// project).
+pub fn requests_are_served()
+    ensures { RequestsAreServed }
+{}
+
+/// A law: behind a history after which each home's table tells the same as the one-kernel Unix, whatever calls, kills and deaths the
+/// homes serve, in whatever order, and whatever else enters, all of it is a history of the one-kernel Unix, and each table still tells
+/// the same (this project).
+pub fn homes_run_as_one()
+    ensures { HomesRunAsOne }
+{}
+
+/// A law: and so it is from the start on, where at most 200 processes start (this project).
+pub fn homes_run_from_the_start()
+    ensures { HomesRunFromTheStart }
 {}

@@ -47,7 +47,7 @@ pub record Ending (path : Parts) : Type 0 where
   pub last : List ℕ
   pub whole : path ≡ front ++ last ∷ []
 
-ends : (part : List ℕ) (path : Parts) → Ending (part ∷ path)
+pub ends : (part : List ℕ) (path : Parts) → Ending (part ∷ path)
 ends part [] = record { front = []; last = part; whole = refl }
 ends part (next ∷ path) = let rest = ends next path in record { front = part ∷ rest.front; last = rest.last; whole = ap (λ (l : Parts). part ∷ l) rest.whole }
 
@@ -76,7 +76,7 @@ still_there n nodes (x ∷ q) node none h =
       | inr apart ↦ unix_look n nodes (x ∷ q) none ∙ ap (λ b. cond b (Some n.node) (looked_up nodes (x ∷ q))) apart ∙ h
     ]
 
-named_well : (nodes : List NamedNode) (front : Parts) (last : List ℕ) (node : UnixNode) → node_at nodes (front ++ last ∷ []) ≡ None → node_at nodes front ≡ Some Directory → AreNamedWell nodes → AreNamedWell (with_name (record { path = front ++ last ∷ []; node = node }) nodes)
+pub named_well : (nodes : List NamedNode) (front : Parts) (last : List ℕ) (node : UnixNode) → node_at nodes (front ++ last ∷ []) ≡ None → node_at nodes front ≡ Some Directory → AreNamedWell nodes → AreNamedWell (with_name (record { path = front ++ last ∷ []; node = node }) nodes)
 named_well nodes front last node none there h =
     let path = front ++ last ∷ [] in
     let n : NamedNode = record { path = path; node = node } in

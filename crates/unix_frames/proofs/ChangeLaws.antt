@@ -73,6 +73,16 @@ pub record Kills (p r : Process) (itself : Bool) : Type 0 where
   pub descriptors : r.descriptors ≡ p.descriptors
   pub killed : itself ≡ false → r.killed ≡ p.killed
 
+-- a child that is born: it lives, and has its parent's descriptors and directory
+pub record IsFresh (p child : Process) : Type 0 where
+  pub descriptors : child.descriptors ≡ p.descriptors
+  pub cwd : child.cwd ≡ p.cwd
+  pub ending : child.ending ≡ None
+  pub asking : child.asking ≡ None
+  pub killed : child.killed ≡ false
+  pub waited : child.waited ≡ false
+  pub calls : child.calls ≡ 0
+
 -- what an answered call does, whose caller is p
 pub data Change (u : Unix) (p : Process) (called : Call) (later : Unix) : Type 0 where
   -- the caller alone changes
@@ -82,7 +92,7 @@ pub data Change (u : Unix) (p : Process) (called : Call) (later : Unix) : Type 0
   EndedSo : (how : Ending) → is_last_call called ≡ true → later ≡ with_process (ended p how) u → Change u p called later
   -- a count of ticks; a child that is born; one that is waited for; one that a kill is pending for
   Ticked : (count : ℕ) (r : Process) → called ≡ call.Tick → Still p r → later ≡ with_process r (record u { ticks = slice_set u.ticks (home_of p.pid - 1) count }) → Change u p called later
-  Born : (r : Process) → called ≡ call.Fork → births u.processes (home_of p.pid) < 200 → Still p r → (child : Process) → child.pid ≡ next_pid u.processes (home_of p.pid) → child.parent ≡ Some p.pid → child.descriptors ≡ p.descriptors → later ≡ with_process r (with_process child u) → Change u p called later
+  Born : (r : Process) → called ≡ call.Fork → births u.processes (home_of p.pid) < 200 → Still p r → (child : Process) → child.pid ≡ next_pid u.processes (home_of p.pid) → child.parent ≡ Some p.pid → IsFresh p child → later ≡ with_process r (with_process child u) → Change u p called later
   WaitedFor : (first r : Process) → called ≡ call.Wait → IsAmong first u.processes → Still p r → later ≡ with_process r (with_process (record first { waited = true }) u) → Change u p called later
   KilledSo : (target r : Process) → called ≡ call.Kill target.pid → IsAmong target u.processes → Kills p r (target.pid == p.pid) → later ≡ with_process r (with_kill target u) → Change u p called later
   -- names
@@ -162,7 +172,7 @@ made_fork c u p =
     made_if u p call.Fork (nat_le 200 (births u.processes (home_of p.pid))) _ _ (λ e. made_refuses c u p call.Fork errno.TooMany)
     (λ e. record {
       does = Born (replied c p (value (next_pid u.processes (home_of p.pid)))) refl (omega (arith, leb-false 200 (births u.processes (home_of p.pid)) e)) (still_replied c p (value (next_pid u.processes (home_of p.pid))))
-          (child_of c p (next_pid u.processes (home_of p.pid))) refl refl refl refl;
+          (child_of c p (next_pid u.processes (home_of p.pid))) refl refl (record { descriptors = refl; cwd = refl; ending = refl; asking = refl; killed = refl; waited = refl; calls = refl }) refl;
     })
 
 made_exec : (c : Description) (u : Unix) (p : Process) (called : Call) (arg : ℕ) (found : Option Program) → Makes u p called (exec_of c u p found arg)

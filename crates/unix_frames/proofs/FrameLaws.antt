@@ -208,6 +208,7 @@ pub record KeptOther (called : Call) (v : Unix) (other : Process) : Type 0 where
   pub there : process_at v.processes other.pid ≡ Some after
   pub whole : after ≡ record other { killed = after.killed; waited = after.waited }
   pub killed : kills other.pid called ≡ false → after.killed ≡ other.killed
+  pub pending : other.killed ≡ true → after.killed ≡ true
   pub waited : is_wait_call called ≡ false → after.waited ≡ other.waited
 
 -- behind the caller
@@ -216,7 +217,7 @@ past_caller w later r k e apart = ap (λ (x : Unix). process_at x.processes k) e
 
 kept_same : (called : Call) (w later : Unix) (r other : Process) → later ≡ with_process r w → (r.pid ≡ other.pid → ⊥) → process_at w.processes other.pid ≡ Some other → KeptOther called later other
 kept_same called w later r other e apart there =
-    record { after = other; there = past_caller w later r other.pid e apart ∙ there; whole = refl; killed = λ h. refl; waited = λ h. refl }
+    record { after = other; there = past_caller w later r other.pid e apart ∙ there; whole = refl; killed = λ h. refl; pending = λ h. h; waited = λ h. refl }
 
 -- one that is waited for, or another one
 kept_waited : (called : Call) (u later : Unix) (first r other : Process) → called ≡ call.Wait → Numbered u.processes → IsAmong first u.processes → later ≡ with_process r (with_process (record first { waited = true }) u) → (r.pid ≡ other.pid → ⊥) → process_at u.processes other.pid ≡ Some other → KeptOther called later other
@@ -232,6 +233,7 @@ kept_waited called u later first r other is numbered among e apart there =
                 ∙ ap (process_at (put_process (record first { waited = true }) u.processes)) (sym number) ∙ put_there (record first { waited = true }) u.processes;
             whole = ap (λ (p : Process). record p { waited = true }) same ∙ ap (λ (k : Bool). record other { killed = k; waited = true }) (sym (ap (λ (p : Process). p.killed) same));
             killed = λ h. ap (λ (p : Process). p.killed) same;
+            pending = λ h. ap (λ (p : Process). p.killed) same ∙ h;
             waited = λ h. absurd (true≢false (sym (ap is_wait_call is) ∙ h));
           }
       | inr off ↦
@@ -253,6 +255,7 @@ kept_killed called u later target r other is numbered among e apart there =
                 ∙ ap (process_at (put_process (record target { killed = true }) u.processes)) (sym number) ∙ put_there (record target { killed = true }) u.processes;
             whole = ap (λ (p : Process). record p { killed = true }) same ∙ ap (λ (k : Bool). record other { killed = true; waited = k }) (sym (ap (λ (p : Process). p.waited) same));
             killed = λ h. absurd (true≢false (sym (ap (kills other.pid) is ∙ here) ∙ h));
+            pending = λ h. refl;
             waited = λ h. ap (λ (p : Process). p.waited) same;
           }
       | inr off ↦
@@ -390,6 +393,7 @@ call_leaves u later e q called numbered at is whole change =
             there = o.there;
             whole = o.whole;
             killed = λ h. o.killed (of_call (kills other.pid) e.call called is h);
+            pending = o.pending;
             waited = λ h. o.waited (of_call is_wait_call e.call called is h);
           };
     }
@@ -426,6 +430,7 @@ own_leaves u w later e before r there pid parent waited killed ending nodes file
             there = past_caller w later r other.pid is (λ same. apart (sym same ∙ pid ∙ number)) ∙ rest other.pid (λ same. apart (sym same)) ∙ other_is;
             whole = refl;
             killed = λ h. refl;
+            pending = λ h. h;
             waited = λ h. refl;
           };
     }
@@ -450,7 +455,10 @@ pub numbered_of : (c : Description) (journal : List Entry) (u : Unix) → length
 numbered_of c journal u few is =
     kept c (λ (w : Unix). Numbered w.processes) (λ (w x : Unix) (e : Entry) (so : after c w e ≡ Some x) (h : Numbered w.processes). numbered_after c w x e so h) journal u (boot_numbered c few) is
 
-pub entries_leave : EntriesLeave
-entries_leave c journal u v e few was is =
+pub leaves_by : (c : Description) (u v : Unix) (e : Entry) → Numbered u.processes → after c u e ≡ Some v → Leaves e u v
+leaves_by c u v e numbered is =
     let entry = entered c u v e is in
-    subst (Leaves e u) (sym entry.whole) (step_leaves c u entry.later e (numbered_of c journal u few was) entry.step)
+    subst (Leaves e u) (sym entry.whole) (step_leaves c u entry.later e numbered entry.step)
+
+pub entries_leave : EntriesLeave
+entries_leave c journal u v e few was is = leaves_by c u v e (numbered_of c journal u few was) is

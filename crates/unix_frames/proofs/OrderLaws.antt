@@ -41,7 +41,7 @@ sound_by : (p r : Process) → r.pid ≡ p.pid → r.parent ≡ p.parent → IsS
 sound_by p r pid parent h =
     (subst (λ n. 1 ≤ birth_of n) (sym pid) h.0, subst (λ n. IsOfHome n r.parent) (sym pid) (subst (IsOfHome p.pid) (sym parent) h.1))
 
-next_home : (home count : ℕ) → count < 200 → home_of (1000 * home + (1 + count)) ≡ home
+pub next_home : (home count : ℕ) → count < 200 → home_of (1000 * home + (1 + count)) ≡ home
 next_home home count few =
     let parts : 1000 * home + (1 + count) ≡ home * 1000 + (1 + count) = omega arith in
     ap home_of parts ∙ div-mul-add home 1000 (1 + count) (omega (arith, few))
@@ -121,7 +121,7 @@ sound_after c u v e is h =
 
 -- ---- the start
 
-length_put : (r : Process) (ps : List Process) → length (put_process r ps) ≤ 1 + length ps
+pub length_put : (r : Process) (ps : List Process) → length (put_process r ps) ≤ 1 + length ps
 length_put r [] = omega arith
 length_put r (q ∷ qs) = by (r.pid == q.pid) (Rattle.std.specs.Prelude.nat_lt r.pid q.pid) (length_put r qs)
   where

@@ -86,12 +86,13 @@ is_of_operation part.Death = false
 
 -- ---- what an entry leaves
 
--- another process is as it was, but that a kill of it may be pending and that it may have been waited for
+-- another process is as it was, but that a kill of it may be pending and that it may have been waited for; a kill that is pending stays so
 pub record KeepsOther (e : Entry) (v : Unix) (other : Process) : Type 0 where
   pub after : Process
   pub there : process_at v.processes other.pid ≡ Some after
   pub whole : after ≡ record other { killed = after.killed; waited = after.waited }
   pub killed : may (kills other.pid) e.call ≡ false → after.killed ≡ other.killed
+  pub pending : other.killed ≡ true → after.killed ≡ true
   pub waited : may is_wait_call e.call ≡ false → after.waited ≡ other.waited
 
 -- whose entry it is keeps its number, its parent and whether it was waited for; unless it kills itself or ends, whether a kill of it

@@ -1,0 +1,16 @@
+pub mod OrderLaws
+pub mod WithinLaws
+pub mod ListingLaws
+pub mod ListLaws
+pub mod EndsLaws
+pub mod RootLaws
+pub mod AnswerLaws
+pub mod ApartLaws
+pub mod RenameAnswerLaws
+pub mod AscendLaws
+pub mod BesideLaws
+pub mod DoneLaws
+pub mod RunLaws
+pub mod LookLaws
+pub mod StartLaws
+pub mod FileLaws

@@ -1,0 +1,5 @@
+pub mod Examples
+pub mod Listings
+pub mod Opening
+pub mod Requests
+pub mod Runs

@@ -1,0 +1,11 @@
+pub mod BootLaws
+pub mod FillLaws
+pub mod GoLaws
+pub mod GoOnLaws
+pub mod HangLaws
+pub mod HeldLaws
+pub mod KeptLaws
+pub mod NameLaws
+pub mod OpenLaws
+pub mod SortLaws
+pub mod TieLaws

@@ -1,0 +1,6 @@
+pub mod Boots
+pub mod Deeds
+pub mod GoOn
+pub mod Laws
+pub mod Opens
+pub mod Served

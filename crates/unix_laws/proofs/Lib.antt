@@ -1,0 +1,13 @@
+pub mod AnswerLaws
+pub mod BootLaws
+pub mod ClientLaws
+pub mod DeviceLaws
+pub mod EndLaws
+pub mod EntryLaws
+pub mod FoundLaws
+pub mod NameLaws
+pub mod OnceLaws
+pub mod OperationLaws
+pub mod ReplyLaws
+pub mod SpreadLaws
+pub mod StreamLaws
