@@ -1,0 +1,10 @@
+pub mod RecordLaws
+pub mod LossLaws
+pub mod BareLaws
+pub mod ExpiryLaws
+pub mod CreditLaws
+pub mod PaidLaws
+pub mod FaultLaws
+pub mod EighthLaws
+pub mod DeliverLaws
+pub mod WorthLaws

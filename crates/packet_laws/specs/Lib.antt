@@ -1,0 +1,4 @@
+pub mod Deliveries
+pub mod Expiries
+pub mod Faults
+pub mod Worth
