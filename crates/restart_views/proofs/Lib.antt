@@ -1,0 +1,17 @@
+pub mod ViewLaws
+pub mod BareLaws
+pub mod CalmLaws
+pub mod GreetLaws
+pub mod ReopenLaws
+pub mod ServerMoveLaws
+pub mod SettingLaws
+pub mod ColdLaws
+pub mod CoolLaws
+pub mod RestartLaws
+pub mod StoodLaws
+pub mod AnsweredLaws
+pub mod DueLaws
+pub mod ClaimLaws
+pub mod FreshLaws
+pub mod RisenLaws
+pub mod RunLaws
