@@ -1,9 +1,12 @@
 """Figures of runs of clusters: figures.py PROGRAM MAKE [DESIGN..]; `run` beside it says what is measured."""
+import os
 import re
-import resource
 import subprocess
 import sys
+import tempfile
 import time
+
+from talking import talking
 
 BLOCK = 4096
 
@@ -76,17 +79,26 @@ def cluster(text, clients, processes, cache, files=(), pages=1):
     return "".join(parts).encode()
 
 
-def timed(words, file):
+def timed(words, file, status=0):
     """How long a run takes, and what it prints."""
     start = time.time()
     ran = subprocess.run(words, input=file, capture_output=True)
     took = time.time() - start
-    assert ran.returncode == 0, (words, ran.returncode, ran.stdout[:200])
+    assert ran.returncode == status, (words, ran.returncode, ran.stdout[:200])
     return took, ran.stdout
 
 
-def best(words, file, times=5):
-    return min(timed(words, file)[0] for _ in range(times))
+def best(words, file, times=5, status=0):
+    return min(timed(words, file, status)[0] for _ in range(times))
+
+
+def most_memory(words, file):
+    """How many kilobytes a run takes at most."""
+    with tempfile.TemporaryFile() as held:
+        held.write(file)
+        held.seek(0)
+        pid = subprocess.Popen(words, stdin=held, stdout=subprocess.DEVNULL).pid
+        return os.wait4(pid, 0)[2].ru_maxrss
 
 
 def printed_length(text):
@@ -106,6 +118,28 @@ def crossed(trace, server):
         elif words[1] == b"Enter" and int(words[0]) == server and words[5] in (b"read", b"write") and b" -> ok " in line:
             count += printed_length(line.split(b'"')[1] if words[5] == b"write" else line.rsplit(b'"', 2)[1])
     return count
+
+
+def against_design(program, design):
+    """Two clusters that talk until their budget is spent, by a seed, against the design."""
+    for clients, each in ((4, 2), (8, 8)):
+        file = talking(clients, each, 100_000).encode()
+        took = best([program, "run", "--seed", "1"], file, 3, 4)
+        said = "%d talking processes on %d clients by a seed: %.2f microseconds a unit" % (clients * each, clients, 10 * took)
+        if design:
+            other = timed(list(design), file, 4)[0]
+            said += "; the design %.1f s, %.0f times as long" % (other, other / took)
+        print(said)
+
+
+def large(program):
+    """Sixteen kernels with 64 programs, by caches, and a unit of a long run against one of a short run."""
+    each = {}
+    for budget, cache in ((100_000, 64), (4_000_000, 0), (4_000_000, 64), (4_000_000, 4096)):
+        took = best([program, "run", "--seed", "1"], talking(8, 8, budget, cache, 8).encode(), 1, 4)
+        each[budget, cache] = took / budget
+        print("sixteen kernels, 64 programs, %d units, caches of %d blocks: %.2f microseconds a unit" % (budget, cache, 1e6 * took / budget))
+    print("a unit of 4,000,000 takes %.2f times as long as one of 100,000" % (each[4_000_000, 64] / each[100_000, 64]))
 
 
 def units_of(trace):
@@ -133,10 +167,10 @@ def main(program, make, *design):
         each.append(best(run, file) / records)
         print("%d processes: %d records, %.2f microseconds a record" % (processes, records, 1e6 * each[-1]))
     print("a record with 64 processes takes %.2f times as long as with 8" % (each[1] / each[0]))
-    before = resource.getrusage(resource.RUSAGE_CHILDREN).ru_maxrss
-    timed(run, file)
-    most = resource.getrusage(resource.RUSAGE_CHILDREN).ru_maxrss
-    print("memory: at most %d KB in any of these runs, %.0f bytes a record of the last one" % (max(before, most), 1024 * most / records))
+    least, most = (most_memory([program, "run", "--seed", "1"], talking(8, 8, budget).encode()) for budget in (100_000, 1_000_000))
+    print("memory: %d KB for 100,000 units, %d KB for 1,000,000, %.0f bytes a unit" % (least, most, 1024 * (most - least) / 900_000))
+    against_design(program, design)
+    large(program)
 
 
 if __name__ == "__main__":
