@@ -1,3 +1,4 @@
+pub mod CountLaws
 pub mod DropLaws
 pub mod EachLaws
 pub mod HeldLaws
@@ -6,6 +7,7 @@ pub mod KeptLaws
 pub mod KeyLaws
 pub mod LookupLaws
 pub mod OrderLaws
+pub mod RangeLaws
 pub mod ReachLaws
 pub mod SoundLaws
 pub mod StateLaws

@@ -1,76 +1,38 @@
-ghost use Rattle.std.specs.Prelude.{◌≡◌, ◌≤◌, ◌<◌, ◌+◌, ◌*◌, ◌∷◌, ◌++◌, IfOk, OnOk, OnErr, length, option_copied, false};
+ghost use Rattle.std.specs.Prelude.{◌≡◌, ◌≤◌, ◌+◌, ◌*◌, ◌++◌, IfOk, OnOk};
 ghost use Rattle.std.specs.List.{AllByRecursion};
-ghost use Rattle.lru.specs.LruCache.{lru_cache, promoted};
-ghost use Rattle.block_cache.specs.Blocks.{is_at, block_at, written_there, is_held, dirty_at, bytes_at, without, held_under, dirty_under, flushed, cleaned, cleaned_under, missing_of, used, parts, written};
-ghost use Rattle.block_cache.specs.Held.{IsReached, clean_block};
+ghost use Rattle.lru.specs.LruCache.{lru_cache};
+ghost use Rattle.block_cache.specs.Blocks.{is_held, dirty_at, bytes_at, without, held_under, dirty_under, flushed, cleaned_under, missing_of, used, parts, written};
+ghost use Rattle.block_cache.specs.Held.{IsReached};
 ghost use Rattle.block_cache.specs.Ranges.{file_blocks, part, cut};
 ghost use Rattle.block_cache.specs.Reach.{IsUnder};
 
-use crate::block::Block;
-use crate::block_bytes::BlockBytes;
+use crate::held_blocks::HeldBlocks;
 use crate::key::BlockKey;
-use crate::parts::{cut, part, piece, start_of};
+use crate::parts::{cut, part};
 use crate::span::Span;
-use lru::LruCache;
 use sprite_ids::{BlockNo, Bytes, FileId, Items, NoMemory};
 use std::alloc::Global;
 
-// The block, where it is held.
-pub(crate) fn find<'a>(
-    blocks: &'a LruCache<BlockKey, Block>,
-    file: &FileId,
-    block: BlockNo,
-) -> Option<&'a Block>
-    ensures { option_copied result ≡ block_at blocks.now.entries file.now block.0 }
-{
-    blocks.peek(&BlockKey::of(file, block))
-}
-
 // Whether the block is held.
-pub(crate) fn is_held(blocks: &LruCache<BlockKey, Block>, file: &FileId, block: BlockNo) -> bool
+pub(crate) fn is_held(blocks: &HeldBlocks, file: &FileId, block: BlockNo) -> bool
     ensures { result ≡ is_held blocks.now.entries file.now block.0 }
 {
-    find(blocks, file, block).is_some()
+    blocks.find(file, block).is_some()
 }
 
 // The block's dirty number, where it is held dirty.
-pub(crate) fn dirty_at(
-    blocks: &LruCache<BlockKey, Block>,
-    file: &FileId,
-    block: BlockNo,
-) -> Option<u64>
+pub(crate) fn dirty_at(blocks: &HeldBlocks, file: &FileId, block: BlockNo) -> Option<u64>
     ensures { result ≡ dirty_at blocks.now.entries file.now block.0 }
 {
-    match find(blocks, file, block) {
+    match blocks.find(file, block) {
         Some(block) => block.dirty,
         None => None,
     }
 }
 
-// Puts a clean block in, which isn't held, as the most recently used.
-pub(crate) fn put(
-    blocks: &mut LruCache<BlockKey, Block>,
-    alloc: Global,
-    key: BlockKey,
-    bytes: &[u8],
-) -> Result<(), NoMemory>
-    requires absent { is_held blocks.old.entries key.file key.block.0 ≡ false }
-    requires room { length blocks.old.entries < blocks.old.cap }
-    requires bytes { length bytes.now ≤ 4096 }
-    ensures ok { OnOk result (blocks.new ≡ lru_cache ((key, clean_block bytes.now) ∷ blocks.old.entries) blocks.old.cap) }
-    ensures err { OnErr result (blocks.new ≡ blocks.old) }
-{
-    let block = Block {
-        bytes: BlockBytes::of_slice(alloc, bytes)?,
-        dirty: None,
-    };
-    blocks.put(key, block)?;
-    Ok(())
-}
-
 // The file's blocks that are held, in ascending order; all of them are under `end`.
 pub(crate) fn held_blocks(
-    blocks: &LruCache<BlockKey, Block>,
+    blocks: &HeldBlocks,
     alloc: Global,
     file: &FileId,
     end: u16,
@@ -90,7 +52,7 @@ pub(crate) fn held_blocks(
 
 // The file's blocks that are dirty, in ascending order; all that are held are under `end`.
 pub(crate) fn dirty_blocks(
-    blocks: &LruCache<BlockKey, Block>,
+    blocks: &HeldBlocks,
     alloc: Global,
     file: &FileId,
     end: u16,
@@ -110,7 +72,7 @@ pub(crate) fn dirty_blocks(
 
 // A copy of the block's bytes that stand before the file's size; none where it isn't held.
 pub(crate) fn cut_bytes(
-    blocks: &LruCache<BlockKey, Block>,
+    blocks: &HeldBlocks,
     alloc: Global,
     file: &FileId,
     block: BlockNo,
@@ -118,7 +80,7 @@ pub(crate) fn cut_bytes(
 ) -> Result<Bytes, NoMemory>
     ensures { IfOk result (λ bytes. bytes ≡ cut (bytes_at blocks.now.entries file.now block.0) block.0 size) }
 {
-    match find(blocks, file, block) {
+    match blocks.find(file, block) {
         Some(held) => Bytes::of_slice(alloc, cut(held.bytes.as_slice(), block, size)),
         None => Ok(Bytes::new(alloc)),
     }
@@ -126,7 +88,7 @@ pub(crate) fn cut_bytes(
 
 // These blocks with their bytes that stand before the file's size.
 pub(crate) fn flush(
-    blocks: &LruCache<BlockKey, Block>,
+    blocks: &HeldBlocks,
     alloc: Global,
     file: &FileId,
     size: u32,
@@ -142,28 +104,19 @@ pub(crate) fn flush(
     Ok(sent)
 }
 
-// Makes the block clean, where it is held.
-pub(crate) fn clean(blocks: &mut LruCache<BlockKey, Block>, file: &FileId, block: BlockNo)
-    ensures { blocks.new ≡ lru_cache (cleaned blocks.old.entries file.now block.0) blocks.old.cap }
-{
-    if let Some(held) = blocks.peek_mut(&BlockKey::of(file, block)) {
-        held.dirty = None;
-    }
-}
-
 // Makes the file's blocks clean; all of them are under `end`.
-pub(crate) fn clean_all(blocks: &mut LruCache<BlockKey, Block>, file: &FileId, end: u16)
+pub(crate) fn clean_all(blocks: &mut HeldBlocks, file: &FileId, end: u16)
     requires reached { AllByRecursion IsReached blocks.old.entries }
     requires under { AllByRecursion (IsUnder file.now end) blocks.old.entries }
     ensures { blocks.new ≡ lru_cache (cleaned_under blocks.old.entries file.now file_blocks) blocks.old.cap }
 {
     for number in 0..end {
-        clean(blocks, file, BlockNo(number));
+        blocks.clean(file, BlockNo(number));
     }
 }
 
 // Drops the file's blocks; all of them are under `end`.
-pub(crate) fn drop_all(blocks: &mut LruCache<BlockKey, Block>, file: &FileId, end: u16)
+pub(crate) fn drop_all(blocks: &mut HeldBlocks, file: &FileId, end: u16)
     requires { AllByRecursion (IsUnder file.now end) blocks.old.entries }
     ensures { blocks.new ≡ lru_cache (without blocks.old.entries file.now) blocks.old.cap }
 {
@@ -171,16 +124,12 @@ pub(crate) fn drop_all(blocks: &mut LruCache<BlockKey, Block>, file: &FileId, en
         return;
     }
     for number in 0..end {
-        let _block = blocks.pop(&BlockKey::of(file, BlockNo(number)));
+        blocks.pop(&BlockKey::of(file, BlockNo(number)));
     }
 }
 
 // The first block of the span that isn't held.
-pub(crate) fn missing(
-    blocks: &LruCache<BlockKey, Block>,
-    file: &FileId,
-    span: &Span,
-) -> Option<BlockNo>
+pub(crate) fn missing(blocks: &HeldBlocks, file: &FileId, span: &Span) -> Option<BlockNo>
     requires { span.now.first + span.now.count ≤ 1024 }
     ensures { result ≡ missing_of blocks.now.entries file.now span.now.first span.now.count }
 {
@@ -195,7 +144,7 @@ pub(crate) fn missing(
 
 // The bytes of the span's blocks that stand in the range.
 pub(crate) fn read(
-    blocks: &LruCache<BlockKey, Block>,
+    blocks: &HeldBlocks,
     alloc: Global,
     file: &FileId,
     from: u32,
@@ -216,39 +165,32 @@ pub(crate) fn read(
 // Puts the block's bytes that stand in the range behind the others.
 fn append(
     bytes: &mut Vec<u8>,
-    blocks: &LruCache<BlockKey, Block>,
+    blocks: &HeldBlocks,
     key: &BlockKey,
     from: u32,
     end: u32,
 ) -> Result<(), NoMemory>
     ensures { OnOk result (bytes.new.items ≡ bytes.old.items ++ part (bytes_at blocks.now.entries key.now.file key.now.block.0) key.now.block.0 from end) }
 {
-    if let Some(held) = blocks.peek(key) {
+    if let Some(held) = blocks.find(&key.file, key.block) {
         bytes.extend_from_slice(part(held.bytes.as_slice(), key.block, from, end))?;
     }
     Ok(())
 }
 
 // Uses the span's blocks, in ascending order.
-pub(crate) fn use_all(blocks: &mut LruCache<BlockKey, Block>, file: &FileId, span: &Span)
+pub(crate) fn use_all(blocks: &mut HeldBlocks, file: &FileId, span: &Span)
     requires { span.now.first + span.now.count ≤ 1024 }
     ensures { blocks.new ≡ lru_cache (used blocks.old.entries file.now span.now.first span.now.count) blocks.old.cap }
 {
     for place in 0..span.count {
-        use_one(blocks, &BlockKey::of(file, BlockNo(span.first + place)));
+        blocks.use_one(&BlockKey::of(file, BlockNo(span.first + place)));
     }
-}
-
-// Uses the block.
-fn use_one(blocks: &mut LruCache<BlockKey, Block>, key: &BlockKey)
-    ensures { blocks.new ≡ lru_cache (promoted (is_at key.now.file key.now.block.0) blocks.old.entries) blocks.old.cap }
-{
-    blocks.promote(key);
 }
 
 // Writes the bytes from there on into the span's blocks, and uses these, in ascending order, each with the next number.
 pub(crate) fn write(
-    blocks: &mut LruCache<BlockKey, Block>,
+    blocks: &mut HeldBlocks,
     file: &FileId,
     from: u32,
     bytes: &[u8],
@@ -262,25 +204,6 @@ pub(crate) fn write(
 {
     for place in 0..span.count {
         let key = BlockKey::of(file, BlockNo(span.first + place));
-        write_one(blocks, &key, from, bytes, last + u64::from(place) + 1);
-    }
-}
-
-// Writes those of the bytes from there on that stand in the block, uses it, and makes it dirty with that number.
-fn write_one(
-    blocks: &mut LruCache<BlockKey, Block>,
-    key: &BlockKey,
-    from: u32,
-    bytes: &[u8],
-    number: u64,
-)
-    requires reached { key.now.block.0 ≤ 1024 }
-    requires touches { from ≤ 4096 * key.now.block.0 + 4096 }
-    ensures { blocks.new ≡ lru_cache (written_there blocks.old.entries key.now.file key.now.block.0 from bytes.now number (block_at blocks.old.entries key.now.file key.now.block.0)) blocks.old.cap }
-{
-    if let Some(held) = blocks.get_mut(key) {
-        let at = from.saturating_sub(start_of(key.block)) as usize;
-        held.bytes.write(at, piece(bytes, key.block, from));
-        held.dirty = Some(number);
+        blocks.write_one(&key, from, bytes, last + u64::from(place) + 1);
     }
 }

@@ -6,15 +6,14 @@ ghost use Rattle.block_cache.specs.Ranges.{cut, file_blocks};
 ghost use Rattle.block_cache.specs.Blocks.{AreOnce, dirty_at, bytes_at, held_under, dirty_under};
 ghost use Rattle.block_cache.specs.Held.{IsSound, has_room, is_full, is_newer, after_grant, after_callback, flushed_of, missing, fill_answer, after_fill, read_of, after_read, after_write, write_back_next, is_written_back, after_write_back, oldest_clean, after_drop};
 
-use crate::block::Block;
+use crate::blocks;
 use crate::file_state::FileState;
 use crate::file_table::FileTable;
 use crate::filled::Filled;
+use crate::held_blocks::HeldBlocks;
 use crate::key::BlockKey;
 use crate::reach::Reach;
 use crate::span::Span;
-use crate::{blocks, oldest};
-use lru::LruCache;
 use sprite_ids::{BlockNo, CallKind, FileId, Flushed, Grant, NoMemory};
 use std::alloc::Global;
 use std::marker::Model;
@@ -30,7 +29,7 @@ pub struct Cache {
     alloc: Global,
     size: u16,
     files: FileTable,
-    blocks: LruCache<BlockKey, Block>,
+    blocks: HeldBlocks,
     reach: Reach,
     last: u64,
 }
@@ -61,7 +60,7 @@ impl Cache {
             alloc,
             size,
             files: FileTable::new(alloc),
-            blocks: LruCache::sparse(alloc, capacity)?,
+            blocks: HeldBlocks::new(alloc, capacity)?,
             reach: Reach::new(alloc),
             last: 0,
         })
@@ -186,12 +185,8 @@ impl Cache {
             return Ok(Filled::Full);
         }
         self.reach.raise(&file, block.0 + 1)?;
-        blocks::put(
-            &mut self.blocks,
-            self.alloc,
-            BlockKey { file, block },
-            bytes,
-        )?;
+        self.blocks
+            .put(self.alloc, BlockKey { file, block }, bytes)?;
         Ok(Filled::Filled)
     }
 
@@ -235,7 +230,7 @@ impl Cache {
     pub fn write_back_next(&self, file: Option<FileId>) -> Option<(FileId, BlockNo, u64)>
         ensures { result ≡ write_back_next self.now file }
     {
-        oldest::oldest_dirty(&self.blocks, &file)
+        self.blocks.oldest_dirty(&file)
     }
 
     /// Takes the answer to a write-back of the block, which was sent under that stamp with that dirty number. True comes
@@ -248,7 +243,7 @@ impl Cache {
         if self.known(&file).stamp != stamp || self.dirty(file, block) != Some(number) {
             return false;
         }
-        blocks::clean(&mut self.blocks, &file, block);
+        self.blocks.clean(&file, block);
         true
     }
 
@@ -270,7 +265,7 @@ impl Cache {
         ensures answer { result ≡ option_map (λ entry. (entry.0.file, entry.0.block)) (oldest_clean self.old file first last) }
         ensures blocks { self.new ≡ after_drop self.old file first last }
     {
-        let key = oldest::oldest_clean(&self.blocks, &file, first, last)?;
+        let key = self.blocks.oldest_clean(&file, first, last)?;
         self.blocks.pop(&key);
         Some((key.file, key.block))
     }

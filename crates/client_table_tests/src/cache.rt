@@ -34,7 +34,7 @@ enum Act {
 }
 
 // A cache of four blocks.
-static ACTS: [Act; 36] = [
+static ACTS: [Act; 39] = [
     Act::State(1, None, false),
     Act::Grant(1, 1, (0, 0), 5_000, true, false, true),
     Act::State(1, Some((0, 5_000)), false),
@@ -50,9 +50,14 @@ static ACTS: [Act; 36] = [
     Act::Read(1, 4_094, b"\x01\x02\x03\0"),
     Act::Next(Some((1, 0, 1))),
     Act::Block(1, 1, Some(2), 904),
+    // All are dirty: none goes.
+    Act::DropClean(2, 0, 3, None),
     // Another file fills the cache; one of its blocks is the last that a file may have.
     Act::Grant(2, 3, (4, 5), 0, true, false, true),
     Act::Fill(2, 3, 1_023, b"", Filled::Filled),
+    // The one clean block is of the range, a short one or a long one.
+    Act::DropClean(2, 1_020, 1_023, None),
+    Act::DropClean(2, 1_000, 1_023, None),
     Act::Fill(2, 3, 3, b"", Filled::Filled),
     Act::State(2, Some((5, 0)), true),
     Act::Fill(2, 3, 6, b"", Filled::Full),

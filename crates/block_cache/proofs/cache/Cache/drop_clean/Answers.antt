@@ -20,4 +20,4 @@ invariant_of-self c =
     let kept = each_removed test (IsKept files last) old.entries sound.kept in
     let count = removed_length test old.entries in
     let under = each_removed test (λ (entry : BlockKey × Block). entry.0.block.0 < end_of c.self.inside.reach entry.0.file) old.entries c.self.invariant.3 in
-    sound_next size files old c.pop.new.self (remove_entry test old.entries) last c.self.inside.reach c.self.invariant.0 c.pop.ensures.entries c.self.invariant.1 (omega (arith, sound.fits, count)) kept under
+    sound_next size files old c.pop.new.self (remove_entry test old.entries) last c.self.inside.reach c.self.invariant.0 c.pop.ensures c.self.invariant.1 (omega (arith, sound.fits, count)) kept under

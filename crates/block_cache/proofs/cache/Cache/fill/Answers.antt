@@ -14,7 +14,7 @@ invariant_of-self-in_err-put c =
     let blocks = c.self.inside.blocks in
     let under = under_raised c.self.inside.reach c.args.file (c.args.block.0 + 1) blocks.entries c.self.invariant.3 in
     let there = subst (λ ends. AreUnder ends blocks.entries) (sym c.in_ok-raise.ensures.ok) under in
-    sound_next c.self.inside.size c.self.inside.files blocks c.put.new.blocks blocks.entries c.self.inside.last c.raise.new.self c.self.invariant.0 c.in_err-put.ensures.err c.self.invariant.1 c.self.invariant.2.fits c.self.invariant.2.kept there
+    sound_next c.self.inside.size c.self.inside.files blocks c.put.new.self blocks.entries c.self.inside.last c.raise.new.self c.self.invariant.0 c.in_err-put.ensures.err c.self.invariant.1 c.self.invariant.2.fits c.self.invariant.2.kept there
 
 pub invariant_of-self-2 : goal.invariant_of-self-2
 invariant_of-self-2 c =
@@ -31,4 +31,4 @@ invariant_of-self-2 c =
     let both : AreUnder (raised c.self.inside.reach file (c.args.block.0 + 1)) (new ∷ blocks.entries) = (new_under c.self.inside.reach file c.args.block.0, before) in
     let under = subst (λ ends. AreUnder ends (new ∷ blocks.entries)) (sym c.in_ok-raise.ensures.ok) both in
     let all : AreKept files last (new ∷ blocks.entries) = (kept, c.self.invariant.2.kept) in
-    sound_next c.self.inside.size files blocks c.put.new.blocks (new ∷ blocks.entries) last c.raise.new.self c.self.invariant.0 c.in_ok-put.ensures.ok c.self.invariant.1 (omega (arith, room)) all under
+    sound_next c.self.inside.size files blocks c.put.new.self (new ∷ blocks.entries) last c.raise.new.self c.self.invariant.0 c.in_ok-put.ensures.ok c.self.invariant.1 (omega (arith, room)) all under

@@ -14,4 +14,4 @@ invariant_of-self c =
     let kept = kept_cleaned files c.self.inside.last old.entries c.args.file c.args.block.0 c.self.invariant.2.kept in
     let count = cleaned_count old.entries c.args.file c.args.block.0 in
     let under = keys_cleaned (λ (key : BlockKey). key.block.0 < end_of c.self.inside.reach key.file) old.entries c.args.file c.args.block.0 c.self.invariant.3 in
-    sound_next c.self.inside.size files old c.clean.new.blocks (cleaned old.entries c.args.file c.args.block.0) c.self.inside.last c.self.inside.reach c.self.invariant.0 c.clean.ensures c.self.invariant.1 (omega (arith, c.self.invariant.2.fits, count)) kept under
+    sound_next c.self.inside.size files old c.clean.new.self (cleaned old.entries c.args.file c.args.block.0) c.self.inside.last c.self.inside.reach c.self.invariant.0 c.clean.ensures c.self.invariant.1 (omega (arith, c.self.invariant.2.fits, count)) kept under

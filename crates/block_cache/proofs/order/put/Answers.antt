@@ -4,7 +4,7 @@ use Rattle.block_cache.specs.declared.block.Block.{Block}
 use Rattle.block_cache.specs.Blocks.{Blocks}
 use Rattle.block_cache.specs.Blocks.{is_key}
 use Rattle.block_cache.proofs.HeldLaws.{put_new}
-use Rattle.block_cache.proofs.blocks.put.Goals as goal
+use Rattle.block_cache.proofs.order.put.Goals as goal
 
 pub returns-clause-ok : goal.returns-clause-ok
 returns-clause-ok c =
