@@ -40,7 +40,7 @@ again_expires tx kernel (events.Expire key last) = first_most (key.0 == tx) (not
 again_expires tx kernel e = omega arith
 
 -- a packet is a request or a reply
-either_packet : (a r k t : Bool) → once_if (a && cond r k t) ≤ once_if (a && (not r && t)) + once_if (a && r)
+pub either_packet : (a r k t : Bool) → once_if (a && cond r k t) ≤ once_if (a && (not r && t)) + once_if (a && r)
 either_packet true true true t = omega arith
 either_packet true true false t = omega arith
 either_packet true false k t = omega arith
@@ -50,7 +50,7 @@ both_true : (a b : Bool) → a ≡ true → b ≡ true → (a && b) ≡ true
 both_true a b h k = ap (λ x. x && b) h ∙ k
 
 -- six for each time that the request was sent to the receiver
-six_by : (tx receiver again : ℕ) (counts : Counts) (steps : List (Act × Counts)) (n : ℕ) → IsRun idle counts steps → times (brings (is_packet_of tx receiver)) idle steps ≤ 6 * (1 + again) → times (begins_to tx receiver) idle steps ≡ n → times (brings (is_packet_of tx receiver)) idle steps ≤ 6 * (n + again)
+pub six_by : (tx receiver again : ℕ) (counts : Counts) (steps : List (Act × Counts)) (n : ℕ) → IsRun idle counts steps → times (brings (is_packet_of tx receiver)) idle steps ≤ 6 * (1 + again) → times (begins_to tx receiver) idle steps ≡ n → times (brings (is_packet_of tx receiver)) idle steps ≤ 6 * (n + again)
 six_by tx receiver again counts steps zero run six is = (let none = none_come tx receiver counts steps run is in omega arith)
 six_by tx receiver again counts steps (suc n) run six is = omega arith
 

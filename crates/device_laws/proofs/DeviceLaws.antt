@@ -2,7 +2,7 @@
 use Rattle.std.proofs.Common.{◌≡◌, ◌≢◌, ◌≤◌, ◌+◌, ◌==◌, ℕ, zero, suc, Bool, true, false, ◌&&◌, ◌||◌, cond, not, nat_le, nat_lt, List, [], ◌∷◌, ◌++◌, length, Option, Some, None, option_map, refl, sym, ap, ap₂, subst, ◌∙◌, arith}
 use Rattle.std.specs.List.{list_any}
 use Rattle.std.specs.Option.{option_and_then, is_some}
-use Rattle.std.proofs.lemmas.Bool.{true≢false, eq-eqb, eqb-true, ne_eqb, leb-true}
+use Rattle.std.proofs.lemmas.Bool.{true≢false, eq-eqb, leb-true}
 use Rattle.sprite_ids.specs.AskKind.{ask_number}
 use Rattle.sprite_ids.specs.declared.AskKind.{AskKind}
 use Rattle.sprite_ids.specs.declared.Errno.{Errno}
@@ -16,7 +16,7 @@ use Rattle.pseudo_device.specs.declared.Ask.{Ask}
 use Rattle.pseudo_device.specs.declared.TakeEnd.{TakeEnd}
 use Rattle.pseudo_device.specs.declared.TakeEnd.TheVariants.{Busy, Empty, Long}
 use Rattle.pseudo_device.specs.Device as devices
-use Rattle.pseudo_device.specs.Device.{Asks, IsTaken, first_refusal, is_put_refused, is_refused_beside, most, refusal_beside, take_refusal, told}
+use Rattle.pseudo_device.specs.Device.{Asks, first_refusal, is_refused_beside, most, refusal_beside, told}
 use Rattle.unix_calls.specs.declared.Description.{Description}
 use Rattle.unix_calls.specs.declared.Entry.{Entry}
 use Rattle.unix_calls.specs.declared.entry.Part.TheVariants as part
@@ -25,47 +25,18 @@ use Rattle.unix_calls.specs.declared.state.Device.{Device}
 use Rattle.unix_calls.specs.declared.state.Process.{Process}
 use Rattle.unix_calls.specs.State.{Unix, device_at, holds_master_of, is_alive, process_at, put_process, stream_of, with_device, with_process}
 use Rattle.unix_calls.specs.Answers.{Outcome, Answered, GoesTo, Waits, is_done, nothing, program_at, refuses, replied, replies}
-use Rattle.unix_calls.specs.StreamCalls.{at_stream, read_object, with_found, write_object}
+use Rattle.unix_calls.specs.StreamCalls.{read_object, with_found, write_object}
 use Rattle.unix_calls.specs.DeviceCalls.{answer_for, answer_of, asked_bytes, at_master, device_of, get_from, ioctl_object, kind_of, left, most_of, put_to, puts, reply_of, taken, takes_first, with_device_of, without_answer}
 use Rattle.unix_calls.specs.After.{after, after_ask, after_living, after_of, after_part, answer_due, asked, at_image, at_program, counted, done_at, done_with, fetched, is_wait, next_is, outcome, waits_at, waits_in, waits_on}
 use Rattle.unix_calls.proofs.SameLaws.{call_same, reply_same}
 use Rattle.unix_calls.proofs.ProcessLaws.{found_pid}
+use Rattle.unix_laws.proofs.DeviceLaws.{device_place, put_device, other_device}
 use Rattle.home_laws.specs.Calls.{Calls, call_entry}
 use Rattle.home_laws.proofs.EntryLaws.{answered, called_by, called_in, opened}
 use Rattle.device_laws.specs.Devices.{AreAsks, AreInHand, AsksFor, Reads, Writes, Commands, CanAsk, ByRead, ByWrite, ByCommand, Goes, IsAsk, IsInside, Masters, TellsTheSame, ask_entry, done_entry}
 use Rattle.device_laws.specs.Laws.{AsksAsOne, EndsAsOne, GetsAsOne, IsNumberOf, PutsAsOne}
 
 -- ---- devices
-
-pub found_place : (ds : List Device) (place : ℕ) (d : Device) → device_at ds place ≡ Some d → d.place ≡ place
-found_place [] place d h = absurd (cc)
-found_place (x ∷ ds) place d h = by (x.place == place) refl h (found_place ds place d)
-  where
-    by : (b : Bool) → (x.place == place) ≡ b → cond b (Some x) (device_at ds place) ≡ Some d → (device_at ds place ≡ Some d → d.place ≡ place) → d.place ≡ place
-    by true e h rest = let same : x ≡ d = cc in ap (λ (k : Device). k.place) (sym same) ∙ eqb-true x.place place e
-    by false e h rest = rest h
-
-pub put_device : (ds : List Device) (place : ℕ) (d new : Device) → device_at ds place ≡ Some d → new.place ≡ place → device_at (with_device new ds) place ≡ Some new
-put_device [] place d new h same = absurd (cc)
-put_device (x ∷ ds) place d new h same = by (x.place == place) refl h (put_device ds place d new)
-  where
-    by : (b : Bool) → (x.place == place) ≡ b → cond b (Some x) (device_at ds place) ≡ Some d → (device_at ds place ≡ Some d → new.place ≡ place → device_at (with_device new ds) place ≡ Some new) → device_at (with_device new (x ∷ ds)) place ≡ Some new
-    by true e h rest =
-        ap (λ b. device_at (cond b (new ∷ ds) (x ∷ with_device new ds)) place) (ap (λ n. x.place == n) same ∙ e)
-        ∙ ap (λ b. cond b (Some new) (device_at ds place)) (eq-eqb new.place place same)
-    by false e h rest =
-        ap (λ b. device_at (cond b (new ∷ ds) (x ∷ with_device new ds)) place) (ap (λ n. x.place == n) same ∙ e)
-        ∙ ap (λ b. cond b (Some x) (device_at (with_device new ds) place)) e ∙ rest h same
-
-pub other_device : (ds : List Device) (new : Device) (other : ℕ) → other ≢ new.place → device_at (with_device new ds) other ≡ device_at ds other
-other_device [] new other apart = refl
-other_device (x ∷ ds) new other apart = by (x.place == new.place) refl (other_device ds new other apart)
-  where
-    by : (b : Bool) → (x.place == new.place) ≡ b → device_at (with_device new ds) other ≡ device_at ds other → device_at (cond b (new ∷ ds) (x ∷ with_device new ds)) other ≡ device_at (x ∷ ds) other
-    by true e rest =
-        ap (λ b. cond b (Some new) (device_at ds other)) (ne_eqb new.place other (λ same. apart (sym same)))
-        ∙ sym (ap (λ b. cond b (Some x) (device_at ds other)) (ne_eqb x.place other (λ same. apart (sym same ∙ eqb-true x.place new.place e))))
-    by false e rest = ap (cond (x.place == other) (Some x)) rest
 
 -- a call that leaves the devices
 same_devices : (c : Description) (u v : Unix) (e : Entry) (place : ℕ) (device : Device) (asks : Asks) → after c u e ≡ Some (counted v) → v.devices ≡ u.devices → device_at u.devices place ≡ Some device → TellsTheSame asks device → Goes c u e place asks device.answers
@@ -75,7 +46,7 @@ same_devices c u v e place device asks entered same there tells =
 -- a call that changes the device
 new_device : (c : Description) (u v : Unix) (e : Entry) (place : ℕ) (device new : Device) (asks : Asks) → after c u e ≡ Some (counted v) → v.devices ≡ with_device new u.devices → device_at u.devices place ≡ Some device → new.place ≡ device.place → TellsTheSame asks new → Goes c u e place asks new.answers
 new_device c u v e place device new asks entered changed there same tells =
-    let at : new.place ≡ place = same ∙ found_place u.devices place device there in
+    let at : new.place ≡ place = same ∙ device_place u.devices place device there in
     record {
       later = counted v;
       entered = entered;
@@ -436,7 +407,7 @@ ends_as_one c u pid number called place device asks inside there tells =
           (done_opened c u pid number called place device reply inside there (ap (λ n. answer_due w q device (answer_for n device.answers)) number_is ∙ ap (answer_due w q device) due)) refl there refl tells_new);
       dead = λ none gone.
           let test = holds_master_of u.streams device.place in
-          let at : device.place ≡ place = found_place u.devices place device there in
+          let at : device.place ≡ place = device_place u.devices place device there in
           let nobody : list_any test u.processes ≡ false = ap (is_alive u) at ∙ gone in
           let alone : test p ≡ false = none_of test u.processes pid p nobody inside.there in
           let still : is_alive w device.place ≡ false = any_put test q u.processes alone nobody in

@@ -26,7 +26,8 @@ use Rattle.unix_laws.proofs.OnceLaws.{Comes_out, Goes_in, Idle, Turn, one_inside
 use Rattle.unix_laws.proofs.OperationLaws.{Fit, IsAsker, Moved_on, apart_asks, fit_state}
 use Rattle.device_laws.specs.Devices.{AreAsks, AreInHand, TellsTheSame}
 use Rattle.device_laws.specs.Gone.{AreOfDifferent, DevicesGoOn, IsAsking, IsOther, IsOutside, LastMasterAsOne, LastMasterGoes, MastersLeaveAsks, gone_entry, line}
-use Rattle.device_laws.proofs.DeviceLaws.{any_put, done_opened, found_place, none_of, other_device, put_device}
+use Rattle.unix_laws.proofs.DeviceLaws.{device_place, other_device, put_device}
+use Rattle.device_laws.proofs.DeviceLaws.{any_put, done_opened, none_of}
 
 -- ---- one ask's end
 
@@ -69,7 +70,7 @@ one_gone c u place device ask there dead asking =
     let r : Process = replied c q (Error errno.NoServer) in
     let number : p.pid ≡ ask.pid = found_pid u.processes ask.pid p inside.there in
     let test = holds_master_of u.streams place in
-    let at : device.place ≡ place = found_place u.devices place device there in
+    let at : device.place ≡ place = device_place u.devices place device there in
     let alone : test p ≡ false = none_of test u.processes ask.pid p dead inside.there in
     let still : is_alive w place ≡ false = any_put test q u.processes alone dead in
     let due : answer_due w q device (answer_for p.pid device.answers) ≡ Some (Error errno.NoServer) =

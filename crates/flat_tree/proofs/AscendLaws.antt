@@ -7,7 +7,7 @@ use Rattle.unix_calls.specs.Tree.{looked_up, path_before, same_path, with_name, 
 use Rattle.tree_laws.specs.Trees.{Parts}
 use Rattle.tree_laws.proofs.MakeLaws.{same_turned}
 use Rattle.flat_tree.specs.Listings.{AreAscending}
-use Rattle.flat_tree.proofs.OrderLaws.{past, path_order}
+use Rattle.unix_world.proofs.OrderLaws.{past, path_order}
 
 -- what stands behind a path, with one name more
 behind_more : (path : Parts) (n : NamedNode) (ms : List NamedNode) → path_before path n.path ≡ true → AllByRecursion (λ (m : NamedNode). path_before path m.path ≡ true) ms → AllByRecursion (λ (m : NamedNode). path_before path m.path ≡ true) (with_name n ms)

@@ -24,7 +24,8 @@ use Rattle.server_names.specs.Names.{IsSound, Tree, and_then, booted, entry_made
 use Rattle.server_names.proofs.FoundLaws.{path_is, path_itself}
 use Rattle.tree_laws.specs.Trees.{AreNames, IsOwn, Parts, Ties, plain, told}
 use Rattle.tree_laws.proofs.WalkLaws.{above_is}
-use Rattle.flat_tree.specs.Opening.{is_longest, lies_in, linked, links_of, with_file, with_files}
+use Rattle.server_kernel.specs.Boot.{is_longest, links_of}
+use Rattle.flat_tree.specs.Opening.{lies_in, linked, with_file, with_files}
 use Rattle.flat_tree.specs.Requests.{AsOne, Done, Trees, unless, with_tree, is_done}
 use Rattle.flat_tree.specs.Runs.{AreOneTree, OpenedAsOne}
 use Rattle.flat_tree.proofs.AnswerLaws.{makes}

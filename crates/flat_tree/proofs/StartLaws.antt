@@ -19,7 +19,8 @@ use Rattle.server_names.proofs.FoundLaws.{directory_in, path_is, path_itself, pa
 use Rattle.server_names.proofs.SoundLaws.{sound_none}
 use Rattle.tree_laws.specs.Trees.{AreNames, IsOwn, Parts, Ties, told}
 use Rattle.tree_laws.proofs.WalkLaws.{prefix_on}
-use Rattle.flat_tree.specs.Opening.{are_above, hangs_in, is_below, linked, links_of, rooted}
+use Rattle.server_kernel.specs.Boot.{are_above, hangs_in, is_below, links_of}
+use Rattle.flat_tree.specs.Opening.{linked, rooted}
 use Rattle.flat_tree.proofs.ApartLaws.{prefix_is, prefix_tests, prefix_through, shorter}
 use Rattle.flat_tree.proofs.ListingLaws.{keys_times, nodes_times, once_if, times}
 use Rattle.flat_tree.proofs.LookLaws.{InOrder, hung_look, hung_sound, root_look, root_sound, roots_look, roots_order}

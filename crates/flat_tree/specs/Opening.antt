@@ -1,6 +1,5 @@
 -- How the names of the domains begin.
-use Rattle.std.specs.Prelude.{◌≡◌, ℕ, ◌+◌, ◌==◌, nat_lt, Bool, true, false, ◌&&◌, ◌||◌, not, if◌then◌else◌, List, [], ◌∷◌, length, Result, Ok}
-use Rattle.std.specs.List.{filter, list_all}
+use Rattle.std.specs.Prelude.{◌≡◌, ℕ, ◌+◌, ◌==◌, Bool, true, ◌&&◌, if◌then◌else◌, List, [], ◌∷◌, length, Result, Ok}
 use Rattle.sprite_paths.specs.Path.{is_prefix}
 use Rattle.server_names.specs.declared.NameEnd.{NameEnd}
 use Rattle.server_names.specs.declared.Entry.TheVariants.{Node as Named}
@@ -10,28 +9,9 @@ use Rattle.unix_calls.specs.declared.Description.{Description}
 use Rattle.unix_calls.specs.declared.FileLine.{FileLine}
 use Rattle.unix_calls.specs.declared.state.FileName.TheVariants.{Boot}
 use Rattle.unix_calls.specs.Domains.{begins_domain, roots_of}
+use Rattle.server_kernel.specs.Boot.{is_longest, links_of}
 use Rattle.tree_laws.specs.Trees.{Parts, Ties}
 use Rattle.flat_tree.specs.Requests.{Trees}
-
--- whether the path lies below the root of a domain
-abbrev pub is_below : Parts → Parts → Bool
-is_below root path = is_prefix root path && nat_lt (length root) (length path)
-
--- whether each domain that has the link below its root has the other root too, so that none lies between the two
-abbrev pub are_above : List Parts → Parts → Parts → Bool
-are_above roots root link = list_all (λ other. not (is_below other link) || is_prefix other root) roots
-
--- whether a domain hangs directly in another one
-abbrev pub hangs_in : List Parts → Parts → Parts → Bool
-hangs_in roots root link = if is_below root link then are_above roots root link else false
-
--- where other domains hang directly in the one that hangs there
-abbrev pub links_of : List Parts → Parts → List Parts
-links_of roots root = filter (hangs_in roots root) roots
-
--- whether no longer domain than that one has the path
-abbrev pub is_longest : List Parts → Parts → Parts → Bool
-is_longest roots root path = list_all (λ other. not (is_prefix other path) || is_prefix other root) roots
 
 -- whether the domain is the longest of the path
 abbrev pub lies_in : List Parts → Parts → Parts → Bool

@@ -120,7 +120,7 @@ delivered_few (Some copy) tx kernel given machine flying =
 abbrev Differ : Call → Type 0
 Differ call = AreApart (map (λ (receiver : Receiver). receiver.kernel) call.receivers)
 
-kernels_kept : (kernel : ℕ) (part : Part) (receivers : List Receiver) → map (λ (receiver : Receiver). receiver.kernel) (with_part kernel part receivers) ≡ map (λ (receiver : Receiver). receiver.kernel) receivers
+pub kernels_kept : (kernel : ℕ) (part : Part) (receivers : List Receiver) → map (λ (receiver : Receiver). receiver.kernel) (with_part kernel part receivers) ≡ map (λ (receiver : Receiver). receiver.kernel) receivers
 kernels_kept kernel part [] = refl
 kernels_kept kernel part (first ∷ rest) = elim (first.kernel == kernel) as (λ b. map (λ (receiver : Receiver). receiver.kernel) (cond b (record first { part = part } ∷ rest) (first ∷ with_part kernel part rest)) ≡ first.kernel ∷ map (λ (receiver : Receiver). receiver.kernel) rest) [ true ↦ refl | false ↦ ap (λ kernels. first.kernel ∷ kernels) (kernels_kept kernel part rest) ]
 

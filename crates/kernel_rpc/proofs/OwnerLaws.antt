@@ -76,14 +76,14 @@ held_less : (at kernel : ℕ) (part : Part) → is_holding part ≡ false → (c
 held_less at kernel part none call = held_less_by at kernel part call none (at == kernel) refl
 
 -- where the receiver has answered, it is the owner
-abbrev IsOwners : ℕ → Receiver → Type 0
+abbrev pub IsOwners : ℕ → Receiver → Type 0
 IsOwners owner receiver = receiver.part ≡ Answered → receiver.kernel ≡ owner
 
 -- the kernel is the owner of the call, where that has the number; and only the owner of a call has answered
 abbrev Owns : ℕ → ℕ → Call → Type 0
 Owns tx kernel call = (call.tx.0 ≡ tx → call.owner ≡ kernel) × AllByRecursion (IsOwners call.owner) call.receivers
 
-fresh_owners : (owner : ℕ) (servers : List ℕ) → AllByRecursion (IsOwners owner) (map fresh servers)
+pub fresh_owners : (owner : ℕ) (servers : List ℕ) → AllByRecursion (IsOwners owner) (map fresh servers)
 fresh_owners owner [] = tt
 fresh_owners owner (server ∷ servers) = (λ e. absurd (cc), fresh_owners owner servers)
 
@@ -91,7 +91,7 @@ owners_by : (owner at : ℕ) (part : Part) (first : Receiver) (rest : List Recei
 owners_by owner at part first rest may here others later true is = (λ e. eqb-true first.kernel at is ∙ may e, others)
 owners_by owner at part first rest may here others later false is = (here, later)
 
-owners_with : (owner at : ℕ) (part : Part) → (part ≡ Answered → at ≡ owner) → (receivers : List Receiver) → AllByRecursion (IsOwners owner) receivers → AllByRecursion (IsOwners owner) (with_part at part receivers)
+pub owners_with : (owner at : ℕ) (part : Part) → (part ≡ Answered → at ≡ owner) → (receivers : List Receiver) → AllByRecursion (IsOwners owner) receivers → AllByRecursion (IsOwners owner) (with_part at part receivers)
 owners_with owner at part may [] h = tt
 owners_with owner at part may (first ∷ rest) h = owners_by owner at part first rest may h.0 h.1 (owners_with owner at part may rest h.1) (first.kernel == at) refl
 
@@ -100,7 +100,7 @@ owner_by owner kernel first rest here later true is e = sym (eqb-true first.kern
 owner_by owner kernel first rest here later false is e = later e
 
 -- who has answered is the owner
-owner_is : (owner kernel : ℕ) (receivers : List Receiver) → AllByRecursion (IsOwners owner) receivers → part_of kernel receivers ≡ Some Answered → kernel ≡ owner
+pub owner_is : (owner kernel : ℕ) (receivers : List Receiver) → AllByRecursion (IsOwners owner) receivers → part_of kernel receivers ≡ Some Answered → kernel ≡ owner
 owner_is owner kernel [] h e = absurd (cc)
 owner_is owner kernel (first ∷ rest) h e = owner_by owner kernel first (find (is_at kernel) rest) h.0 (owner_is owner kernel rest h.1) (first.kernel == kernel) refl e
 

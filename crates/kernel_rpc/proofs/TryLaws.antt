@@ -23,7 +23,7 @@ use Rattle.kernel_rpc.proofs.RunLaws.{Ordered, ordered_after, unfinished_replied
 use Rattle.kernel_rpc.proofs.SoundLaws.{found_is, found_sound, found_within, other_copy}
 
 -- a call of eight tries has lost as many as its timer fired, and no more than seven
-abbrev IsTried : ℕ → Tries → ℕ → Type 0
+abbrev pub IsTried : ℕ → Tries → ℕ → Type 0
 IsTried count Eight lost = (lost ≡ count) × (count ≤ 7)
 IsTried count Always lost = Unit {0}
 
@@ -139,7 +139,7 @@ counted_after before machine old (Expire tx sent) new may h =
     let both = expire_counted before machine old new tx sent (call_of machine tx) refl may.1 h in
     record { numbered = ordered_after machine (Expire tx sent) h.numbered; calls = both.0; none = both.1 }
 
-seven : (count : ℕ) (tries : Tries) (lost : ℕ) → is_last_of tries lost ≡ true → IsTried count tries lost → count ≡ 7
+pub seven : (count : ℕ) (tries : Tries) (lost : ℕ) → is_last_of tries lost ≡ true → IsTried count tries lost → count ≡ 7
 seven count Eight lost last h = (let same = h.0 in let most = h.1 in let least : 7 ≤ lost = grind (arith, nat_tests) in omega arith)
 seven count Always lost last h = absurd (cc)
 

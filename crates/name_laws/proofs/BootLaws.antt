@@ -18,9 +18,9 @@ use Rattle.server_names.specs.Names as names
 use Rattle.server_names.proofs.FoundLaws.{path_is}
 use Rattle.server_kernel.specs.declared.Domain.{Domain}
 use Rattle.server_kernel.specs.declared.Server.{Server}
-use Rattle.server_kernel.specs.Boot.{all_hung, and_then, bare, fills, linked_names, names_from, serves_in, serves_of}
+use Rattle.server_kernel.specs.Boot.{all_hung, and_then, bare, fills, linked_names, links_of, names_from, serves_in, serves_of}
 use Rattle.tree_laws.specs.Trees.{Parts, Ties}
-use Rattle.flat_tree.specs.Opening.{lies_in, linked, links_of, opening, rooted, with_files}
+use Rattle.flat_tree.specs.Opening.{lies_in, linked, opening, rooted, with_files}
 use Rattle.flat_tree.specs.Requests.{Trees}
 use Rattle.flat_tree.proofs.FileLaws.{opened_as_one}
 use Rattle.flat_tree.proofs.StartLaws.{one_of}

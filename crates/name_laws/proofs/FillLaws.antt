@@ -24,10 +24,10 @@ use Rattle.server_kernel.specs.declared.Server.{Server}
 use Rattle.server_kernel.specs.Files.{made_file, size_in, with_content, written_to}
 use Rattle.server_kernel.specs.Directory.{at_place, found_in, has_path}
 use Rattle.server_kernel.specs.Opens.{counts_file, new_file}
-use Rattle.server_kernel.specs.Boot.{and_then, appends_found, appends_line, boot_by, boots_at, filled, fills, fills_line, makes_line, named_domain, put_at, with_domains}
+use Rattle.server_kernel.specs.Boot.{and_then, appends_found, appends_line, boot_by, boots_at, filled, fills, fills_line, is_longest, makes_line, named_domain, put_at, with_domains}
 use Rattle.server_kernel.specs.Boot as server
 use Rattle.tree_laws.specs.Trees.{Parts, Ties}
-use Rattle.flat_tree.specs.Opening.{is_longest, lies_in, with_file, with_files}
+use Rattle.flat_tree.specs.Opening.{lies_in, with_file, with_files}
 use Rattle.flat_tree.proofs.ApartLaws.{prefix_is}
 use Rattle.flat_tree.proofs.StartLaws.{one_of}
 

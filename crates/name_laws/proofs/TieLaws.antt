@@ -8,9 +8,9 @@ use Rattle.unix_calls.specs.Domains.{begins_domain, roots_of}
 use Rattle.unix_calls.specs.Lawful.{each_once, is_clean}
 use Rattle.unix_calls.specs.Tree.{same_path}
 use Rattle.server_names.proofs.FoundLaws.{path_is, path_itself}
-use Rattle.server_kernel.specs.Boot.{serves_in}
+use Rattle.server_kernel.specs.Boot.{is_longest, serves_in}
 use Rattle.tree_laws.specs.Trees.{Parts}
-use Rattle.flat_tree.specs.Opening.{is_longest, lies_in}
+use Rattle.flat_tree.specs.Opening.{lies_in}
 use Rattle.flat_tree.proofs.ApartLaws.{prefix_is}
 use Rattle.flat_tree.proofs.StartLaws.{one_of, some_of}
 use Rattle.name_laws.specs.Boots.{LineFilesTie, line_file, owner_from}

@@ -1,5 +1,5 @@
 -- Each record that a packet came stands behind sendings enough.
-use Rattle.std.proofs.Common.{arith, ◌≡◌, ℕ, zero, suc, ◌+◌, ◌*◌, ◌≤◌, ◌==◌, Bool, true, false, ◌&&◌, not, cond, List, [], ◌∷◌, ◌++◌, Option, Some, None, count_by, refl, sym, ap, ap₂, subst, ◌∙◌, append-nil, append_assoc}
+use Rattle.std.proofs.Common.{arith, ◌≡◌, ℕ, ◌+◌, ◌*◌, ◌≤◌, ◌==◌, Bool, true, false, ◌&&◌, not, cond, List, [], ◌∷◌, ◌++◌, Option, Some, None, count_by, refl, sym, ap, ap₂, subst, ◌∙◌, append-nil, append_assoc}
 use Rattle.std.specs.List.{AllByRecursion}
 use Rattle.std.proofs.lemmas.Bool.{and_parts, le-leb}
 use Rattle.sprite_ids.specs.declared.TxNo.{TxNo}
@@ -10,7 +10,7 @@ use Rattle.kernel_rpc.specs.declared.Arrival.{Arrival}
 use Rattle.kernel_rpc.specs.declared.Arrival.TheVariants.{FirstRequest, FirstReply, AskedAgain, Past}
 use Rattle.kernel_rpc.specs.declared.Call.{Call}
 use Rattle.kernel_rpc.specs.declared.PacketCopy.{PacketCopy}
-use Rattle.kernel_rpc.specs.Histories.{brings, reached, times}
+use Rattle.kernel_rpc.specs.Histories.{reached, times}
 use Rattle.kernel_rpc.specs.Machine.{Machine, arrival, call_of, copy_of, idle, is_last}
 use Rattle.kernel_rpc.specs.Runs.{Act, Begin, Deliver, Answer, Silence, Expire, Counts, IsRun, after, once_if}
 use Rattle.kernel_rpc.proofs.PartLaws.{both_true, eq_same}
@@ -26,7 +26,7 @@ use Rattle.cluster_choices.specs.Acts.{delivery}
 use Rattle.cluster_wire_laws.specs.Links.{again_told, all_told_by, answer_told, came_told, fault_told, faults_told, fired_told, of_link, sent_told}
 use Rattle.cluster_wire_laws.specs.Told.{begins_to, is_packet_of, sends_again, tells_again, tells_packet}
 use Rattle.cluster_wire_laws.specs.Traces.{records_so}
-use Rattle.cluster_wire_laws.proofs.AwayLaws.{none_come}
+use Rattle.cluster_wire_laws.proofs.FewLaws.{either_packet, six_by}
 use Rattle.cluster_wire_laws.proofs.LinkLaws.{all_join, link_on}
 use Rattle.cluster_wire_laws.proofs.PlaceLaws.{run_wire}
 use Rattle.cluster_wire_laws.proofs.SendingLaws.{begins_are_told}
@@ -91,18 +91,6 @@ delivered_packet tx receiver r e h = absurd (cc)
 again_expires : (tx kernel : ℕ) (e : Event) → tells_again tx kernel e ≡ true → is_expire tx e ≡ true
 again_expires tx kernel (events.Expire key last) h = (and_parts (key.0 == tx) (not last) h).0
 again_expires tx kernel e h = absurd (cc)
-
--- a packet is a request or a reply
-either_packet : (a r k t : Bool) → once_if (a && cond r k t) ≤ once_if (a && (not r && t)) + once_if (a && r)
-either_packet true true true t = omega arith
-either_packet true true false t = omega arith
-either_packet true false k t = omega arith
-either_packet false r k t = omega arith
-
--- six for each time that the request was sent to the receiver
-six_by : (tx receiver again : ℕ) (counts : Counts) (steps : List (Act × Counts)) (n : ℕ) → IsRun idle counts steps → times (brings (is_packet_of tx receiver)) idle steps ≤ 6 * (1 + again) → times (begins_to tx receiver) idle steps ≡ n → times (brings (is_packet_of tx receiver)) idle steps ≤ 6 * (n + again)
-six_by tx receiver again counts steps zero run six is = (let none = none_come tx receiver counts steps run is in omega arith)
-six_by tx receiver again counts steps (suc n) run six is = omega arith
 
 few_come : (tx receiver : ℕ) (counts : Counts) (steps : List (Act × Counts)) → IsRun idle counts steps → deliveries tx receiver (told_of all_told_by idle steps) ≤ 6 * sendings tx receiver (told_of all_told_by idle steps)
 few_come tx receiver counts steps run =

@@ -24,7 +24,7 @@ use Rattle.kernel_rpc.proofs.NumberLaws.{each_changed, each_dropped}
 use Rattle.kernel_rpc.proofs.PartLaws.{both_true, eq_same}
 use Rattle.kernel_rpc.proofs.RunLaws.{unfinished_replied}
 use Rattle.kernel_rpc.proofs.SoundLaws.{found_is, found_sound, found_within, other_copy}
-use Rattle.kernel_rpc.proofs.TryLaws.{delivered_begun, each_kept}
+use Rattle.kernel_rpc.proofs.TryLaws.{IsTried, delivered_begun, each_kept, seven}
 use Rattle.unix_calls.specs.declared.Event.TheVariants as events
 use Rattle.unix_calls.specs.declared.SendKind.TheVariants.{Other}
 use Rattle.unix_calls.specs.declared.Rec.{Rec}
@@ -86,11 +86,6 @@ came_none machine given (Some copy) kernel tx =
 answer_none : (given : Fate) (o : Option Call) → NoTimer (answer_told given o)
 answer_none given None kernel tx = refl
 answer_none given (Some call) kernel tx = fault_none call.owner call.owner call.from given kernel tx
-
--- a call of eight tries has lost as many as its timer fired, and no more than seven
-abbrev IsTried : ℕ → Tries → ℕ → Type 0
-IsTried count Eight lost = (lost ≡ count) × (count ≤ 7)
-IsTried count Always lost = Unit {0}
 
 abbrev Tried : List Rec → Call → Type 0
 Tried records call = IsTried (expiries call.from call.tx.0 records) call.tries call.lost
@@ -208,10 +203,6 @@ counted_run (step ∷ steps) records machine counts run sound h =
     let next = after machine step.0 in
     let rest = counted_run steps (records ++ told) next step.1 run.1 (after_holds machine counts step.0 step.1 run.0 sound) (counted_after records machine counts step.0 step.1 run.0 sound h) in
     subst (λ (xs : List Rec). Counted xs (reached machine (step ∷ steps))) (append_assoc records told (told_of all_told_by next steps)) rest
-
-seven : (count : ℕ) (tries : Tries) (lost : ℕ) → is_last_of tries lost ≡ true → IsTried count tries lost → count ≡ 7
-seven count Eight lost last h = (let same = h.0 in let most = h.1 in let least : 7 ≤ lost = grind (arith, nat_tests) in omega arith)
-seven count Always lost last h = absurd (cc)
 
 pub last_is_eighth : OfRuns EachLastIsEighth
 last_is_eighth first steps trace run told fires past rest kernel tx written =

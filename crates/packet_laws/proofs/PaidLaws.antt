@@ -1,5 +1,5 @@
 -- In each run each fault that is told has a packet before it.
-use Rattle.std.proofs.Common.{arith, ◌≡◌, ℕ, ◌+◌, ◌≤◌, ◌==◌, Bool, true, false, ◌&&◌, ◌||◌, not, cond, List, [], ◌∷◌, ◌++◌, map, Option, Some, None, option_map, refl, sym, ap, subst, ◌∙◌}
+use Rattle.std.proofs.Common.{arith, ◌≡◌, ℕ, ◌+◌, ◌≤◌, ◌==◌, Bool, true, false, ◌&&◌, ◌||◌, not, cond, List, [], ◌∷◌, ◌++◌, map, Option, Some, None, refl, sym, ap, subst, ◌∙◌}
 use Rattle.std.specs.List.{AllByRecursion, find, list_any}
 use Rattle.std.proofs.lemmas.Bool.{eqb-true}
 use Rattle.sprite_ids.specs.declared.CopyNo.{CopyNo}
@@ -15,15 +15,17 @@ use Rattle.kernel_rpc.specs.declared.Receiver.{Receiver}
 use Rattle.kernel_rpc.specs.declared.Call.{Call}
 use Rattle.kernel_rpc.specs.declared.PacketCopy.{PacketCopy}
 use Rattle.kernel_rpc.specs.Copies.{copies_by, requests}
-use Rattle.kernel_rpc.specs.Machine.{Machine, answered, arrival, call_of, copy_of, delivered_as, fresh, further, gave_up, holds, idle, is_at as is_receiver, is_call, is_copy, is_last, landed, new_call, part_of, replied, reply_to, request, resent, tried, with_part}
+use Rattle.kernel_rpc.specs.Machine.{Machine, answered, arrival, call_of, copy_of, delivered_as, fresh, further, gave_up, holds, idle, is_call, is_copy, is_last, landed, new_call, part_of, replied, reply_to, request, resent, tried, with_part}
 use Rattle.kernel_rpc.specs.Runs.{Act, Begin, Deliver, Answer, Silence, Expire, AsksAgain, AsksUnless, Counts, IsRun, MayAct, after, delivered_by, expired_by, once_if}
 use Rattle.kernel_rpc.specs.Servers.{AreApart}
 use Rattle.kernel_rpc.specs.Sound.{HasBegun}
 use Rattle.kernel_rpc.proofs.ArrivalLaws.{asked_of, first_request}
 use Rattle.kernel_rpc.proofs.BeginLaws.{kernels_fresh, may_answer_held, may_be_silent_apart}
 use Rattle.kernel_rpc.proofs.CauseLaws.{Holds, after_holds}
+use Rattle.kernel_rpc.proofs.ComeLaws.{kernels_kept}
 use Rattle.kernel_rpc.proofs.CopyLaws.{each_by, each_request, each_without}
 use Rattle.kernel_rpc.proofs.NumberLaws.{each_changed}
+use Rattle.kernel_rpc.proofs.OwnerLaws.{IsOwners, fresh_owners, owner_is, owners_with}
 use Rattle.kernel_rpc.proofs.PartLaws.{both_true, eq_same, eq_turned, part_fresh, part_further, part_stays}
 use Rattle.kernel_rpc.proofs.RunLaws.{unfinished_replied}
 use Rattle.kernel_rpc.proofs.SoundLaws.{each_within, found_is, found_sound}
@@ -95,9 +97,6 @@ once_both false q is = refl
 abbrev kernels : List Receiver → List ℕ
 kernels receivers = map (λ (receiver : Receiver). receiver.kernel) receivers
 
-abbrev IsOwners : ℕ → Receiver → Type 0
-IsOwners owner receiver = receiver.part ≡ Answered → receiver.kernel ≡ owner
-
 abbrev IsFrom : ℕ → ℕ → PacketCopy → Type 0
 IsFrom tx from copy = copy.reply ≡ false → copy.tx.0 ≡ tx → copy.from ≡ from
 
@@ -109,26 +108,6 @@ record Held (records : List Rec) (copies : List PacketCopy) (call : Call) : Type
   sent : AllByRecursion (WasSent records call.tx.0 call.from) (kernels call.receivers)
   owners : AllByRecursion (IsOwners call.owner) call.receivers
   come : AllByRecursion (IsFrom call.tx.0 call.from) copies
-
-kernels_kept : (kernel : ℕ) (part : Part) (receivers : List Receiver) → kernels (with_part kernel part receivers) ≡ kernels receivers
-kernels_kept kernel part [] = refl
-kernels_kept kernel part (first ∷ rest) = elim (first.kernel == kernel) as (λ b. kernels (cond {A = List Receiver} b (record first { part = part } ∷ rest) (first ∷ with_part kernel part rest)) ≡ first.kernel ∷ kernels rest) [ true ↦ refl | false ↦ ap (λ (xs : List ℕ). first.kernel ∷ xs) (kernels_kept kernel part rest) ]
-
-owners_by : (owner at : ℕ) (part : Part) (first : Receiver) (rest : List Receiver) → (part ≡ Answered → at ≡ owner) → IsOwners owner first → AllByRecursion (IsOwners owner) rest → AllByRecursion (IsOwners owner) (with_part at part rest) → (b : Bool) → (first.kernel == at) ≡ b → AllByRecursion (IsOwners owner) (cond {A = List Receiver} b (record first { part = part } ∷ rest) (first ∷ with_part at part rest))
-owners_by owner at part first rest may here others later true is = (λ e. eqb-true first.kernel at is ∙ may e, others)
-owners_by owner at part first rest may here others later false is = (here, later)
-
-owners_with : (owner at : ℕ) (part : Part) → (part ≡ Answered → at ≡ owner) → (receivers : List Receiver) → AllByRecursion (IsOwners owner) receivers → AllByRecursion (IsOwners owner) (with_part at part receivers)
-owners_with owner at part may [] h = tt
-owners_with owner at part may (first ∷ rest) h = owners_by owner at part first rest may h.0 h.1 (owners_with owner at part may rest h.1) (first.kernel == at) refl
-
-owner_by : (owner kernel : ℕ) (first : Receiver) (rest : Option Receiver) → IsOwners owner first → (option_map (λ (receiver : Receiver). receiver.part) rest ≡ Some Answered → kernel ≡ owner) → (b : Bool) → (first.kernel == kernel) ≡ b → option_map (λ (receiver : Receiver). receiver.part) (cond b (Some first) rest) ≡ Some Answered → kernel ≡ owner
-owner_by owner kernel first rest here later true is e = sym (eqb-true first.kernel kernel is) ∙ here (some_is first.part Answered e)
-owner_by owner kernel first rest here later false is e = later e
-
-owner_is : (owner kernel : ℕ) (receivers : List Receiver) → AllByRecursion (IsOwners owner) receivers → part_of kernel receivers ≡ Some Answered → kernel ≡ owner
-owner_is owner kernel [] h e = absurd (cc)
-owner_is owner kernel (first ∷ rest) h e = owner_by owner kernel first (find (is_receiver kernel) rest) h.0 (owner_is owner kernel rest h.1) (first.kernel == kernel) refl e
 
 held_with : (records : List Rec) (copies : List PacketCopy) (call : Call) (at : ℕ) (part : Part) (reply : Option (List ℕ)) → (part ≡ Answered → at ≡ call.owner) → Held records copies call → Held records copies (record call { receivers = with_part at part call.receivers; reply = reply })
 held_with records copies call at part reply may h = record {
@@ -205,10 +184,6 @@ all_sent from key (packet ∷ sent) =
       send_there from key packet (fault_told from from packet.0 packet.1 ++ sent_told from key sent),
       each_weaken (WasSent (sent_told from key sent) key.0 from) (WasSent (first ++ sent_told from key sent) key.0 from) (map (λ (packet : ℕ × Fate). packet.0) sent) (λ kernel was. any_behind (λ (r : Rec). is_send_between key.0 from kernel r r.event) first (sent_told from key sent) was) (all_sent from key sent),
     )
-
-fresh_owners : (owner : ℕ) (servers : List ℕ) → AllByRecursion (IsOwners owner) (map fresh servers)
-fresh_owners owner [] = tt
-fresh_owners owner (server ∷ servers) = (λ e. absurd (cc), fresh_owners owner servers)
 
 held_begun : (records : List Rec) (machine : Machine) (counts : Counts) (call : Call) (servers : List ℕ) (sent : List (ℕ × Fate)) → Holds machine counts → AllHeld records machine → call.tx ≡ next_of machine → call.receivers ≡ map fresh servers → map (λ (packet : ℕ × Fate). packet.0) sent ≡ servers → AreApart servers → AllByRecursion (Held (records ++ sent_told call.from (next_of machine) sent) (machine.copies ++ requests (request call machine.next_copy call.owner) machine.next_copy sent)) (machine.unfinished ++ call ∷ [])
 held_begun records machine counts call servers sent sound h number begins to apart =
