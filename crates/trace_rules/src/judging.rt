@@ -8,7 +8,7 @@ use std::alloc::Global;
 use unix_calls::{Description, Rec};
 
 /// What is kept of the records of a trace to judge each by those before it (this project).
-pub(crate) trait LooksBack: Sized {
+pub trait LooksBack: Sized {
     ghost test: { Description → Past → Rec → Bool };
 
     ghost tells: { Self → Past → Type 0 };
@@ -31,7 +31,7 @@ pub(crate) trait LooksBack: Sized {
 }
 
 /// Whether each record of a trace of the described cluster keeps the rule, by one pass. The one error is want of memory.
-pub(crate) fn each_keeps<J: LooksBack>(
+pub fn each_keeps<J: LooksBack>(
     alloc: Global,
     c: &Description,
     judge: &mut J,

@@ -12,7 +12,7 @@ use unix_calls::{Description, Rec};
 
 /// What is kept of the records of a trace to judge each by those before it and by the file and the stream of its call (this
 /// project).
-pub(crate) trait LooksBackTied: Sized {
+pub trait LooksBackTied: Sized {
     ghost test: { Description → Past → Rec → Bool };
 
     ghost tells: { Self → Past → Type 0 };
@@ -41,7 +41,7 @@ pub(crate) trait LooksBackTied: Sized {
 }
 
 /// Whether each record of a trace of the described cluster keeps the rule, by one pass. The one error is want of memory.
-pub(crate) fn each_keeps_tied<J: LooksBackTied>(
+pub fn each_keeps_tied<J: LooksBackTied>(
     alloc: Global,
     c: &Description,
     judge: &mut J,

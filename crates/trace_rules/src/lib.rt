@@ -11,4 +11,6 @@ mod place;
 
 pub use broadcasts::prefixes_are_broadcast_until_learned;
 pub use fetches::fetches_are_of_absent_blocks;
+pub use judging::{LooksBack, each_keeps};
+pub use judging_ties::{LooksBackTied, each_keeps_tied};
 pub use operations::operations_go_out_uncached;

@@ -1,0 +1,4 @@
+pub mod PlaceLaws
+pub mod FactLaws
+pub mod FollowLaws
+pub mod PaidLaws

@@ -1,0 +1,23 @@
+use sprite_ids::{FileId, Kernel, Pid};
+
+/// A call of a process, by its number (this project).
+#[derive(Clone, Copy, Debug, PartialEq, Eq, Hash)]
+pub(crate) struct CallAt {
+    pub(crate) pid: Pid,
+    pub(crate) number: u32,
+}
+
+/// A file, as a kernel uses it (this project).
+#[derive(Clone, Copy, Debug, PartialEq, Eq, Hash)]
+pub(crate) struct FileAt {
+    pub(crate) kernel: Kernel,
+    pub(crate) file: FileId,
+}
+
+/// A block in a kernel's cache; its number may be any that a range of bytes leads to (this project).
+#[derive(Clone, Copy, Debug, PartialEq, Eq, Hash)]
+pub(crate) struct HeldAt {
+    pub(crate) kernel: Kernel,
+    pub(crate) file: FileId,
+    pub(crate) block: u64,
+}

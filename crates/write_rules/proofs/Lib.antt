@@ -1,0 +1,3 @@
+pub mod JudgingLaws
+pub mod SyncLaws
+pub mod MarkingLaws

@@ -1,0 +1,17 @@
+pub mod Lists
+pub mod Places
+pub mod Ages
+pub mod AgeLaws
+pub mod Held
+pub mod BlockLaws
+pub mod HeldLaws
+pub mod Marks
+pub mod Judging
+pub mod WriteBacks
+pub mod WriteBackLaws
+pub mod Versions
+pub mod VersionLaws
+pub mod Drops
+pub mod DropLaws
+pub mod Syncs
+pub mod Marked
