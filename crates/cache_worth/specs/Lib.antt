@@ -1,0 +1,12 @@
+pub mod Places
+pub mod Lists
+pub mod Since
+pub mod SinceLaws
+pub mod Parts
+pub mod Blocks
+pub mod BlockLaws
+pub mod Stamps
+pub mod StampLaws
+pub mod Counts
+pub mod CountLaws
+pub mod Whole

@@ -1,0 +1,104 @@
+-- The stamps that kernels were given and took are told record by record.
+use Rattle.std.proofs.Common.{◌≡◌, ◌∙◌, ℕ, ◌==◌, Bool, true, false, cond, ◌&&◌, List, [], ◌∷◌, ◌++◌, Option, Some, None, nat_lt, refl, sym, ap, ap₂, arith}
+use Rattle.std.specs.List.{list_all}
+use Rattle.std.proofs.lemmas.List.Folds.{list_all-append}
+use Rattle.std.proofs.lemmas.Bool.{lt-ltb, ltb-true, ltb-false}
+use Rattle.unix_calls.specs.declared.description.Description.{Description}
+use Rattle.unix_calls.specs.declared.event.Event.{Event}
+use Rattle.unix_calls.specs.declared.event.Event.TheVariants as event
+use Rattle.unix_calls.specs.declared.event.Rec.{Rec}
+use Rattle.call_journal.specs.Past.{Past, past_with}
+use Rattle.call_journal.specs.Matching.{same_file, has_event}
+use Rattle.call_journal.specs.Drops.{is_given}
+use Rattle.call_journal.specs.WorthCaches.{took_less}
+use Rattle.trace_rules.specs.Lists.{any_more}
+use Rattle.cache_worth.specs.declared.place.FileAt.{FileAt}
+use Rattle.cache_worth.specs.declared.place.StampAt.{StampAt}
+use Rattle.cache_worth.specs.declared.stamps.Stamps.{Stamps}
+use Rattle.cache_worth.specs.Parts.{stamps_well}
+use Rattle.cache_worth.specs.Places.{same_use}
+use Rattle.cache_worth.specs.SinceLaws.{use_is}
+use Rattle.cache_worth.specs.Stamps.{greatest, has_stamp, is_less, may_take, later, greatest_behind, given_behind, TakesOn, takes_less, TellsStamps}
+
+-- ---- looking
+
+told_of : (judge : Stamps) (past : Past) (kernel : ℕ) (e : Event) → TellsStamps judge.taken.entries judge.given.keys past.records → stamps_well past kernel e ≡ may_take judge.taken.entries judge.given.keys kernel e
+told_of judge past kernel (event.Mode f s m) told =
+    ap₂ (λ a b. a && b) (sym (told.taken_told (record { kernel = kernel; file = f }) s)) (sym (told.given_told (record { kernel = kernel; file = f; stamp = s })))
+told_of judge past kernel (event.Filled f b) told = refl
+told_of judge past kernel _ told = refl
+
+pub stamps_told : (c : Description) (judge : Stamps) (past : Past) (rec : Rec) → TellsStamps judge.taken.entries judge.given.keys past.records → stamps_well past rec.kernel rec.event ≡ may_take judge.taken.entries judge.given.keys rec.kernel rec.event
+stamps_told c judge past rec told = told_of judge past rec.kernel rec.event told
+
+-- ---- one record more
+
+and_true : (b : Bool) → (b && true) ≡ b
+and_true true = refl
+and_true false = refl
+
+all_more : (test : Rec → Bool) (records : List Rec) (rec : Rec) → list_all test (records ++ rec ∷ []) ≡ (list_all test records && test rec)
+all_more test records rec = list_all-append test records (rec ∷ []) ∙ ap (λ b. list_all test records && b) (and_true (test rec))
+
+-- of two stamps both are less exactly where the greater one is
+second_less : (last stamp x : ℕ) (b : Bool) → nat_lt last stamp ≡ true → nat_lt stamp x ≡ b → b ≡ (nat_lt last x && b)
+second_less last stamp x true up is =
+    let a = ltb-true last stamp up in
+    let b = ltb-true stamp x is in
+    sym (ap (λ t. t && true) (lt-ltb last x (omega (arith, a, b))))
+second_less last stamp x false up is = sym (by (nat_lt last x))
+  where
+    by : (t : Bool) → (t && false) ≡ false
+    by true = refl
+    by false = refl
+
+first_less : (last stamp x : ℕ) (b : Bool) → nat_lt last stamp ≡ false → nat_lt last x ≡ b → b ≡ (b && nat_lt stamp x)
+first_less last stamp x true up is =
+    let a = ltb-false last stamp up in
+    let b = ltb-true last x is in
+    sym (lt-ltb stamp x (omega (arith, a, b)))
+first_less last stamp x false up is = refl
+
+greater_less : (last stamp x : ℕ) (b : Bool) → nat_lt last stamp ≡ b → nat_lt (cond {A = ℕ} b stamp last) x ≡ (nat_lt last x && nat_lt stamp x)
+greater_less last stamp x true is = second_less last stamp x (nat_lt stamp x) is refl
+greater_less last stamp x false is = first_less last stamp x (nat_lt last x) is refl
+
+later_less : (stamp : ℕ) (o : Option ℕ) (x : ℕ) → nat_lt (later stamp o) x ≡ (is_less o x && nat_lt stamp x)
+later_less stamp None x = refl
+later_less stamp (Some last) x = greater_less last stamp x (nat_lt last stamp) refl
+
+taken_by : (taken : List (FileAt × ℕ)) (from at : FileAt) (stamp x : ℕ) (b : Bool) → same_use from at ≡ b → is_less (cond b (Some (later stamp (greatest taken from))) (greatest taken at)) x ≡ (is_less (greatest taken at) x && cond {A = Bool} b (nat_lt stamp x) true)
+taken_by taken from at stamp x true is = ap (λ f. nat_lt (later stamp (greatest taken f)) x) (use_is from at is) ∙ later_less stamp (greatest taken at) x
+taken_by taken from at stamp x false is = sym (and_true (is_less (greatest taken at) x))
+
+taken_more : (kernel : ℕ) (e : Event) (taken : List (FileAt × ℕ)) (at : FileAt) (x : ℕ) → is_less (greatest_behind kernel e taken at) x ≡ (is_less (greatest taken at) x && took_less at.kernel at.file x kernel e)
+taken_more kernel (event.Mode f s m) taken at x =
+    let from : FileAt = record { kernel = kernel; file = f } in
+    taken_by taken from at s x (same_use from at) refl
+taken_more kernel (event.Filled f b) taken at x = sym (and_true (is_less (greatest taken at) x))
+taken_more kernel _ taken at x = sym (and_true (is_less (greatest taken at) x))
+
+turned : (a b c : Bool) (before : Bool) → cond (a && (b && c)) true before ≡ cond ((b && a) && c) true before
+turned true true c before = refl
+turned true false c before = refl
+turned false true c before = refl
+turned false false c before = refl
+
+given_more : (e : Event) (at : StampAt) (before : Bool) → given_behind e at before ≡ cond (is_given at.kernel at.file at.stamp e) true before
+given_more (event.Grant f to s m) at before = turned (to == at.kernel) (same_file f at.file) (s == at.stamp) before
+given_more (event.Callback f to s k) at before = turned (to == at.kernel) (same_file f at.file) (s == at.stamp) before
+given_more _ at before = refl
+
+pub stamps_told_on : (c : Description) (old new : Stamps) (past : Past) (rec : Rec) → TellsStamps old.taken.entries old.given.keys past.records → TakesOn rec old.taken.entries new.taken.entries old.given.keys new.given.keys → TellsStamps new.taken.entries new.given.keys (past_with c rec past).records
+stamps_told_on c old new past rec told more = record {
+  taken_told = λ at stamp.
+      ap (λ o. is_less o stamp) (more.takes at)
+      ∙ taken_more rec.kernel rec.event old.taken.entries at stamp
+      ∙ ap (λ b. b && takes_less at stamp rec) (told.taken_told at stamp)
+      ∙ sym (all_more (takes_less at stamp) past.records rec);
+  given_told = λ at.
+      more.gives at
+      ∙ given_more rec.event at (has_stamp old.given.keys at)
+      ∙ ap (λ b. cond (is_given at.kernel at.file at.stamp rec.event) true b) (told.given_told at)
+      ∙ sym (any_more (has_event (is_given at.kernel at.file at.stamp)) past.records rec);
+}

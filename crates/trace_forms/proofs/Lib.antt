@@ -1,0 +1,7 @@
+pub mod ListLaws
+pub mod FacingLaws
+pub mod PartLaws
+pub mod PacketLaws
+pub mod OpeningLaws
+pub mod UseLaws
+pub mod EntryLaws

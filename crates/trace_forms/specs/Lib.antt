@@ -1,0 +1,6 @@
+pub mod Openings
+pub mod Parts
+pub mod Packets
+pub mod Uses
+pub mod Entries
+pub mod Facing
