@@ -2,4 +2,14 @@
 #![tactic(auto)]
 
 #[cfg(test)]
+mod block_moves;
+#[cfg(test)]
+mod deliveries;
+#[cfg(test)]
+mod forms;
+#[cfg(test)]
+mod sharing;
+#[cfg(test)]
 mod tests;
+#[cfg(test)]
+mod writes;
