@@ -14,6 +14,8 @@ use Rattle.one_kernel.specs.Verdicts.{verdict_of}
 use Rattle.call_journal.specs.Journal.{journal_of}
 use Rattle.call_journal.specs.Once.{Once}
 use Rattle.call_journal.specs.Unreachable.{unreachable_for_cause}
+use Rattle.trace_judge.specs.declared.Rule.{Rule}
+use Rattle.trace_judge.specs.Rules.{KeepsJudged, first_broken}
 use Rattle.run_judge.specs.declared.judged.JudgedRun.{JudgedRun}
 use Rattle.run_judge.specs.declared.judged.JudgedRun.TheVariants as judge
 use Rattle.run_judge.specs.declared.judged.Refutation.{Refutation}
@@ -28,8 +30,8 @@ pub record IsLegal (c : Description) (most : ℕ) (trace : List Rec) (u : Unix) 
   pub leads : state_of c (journal_of trace) ≡ Some u
   pub verdict_is : verdict_of c most (journal_of trace) ≡ verdict.Legal
 
--- besides, each call is once, a server is called unreachable only for a cause, and the run ended as it says; that is printed of its
--- journal, and its processes came to that
+-- besides, each call is once, a server is called unreachable only for a cause, the run ended as it says, and its trace keeps the rules that
+-- are judged; that is printed of its journal, and its processes came to that
 pub record IsJudged (c : Description) (most : ℕ) (trace : List Rec) (finish : Finish) (output : List ℕ) (tally : Tally) : Type 0 where
   pub state : Unix
   pub is_legal : IsLegal c most trace state
@@ -37,6 +39,7 @@ pub record IsJudged (c : Description) (most : ℕ) (trace : List Rec) (finish : 
   pub for_cause : unreachable_for_cause c trace ≡ true
   pub stands : end_of c most state finish ≡ stop.Good
   pub ends : EndsAs c state finish
+  pub rules : KeepsJudged c trace
   pub output_is : output ≡ output_of c (journal_of trace) finish
   pub tally_is : tally ≡ tally_in (state_of c (journal_of trace))
 
@@ -66,6 +69,10 @@ pub record StandsSo (c : Description) (most : ℕ) (trace : List Rec) (finish : 
 abbrev pub HasFree : Description → Unix → Type 0
 HasFree c u = list_any (is_free c u) u.processes ≡ true
 
+-- the first rule that its trace breaks is that one
+abbrev pub Breaks : Description → List Rec → Rule → Type 0
+Breaks c trace rule = first_broken c trace ≡ Some rule
+
 -- the first promise that the run breaks
 abbrev pub IsRefuted : Description → ℕ → List Rec → Finish → Refutation → Type 0
 IsRefuted c most trace finish (refute.Legal n) = verdict_of c most (journal_of trace) ≡ verdict.NotLegal n
@@ -73,6 +80,7 @@ IsRefuted c most trace finish refute.Once = IsNotOnce c most trace
 IsRefuted c most trace finish refute.Unreachable = IsWithoutCause c most trace
 IsRefuted c most trace finish refute.End = StandsSo c most trace finish stop.Wrong (λ u. Unit {0})
 IsRefuted c most trace finish refute.Stall = StandsSo c most trace finish stop.Free (HasFree c)
+IsRefuted c most trace finish (refute.Rule rule) = StandsSo c most trace finish stop.Good (λ u. Breaks c trace rule)
 
 -- the bound of instructions is passed before that entry, or behind the last one
 abbrev pub IsFar : Description → ℕ → List Rec → Finish → ℕ → Type 0

@@ -1,5 +1,6 @@
 use report_print::Tally;
 use sprite_ids::Bytes;
+use trace_judge::Rule;
 
 /// What a run that has come to its end comes to (this project).
 #[derive(Debug, PartialEq, Eq, Drop)]
@@ -26,4 +27,6 @@ pub enum Refutation {
     End,
     /// It is to have stalled, and a process that lives isn't blocked.
     Stall,
+    /// Its trace breaks that rule.
+    Rule(Rule),
 }

@@ -3,6 +3,8 @@ ghost use Rattle.unix_calls.specs.Lawful.{Lawful};
 ghost use Rattle.unix_world.specs.Worlds.{unix_of};
 ghost use Rattle.call_journal.specs.Once.{Once};
 ghost use Rattle.call_journal.specs.Unreachable.{unreachable_for_cause};
+ghost use Rattle.run_judge.specs.declared.ending.Stop.TheVariants.{Good};
+ghost use Rattle.run_judge.specs.Ends.{end_of};
 ghost use Rattle.run_judge.specs.Judged.{IsLegal, JudgesTo};
 
 use crate::ending::{Stop, end_of};
@@ -14,6 +16,7 @@ use one_kernel::{Replayed, replay};
 use report_print::{output, tally_of};
 use sprite_ids::{Bytes, Finish, NoMemory};
 use std::alloc::Global;
+use trace_judge::first_broken;
 use unix_calls::{Description, Process};
 use unix_world::World;
 
@@ -22,7 +25,8 @@ use unix_world::World;
 /// It is `Judged` where all of these hold, and else `Refuted` by the first that doesn't: one Unix kernel gives the journal; each call is
 /// issued, entered and returned once, in this order; for each entry that calls a server unreachable, a send for its call was given up
 /// before at the same kernel, after eight lost packets; by the state of the journal each process has ended where the run ended so, and one
-/// lives where the budget was spent or it stalled; and where it stalled each process that lives is blocked. The processes may do at most
+/// lives where the budget was spent or it stalled; where it stalled each process that lives is blocked; and the trace keeps the rules that
+/// are judged. The processes may do at most
 /// `most` instructions in all up to the calls of the entries, and as many from there up to their next calls where the run stalled; past
 /// that the answer is `Steps`. The one error is want of memory, which is also the answer where the entries would be more than 2^32.
 pub fn judge_run(
@@ -80,6 +84,7 @@ fn judge_end(
     world: &World,
     ps: &[Process],
 ) -> Result<JudgedRun, NoMemory>
+    requires lawful { Lawful c.now }
     requires bound { most ≤ 40000000000 }
     requires legal { IsLegal c.now most trace.now (unix_of c.now world.now ps.now) }
     requires once { Once trace.now }
@@ -87,16 +92,40 @@ fn judge_end(
     ensures { IfOk result (JudgesTo c.now most trace.now finish) }
 {
     match end_of(alloc, c, world, ps, finish, most)? {
-        Stop::Good => {
-            let tally = tally_of(ps)?;
-            let output = Bytes::of_vec(output(alloc, c, ps, finish)?);
-            Ok(JudgedRun::Judged { output, tally })
-        }
+        Stop::Good => judge_rules(alloc, c, trace, finish, most, world, ps),
         Stop::Wrong => Ok(JudgedRun::Refuted(Refutation::End)),
         Stop::Free => Ok(JudgedRun::Refuted(Refutation::Stall)),
         Stop::Far => {
             let place = world.entries.checked_add(1).ok_or(NoMemory)?;
             Ok(JudgedRun::Steps(place))
+        }
+    }
+}
+
+// A run, besides, that ended as it says.
+fn judge_rules(
+    alloc: Global,
+    c: &Description,
+    trace: &Trace,
+    finish: Finish,
+    most: u64,
+    world: &World,
+    ps: &[Process],
+) -> Result<JudgedRun, NoMemory>
+    requires lawful { Lawful c.now }
+    requires bound { most ≤ 40000000000 }
+    requires legal { IsLegal c.now most trace.now (unix_of c.now world.now ps.now) }
+    requires once { Once trace.now }
+    requires for_cause { unreachable_for_cause c.now trace.now ≡ true }
+    requires stands { end_of c.now most (unix_of c.now world.now ps.now) finish ≡ Good }
+    ensures { IfOk result (JudgesTo c.now most trace.now finish) }
+{
+    match first_broken(alloc, c, trace.records(), most)? {
+        Some(rule) => Ok(JudgedRun::Refuted(Refutation::Rule(rule))),
+        None => {
+            let tally = tally_of(ps)?;
+            let output = Bytes::of_vec(output(alloc, c, ps, finish)?);
+            Ok(JudgedRun::Judged { output, tally })
         }
     }
 }

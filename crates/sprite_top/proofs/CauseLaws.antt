@@ -18,7 +18,7 @@ use Rattle.cause_laws.proofs.LossLaws.{follows_losses}
 use Rattle.sprite_cluster.specs.Logs.{faults_between}
 use Rattle.sprite_ids.specs.declared.no_memory.NoMemory.{NoMemory}
 use Rattle.sprite_top.specs.declared.top.Answer.{Answer}
-use Rattle.sprite_top.specs.Top.{AllWereReached, IsRunOver, RoseForCause, RunsOver, TellsFaults, TellsWireOf}
+use Rattle.sprite_top.specs.Top.{AllWereReached, IsRunOver, RoseForCause, RunsOver, TellsFaultsOf, TellsWireOf}
 
 -- the same pair, whichever is told first
 eq_swap : (m n : ℕ) → (m == n) ≡ true → (n == m) ≡ true
@@ -65,7 +65,7 @@ fewer x y trace = sum_by-le-sum_by (λ (r : Rec). cond (has_event (is_loss x y) 
 first_faults : (x y : ℕ) (first more : List Rec) → faults_between x y first ≤ faults_between x y (first ++ more)
 first_faults x y first more = (let sum = sum_by-append (λ (r : Rec). cond (is_fault_between x y r.event) 1 0) first more in omega arith)
 
-rose_for_cause : {L : Type 0} (faults : L → ℕ → ℕ → ℕ) (before after : L) (closed : Option Closed) → TellsFaults faults before after closed → RoseForCause faults before after closed
+rose_for_cause : {L : Type 0} (faults : L → ℕ → ℕ → ℕ) (before after : L) (closed : Option Closed) → TellsFaultsOf faults before after closed → RoseForCause faults before after closed
 rose_for_cause faults before after None tells = tt
 rose_for_cause {L} faults before after (Some run) tells = λ for_cause first rest kernel entry is calls.
     (let found = follows_losses run.description run.trace for_cause first rest kernel entry is calls in
@@ -79,7 +79,7 @@ rose_for_cause {L} faults before after (Some run) tells = λ for_cause first res
 pub run_over : {L : Type 0} (faults asked : L → ℕ → ℕ → ℕ) (before after : L) (closed : Option Closed) → RunsOver faults asked before after closed → IsRunOver faults asked before after closed
 run_over faults asked before after closed over = over.run
 
-pub counted_over : {L : Type 0} (faults asked : L → ℕ → ℕ → ℕ) (before after : L) (closed : Option Closed) → RunsOver faults asked before after closed → TellsFaults faults before after closed
+pub counted_over : {L : Type 0} (faults asked : L → ℕ → ℕ → ℕ) (before after : L) (closed : Option Closed) → RunsOver faults asked before after closed → TellsFaultsOf faults before after closed
 counted_over faults asked before after closed over = over.counted
 
 pub wire_over : {L : Type 0} (faults asked : L → ℕ → ℕ → ℕ) (before after : L) (closed : Option Closed) → RunsOver faults asked before after closed → TellsWireOf faults asked before after closed
@@ -112,7 +112,7 @@ entry_place test [] some = absurd (cc)
 entry_place test (rec ∷ recs) some = stands_at test rec.kernel rec.event recs (λ more. entry_place test recs more) some
 
 -- over a link whose counts don't rise, no reply calls a server unreachable
-reached_so : {L : Type 0} (faults : L → ℕ → ℕ → ℕ) (before after : L) (closed : Option Closed) → TellsFaults faults before after closed → AllWereReached faults before after closed
+reached_so : {L : Type 0} (faults : L → ℕ → ℕ → ℕ) (before after : L) (closed : Option Closed) → TellsFaultsOf faults before after closed → AllWereReached faults before after closed
 reached_so faults before after None tells = tt
 reached_so {L} faults before after (Some run) tells = λ for_cause still. by_test (list_any is_unreachable_entry (journal_of run.trace)) refl for_cause still
   where

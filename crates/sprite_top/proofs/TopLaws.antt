@@ -171,11 +171,11 @@ from_text told words left left_after faults faults_after came (Err e) are read e
 -- a run that is what was promised of it has the causes of its end
 accepted_at : (print : Printing) (c : Description) (run : Closed) (output due : List ℕ) (tally : Tally) (end : Finish) → run.description ≡ c → run.finish ≡ end → IsSpent c run.trace end → IsJudged c 40000000000 run.trace end output tally → due ≡ printed print c run.trace end → ClusterCauses print (status_of end) c (Some run) due
 accepted_at print c run output due tally finish.AllEnded same ends spent j is =
-    record { run = run; kept = refl; same = same; ends = ends; legal = j.is_legal.is_legal; once = j.once; for_cause = j.for_cause; state = j.state; leads = j.is_legal.leads; finished = j.ends; spent = spent; output = is }
+    record { run = run; kept = refl; same = same; ends = ends; legal = j.is_legal.is_legal; once = j.once; for_cause = j.for_cause; rules = j.rules; state = j.state; leads = j.is_legal.leads; finished = j.ends; spent = spent; output = is }
 accepted_at print c run output due tally finish.Budget same ends spent j is =
-    record { run = run; kept = refl; same = same; ends = ends; legal = j.is_legal.is_legal; once = j.once; for_cause = j.for_cause; state = j.state; leads = j.is_legal.leads; finished = j.ends; spent = spent; output = is }
+    record { run = run; kept = refl; same = same; ends = ends; legal = j.is_legal.is_legal; once = j.once; for_cause = j.for_cause; rules = j.rules; state = j.state; leads = j.is_legal.leads; finished = j.ends; spent = spent; output = is }
 accepted_at print c run output due tally finish.Stalled same ends spent j is =
-    record { run = run; kept = refl; same = same; ends = ends; legal = j.is_legal.is_legal; once = j.once; for_cause = j.for_cause; state = j.state; leads = j.is_legal.leads; finished = j.ends; spent = spent; output = is }
+    record { run = run; kept = refl; same = same; ends = ends; legal = j.is_legal.is_legal; once = j.once; for_cause = j.for_cause; rules = j.rules; state = j.state; leads = j.is_legal.leads; finished = j.ends; spent = spent; output = is }
 accepted_at print c run output due tally finish.OutOfMemory same ends spent j is = absurd j.ends
 accepted_at print c run output due tally finish.Running same ends spent j is = absurd j.ends
 

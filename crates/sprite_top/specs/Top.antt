@@ -30,6 +30,7 @@ use Rattle.call_journal.specs.Journal.{journal_of}
 use Rattle.unix_calls.specs.After.{legal, state_of}
 use Rattle.call_journal.specs.Once.{Once}
 use Rattle.call_journal.specs.Unreachable.{is_unreachable_entry, unreachable_for_cause}
+use Rattle.trace_judge.specs.Rules.{KeepsJudged, name_of}
 use Rattle.run_judge.specs.declared.JudgedRun.{JudgedRun}
 use Rattle.run_judge.specs.declared.JudgedRun.TheVariants as judged
 use Rattle.run_judge.specs.declared.Refutation.TheVariants as refuted
@@ -38,7 +39,7 @@ use Rattle.run_judge.specs.Judged.{JudgesTo}
 use Rattle.kernel_rpc.specs.Sound.{Wired}
 use Rattle.cluster_kernels.specs.declared.State.{State}
 use Rattle.sprite_cluster.specs.Finishing.{IsSpent, IsStill, finish_of, stands_so}
-use Rattle.sprite_cluster.specs.Logs.{Holds, faults_between}
+use Rattle.sprite_cluster.specs.Logs.{Holds, TellsFaults}
 use Rattle.sprite_cluster.specs.Reached.{Reached}
 use Rattle.sprite_cluster.specs.Wires.{TellsWire}
 use Rattle.sprite_cluster.specs.declared.Cluster.{Cluster}
@@ -95,8 +96,9 @@ abbrev pub fault_line : List ℕ
 fault_line = codes "read fault\n"
 
 -- a run of the cluster that came to that end: its journal is a history that one Unix kernel gives for the description, each finished
--- call stands in it once, a server is called unreachable only after eight lost packets of that call, in the state that it leads to the processes stand as the end says, the budget is spent where it says so,
--- and what is due is what is printed of the run
+-- call stands in it once, a server is called unreachable only after eight lost packets of that call, its trace keeps the rules that are judged, in
+-- the state that it leads to the processes stand as the end says, the budget is spent where it says so, and what is due is what is printed of
+-- the run
 pub record IsRunOf (print : Printing) (c : Description) (end : Finish) (closed : Option Closed) (due : List ℕ) : Type 0 where
   pub run : Closed
   pub kept : closed ≡ Some run
@@ -105,6 +107,7 @@ pub record IsRunOf (print : Printing) (c : Description) (end : Finish) (closed :
   pub legal : IsTrue (legal c (journal_of run.trace))
   pub once : Once run.trace
   pub for_cause : unreachable_for_cause c run.trace ≡ true
+  pub rules : KeepsJudged c run.trace
   pub state : Unix
   pub leads : state_of c (journal_of run.trace) ≡ Some state
   pub finished : EndsAs c state end
@@ -119,6 +122,7 @@ refuted_line (judged.Refuted refuted.Once) = codes "refuted once\n"
 refuted_line (judged.Refuted refuted.Unreachable) = codes "refuted unreachable\n"
 refuted_line (judged.Refuted refuted.End) = codes "refuted end\n"
 refuted_line (judged.Refuted refuted.Stall) = codes "refuted stall\n"
+refuted_line (judged.Refuted (refuted.Rule rule)) = codes "refuted " ++ name_of rule ++ codes "\n"
 refuted_line (judged.Steps number) = numbered_line (codes "refuted steps ") number
 
 -- a run comes to something else than what was promised of it
@@ -143,9 +147,9 @@ is_out_of_memory finish.OutOfMemory = true
 is_out_of_memory _ = false
 
 -- of a run that was made: between any two kernels its trace tells of no more faults than by how many the link's count of these rose
-abbrev pub TellsFaults : {L : Type 0} → (L → ℕ → ℕ → ℕ) → L → L → Option Closed → Type 0
-TellsFaults faults before after None = Unit {0}
-TellsFaults faults before after (Some run) = (a b : ℕ) → faults before a b + faults_between a b run.trace ≤ faults after a b
+abbrev pub TellsFaultsOf : {L : Type 0} → (L → ℕ → ℕ → ℕ) → L → L → Option Closed → Type 0
+TellsFaultsOf faults before after None = Unit {0}
+TellsFaultsOf faults before after (Some run) = TellsFaults faults before after run.trace
 
 -- of a run that was made and that calls servers unreachable only for cause: before each entry that does so, the link's count of faults
 -- between the entry's kernel and another rose in this call, by eight at least
@@ -187,7 +191,7 @@ IsRunOver faults asked before after (Some run) = IsRun faults asked before after
 -- the link counted, and what it tells of packets is what went over the link
 pub record RunsOver {L : Type 0} (faults asked : L → ℕ → ℕ → ℕ) (before after : L) (closed : Option Closed) : Type 0 where
   pub run : IsRunOver faults asked before after closed
-  pub counted : TellsFaults faults before after closed
+  pub counted : TellsFaultsOf faults before after closed
   pub wire : TellsWireOf faults asked before after closed
 
 -- a cluster after a run of it: it is what it was, over the same link, and the run is over

@@ -2,6 +2,7 @@ ghost use Rattle.std.specs.Prelude.{codes, ◌≡◌, ◌++◌, IfOk};
 ghost use Rattle.std.specs.Fmt.{decimal};
 ghost use Rattle.run_judge.specs.declared.JudgedRun.TheVariants.{Refuted};
 ghost use Rattle.sprite_top.specs.Judged.{judgement_line, numbered_line, verdict_line};
+ghost use Rattle.trace_judge.specs.Rules.{name_of};
 ghost use Rattle.sprite_top.specs.Top.{refuted_line};
 
 use history_check::Judgement;
@@ -10,6 +11,7 @@ use report_print::refusal_line;
 use run_judge::{JudgedRun, Refutation};
 use sprite_ids::NoMemory;
 use std::alloc::Global;
+use trace_judge::Rule;
 
 /// The line about a text that is to hold a cluster file and a history.
 pub(crate) fn judgement_line(alloc: Global, judgement: &Judgement) -> Result<Vec<u8>, NoMemory>
@@ -57,7 +59,18 @@ fn refutation_line(alloc: Global, refutation: Refutation) -> Result<Vec<u8>, NoM
         Refutation::Unreachable => Ok(Vec::from_slice(alloc, b"refuted unreachable\n")?),
         Refutation::End => Ok(Vec::from_slice(alloc, b"refuted end\n")?),
         Refutation::Stall => Ok(Vec::from_slice(alloc, b"refuted stall\n")?),
+        Refutation::Rule(rule) => rule_line(alloc, rule),
     }
+}
+
+// The line about a rule that a trace breaks.
+fn rule_line(alloc: Global, rule: Rule) -> Result<Vec<u8>, NoMemory>
+    ensures { IfOk result (λ line. line.items ≡ codes "refuted " ++ name_of rule ++ codes "\n") }
+{
+    let mut line = Vec::from_slice(alloc, b"refuted ")?;
+    line.extend_from_slice(rule.name().as_bytes())?;
+    line.push(b'\n')?;
+    Ok(line)
 }
 
 // A line that ends with a number.

@@ -5,7 +5,7 @@ ghost use Rattle.sprite_ids.specs.declared.running.Finish.TheVariants.{AllEnded,
 ghost use Rattle.frames_text.specs.Texts.{AreTold};
 ghost use Rattle.report_print.specs.Refused.{refusal_line};
 ghost use Rattle.sprite_top.specs.Judged.{TextCauses, judgement_status, verdict_status};
-ghost use Rattle.sprite_top.specs.Top.{AllWereReached, Completes, IsRunOver, RunsOver, TellsFaults, TellsWireOf, AsksFor, LoadCauses, EventsCauses, PacketsCauses, told_answer, RoseForCause, IsEnded, IsChecked, IsAnswered, IsRefuted, IsRefused, IsUsage, IsReadFault, Causes, FileCauses, Wrote, Broke, status_number};
+ghost use Rattle.sprite_top.specs.Top.{AllWereReached, Completes, IsRunOver, RunsOver, TellsFaultsOf, TellsWireOf, AsksFor, LoadCauses, EventsCauses, PacketsCauses, told_answer, RoseForCause, IsEnded, IsChecked, IsAnswered, IsRefuted, IsRefused, IsUsage, IsReadFault, Causes, FileCauses, Wrote, Broke, status_number};
 
 use crate::clusters::answer_cluster;
 use crate::judged::{judgement_line, numbered_line};
@@ -150,7 +150,7 @@ pub fn sprite<R: Threads + Wait + Sync, S: Source, K: Sink, L: Link + Send, W: W
     ensures no_memory { result.status ≡ Status.NoMemory → (K.held sink.new ≡ K.held sink.old) × (result.closed ≡ None) }
     ensures write_fault { result.status ≡ Status.WriteFault → Broke (K.held sink.old) (K.held sink.new) (K.faults sink.old) (K.faults sink.new) (λ status. Causes (AreTold L.faults L.asked link result.link) status (spelled words.now) (S.left source.old) (S.left source.new) (S.faults source.old) (S.faults source.new) result.closed) }
     ensures run { IsRunOver L.faults L.asked link result.link result.closed }
-    ensures faults { TellsFaults L.faults link result.link result.closed }
+    ensures faults { TellsFaultsOf L.faults link result.link result.closed }
     ensures wire { TellsWireOf L.faults L.asked link result.link result.closed }
     ensures rose { RoseForCause L.faults link result.link result.closed }
     ensures reached { AllWereReached L.faults link result.link result.closed }

@@ -1,0 +1,118 @@
+ghost use Rattle.std.specs.Prelude.{◌≡◌, ◌≤◌, IfOk};
+ghost use Rattle.unix_calls.specs.Lawful.{Lawful};
+ghost use Rattle.one_kernel.specs.declared.Verdict.TheVariants.{Legal};
+ghost use Rattle.one_kernel.specs.Verdicts.{verdict_of};
+ghost use Rattle.call_journal.specs.Journal.{journal_of};
+ghost use Rattle.trace_tables.specs.Ties.{ties_of};
+ghost use Rattle.write_rules.specs.Marks.{marks_of};
+ghost use Rattle.sharing_rules.specs.Facts.{facts_of};
+ghost use Rattle.trace_judge.specs.Rules.{first_broken};
+
+use crate::rule::Rule;
+use sharing_rules::{EntryFacts, cached_calls_use_held_blocks, tell_entries};
+use sprite_ids::NoMemory;
+use std::alloc::Global;
+use trace_rules::{
+    fetches_are_of_absent_blocks, operations_go_out_uncached, prefixes_are_broadcast_until_learned,
+};
+use trace_tables::{Tied, Told, tell};
+use unix_calls::{Description, Rec};
+use write_rules::{blocks_are_dropped_for_a_cause, blocks_are_written_back_for_a_cause, mark};
+
+/// The first rule, in their order, that a trace breaks whose journal one Unix kernel gives, where its processes do at most `most`
+/// instructions up to their calls; None exactly where it keeps them all (this project). The one error is want of memory, which is also
+/// the answer where the entries would be more than 2^32.
+pub fn first_broken(
+    alloc: Global,
+    c: &Description,
+    trace: &[Rec],
+    most: u64,
+) -> Result<Option<Rule>, NoMemory>
+    requires lawful { Lawful c.now }
+    requires bound { most ≤ 40000000000 }
+    requires legal { verdict_of c.now most (journal_of trace.now) ≡ Legal }
+    ensures { IfOk result (λ broken. broken ≡ first_broken c.now trace.now) }
+{
+    match tell(alloc, c, trace, most)? {
+        Told::Legal(ties) => broken_tied(alloc, c, trace, most, ties.as_slice()),
+        Told::NotLegal(_) => Ok(None),
+        Told::Steps(_) => Ok(None),
+    }
+}
+
+// The same, where it is told what each record's call goes by.
+fn broken_tied(
+    alloc: Global,
+    c: &Description,
+    trace: &[Rec],
+    most: u64,
+    ties: &[Option<Tied>],
+) -> Result<Option<Rule>, NoMemory>
+    requires lawful { Lawful c.now }
+    requires bound { most ≤ 40000000000 }
+    requires legal { verdict_of c.now most (journal_of trace.now) ≡ Legal }
+    requires ties { ties.now ≡ ties_of c.now trace.now }
+    ensures { IfOk result (λ broken. broken ≡ first_broken c.now trace.now) }
+{
+    match mark(alloc, c, trace, most)? {
+        Some(marks) => broken_marked(alloc, c, trace, most, ties, marks.as_slice()),
+        None => Ok(None),
+    }
+}
+
+// The same, where each record is marked too.
+fn broken_marked(
+    alloc: Global,
+    c: &Description,
+    trace: &[Rec],
+    most: u64,
+    ties: &[Option<Tied>],
+    marks: &[bool],
+) -> Result<Option<Rule>, NoMemory>
+    requires lawful { Lawful c.now }
+    requires bound { most ≤ 40000000000 }
+    requires legal { verdict_of c.now most (journal_of trace.now) ≡ Legal }
+    requires ties { ties.now ≡ ties_of c.now trace.now }
+    requires marks { marks.now ≡ marks_of c.now trace.now }
+    ensures { IfOk result (λ broken. broken ≡ first_broken c.now trace.now) }
+{
+    match tell_entries(alloc, c, trace, ties, most)? {
+        Some(facts) => broken_told(alloc, c, trace, ties, marks, facts.as_slice()),
+        None => Ok(None),
+    }
+}
+
+// The same, where it is told what each entry does to files too.
+fn broken_told(
+    alloc: Global,
+    c: &Description,
+    trace: &[Rec],
+    ties: &[Option<Tied>],
+    marks: &[bool],
+    facts: &[EntryFacts],
+) -> Result<Option<Rule>, NoMemory>
+    requires ties { ties.now ≡ ties_of c.now trace.now }
+    requires marks { marks.now ≡ marks_of c.now trace.now }
+    requires facts { facts.now ≡ facts_of c.now trace.now }
+    ensures { IfOk result (λ broken. broken ≡ first_broken c.now trace.now) }
+{
+    if !cached_calls_use_held_blocks(alloc, c, trace, ties, facts)? {
+        return Ok(Some(Rule::CachedCalls));
+    }
+    if !operations_go_out_uncached(alloc, c, trace, ties)? {
+        return Ok(Some(Rule::Operations));
+    }
+    if !fetches_are_of_absent_blocks(alloc, c, trace)? {
+        return Ok(Some(Rule::Fetches));
+    }
+    if !blocks_are_dropped_for_a_cause(alloc, c, trace, marks)? {
+        return Ok(Some(Rule::Drops));
+    }
+    if !prefixes_are_broadcast_until_learned(alloc, c, trace)? {
+        return Ok(Some(Rule::Broadcasts));
+    }
+    if !blocks_are_written_back_for_a_cause(alloc, c, trace, marks)? {
+        return Ok(Some(Rule::WriteBacks));
+    }
+    Ok(None)
+}

@@ -1,0 +1,8 @@
+//! Which rule a trace breaks first, of those that are judged at each run (this project).
+#![tactic(auto)]
+
+mod judging;
+mod rule;
+
+pub use judging::first_broken;
+pub use rule::Rule;

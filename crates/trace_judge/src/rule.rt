@@ -1,0 +1,35 @@
+ghost use Rattle.std.specs.Prelude.{◌≡◌};
+ghost use Rattle.trace_judge.specs.Rules.{name_of};
+
+/// A rule of a trace (this project).
+#[derive(Clone, Copy, Debug, PartialEq, Eq)]
+pub enum Rule {
+    /// What is called in a cache uses blocks that are held there (Nelson, Welch and Ousterhout 1988).
+    CachedCalls,
+    /// Operations on a file go out to its server only uncached (Nelson, Welch and Ousterhout 1988).
+    Operations,
+    /// Fetches are of blocks that the kernel doesn't hold (Nelson, Welch and Ousterhout 1988).
+    Fetches,
+    /// Blocks are dropped for a cause (Nelson, Welch and Ousterhout 1988).
+    Drops,
+    /// Prefixes are broadcast until they are learned (Welch and Ousterhout 1986).
+    Broadcasts,
+    /// Blocks are written back for a cause (Nelson, Welch and Ousterhout 1988).
+    WriteBacks,
+}
+
+impl Rule {
+    /// The name by which the rule is printed.
+    pub fn name(self) -> &'static str
+        ensures { result.now ≡ name_of self }
+    {
+        match self {
+            Rule::CachedCalls => "P2",
+            Rule::Operations => "P3",
+            Rule::Fetches => "P4",
+            Rule::Drops => "P5",
+            Rule::Broadcasts => "P7",
+            Rule::WriteBacks => "P9",
+        }
+    }
+}
