@@ -10,7 +10,7 @@ use std::sync::Wait;
 use std::thread::Threads;
 
 /// The files.
-const CASES: [&str; 49] = [
+const CASES: [&str; 65] = [
     "answer-before-master-ends",
     "cluster-before-body",
     "dead-device",
@@ -49,6 +49,22 @@ const CASES: [&str; 49] = [
     "legal-20",
     "legal-21",
     "legal-22",
+    "legal-23",
+    "legal-24",
+    "legal-25",
+    "legal-26",
+    "legal-27",
+    "legal-28",
+    "legal-29",
+    "legal-30",
+    "legal-31",
+    "legal-32",
+    "a-full-directory",
+    "a-home-has-made-two-hundred",
+    "directories-come-and-go",
+    "names-too-long-or-too-deep",
+    "no-packet-reaches-the-server",
+    "walks-through-a-file",
     "wrong-number",
     "wrong-first",
     "wrong-second",

@@ -260,6 +260,10 @@ fn refuted_text(alloc: Global, refutation: Refutation) -> Result<String, NoMemor
         Refutation::Unreachable => Ok(String::from_str(alloc, "unreachable without cause\n")?),
         Refutation::End => Ok(String::from_str(alloc, "ended otherwise\n")?),
         Refutation::Stall => Ok(String::from_str(alloc, "not stalled\n")?),
+        Refutation::Rule(rule) => {
+            let name = rule.name();
+            Ok(format!(in alloc; "breaks {name}\n")?)
+        }
     }
 }
 
