@@ -1,13 +1,14 @@
 //! Tries all that `sprite` is made of, one part after the other, and prints what comes of it (this project): the top call over sources and
-//! sinks that fail (`calls`), histories that it judges (`histories`), clusters that it runs (`clusters`), by threads whose bursts must meet
-//! (`meetings`) and by seeds (`seeds`); runs by chance (`chances`); and the judge of runs (`runs`). Their files lie in the folder that it
-//! is run in, in a folder for each part.
+//! sinks that fail (`calls`), histories that it judges (`histories`), clusters that it runs (`clusters`), the documents' too (`documents`), by
+//! threads whose bursts must meet (`meetings`) and by seeds (`seeds`); runs by chance (`chances`); and the judge of runs (`runs`). Their files
+//! lie in the folder that it is run in, in a folder for each part.
 #![tactic(auto)]
 
 mod calls;
 mod chance;
 mod chances;
 mod clusters;
+mod documents;
 mod files;
 mod histories;
 mod meetings;
@@ -35,6 +36,8 @@ fn print_all<R: Threads + Wait + Sync>(rt: &HostRuntime, threads: &R) -> io::Res
     histories::print_all(rt, threads)?;
     println!(rt; "=== clusters")?;
     clusters::print_all(rt, threads)?;
+    println!(rt; "=== documents")?;
+    documents::print_all(rt, threads)?;
     println!(rt; "=== meetings")?;
     meetings::print_meeting(rt, threads)?;
     println!(rt; "=== seeds")?;
