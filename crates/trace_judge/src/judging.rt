@@ -1,7 +1,8 @@
-ghost use Rattle.std.specs.Prelude.{◌≡◌, ◌≤◌, IfOk};
+ghost use Rattle.std.specs.Prelude.{◌≡◌, ◌≤◌, IfOk, true};
 ghost use Rattle.unix_calls.specs.Lawful.{Lawful};
 ghost use Rattle.one_kernel.specs.declared.Verdict.TheVariants.{Legal};
 ghost use Rattle.one_kernel.specs.Verdicts.{verdict_of};
+ghost use Rattle.call_journal.specs.Formed.{formed};
 ghost use Rattle.call_journal.specs.Journal.{journal_of};
 ghost use Rattle.trace_tables.specs.Ties.{ties_of};
 ghost use Rattle.write_rules.specs.Marks.{marks_of};
@@ -12,6 +13,7 @@ use crate::rule::Rule;
 use sharing_rules::{EntryFacts, cached_calls_use_held_blocks, tell_entries};
 use sprite_ids::NoMemory;
 use std::alloc::Global;
+use trace_forms::{formed, openings};
 use trace_rules::{
     fetches_are_of_absent_blocks, operations_go_out_uncached, prefixes_are_broadcast_until_learned,
 };
@@ -33,6 +35,9 @@ pub fn first_broken(
     requires legal { verdict_of c.now most (journal_of trace.now) ≡ Legal }
     ensures { IfOk result (λ broken. broken ≡ first_broken c.now trace.now) }
 {
+    if !is_formed(alloc, c, trace, most)? {
+        return Ok(Some(Rule::Formed));
+    }
     match tell(alloc, c, trace, most)? {
         Told::Legal(ties) => broken_tied(alloc, c, trace, most, ties.as_slice()),
         Told::NotLegal(_) => Ok(None),
@@ -40,7 +45,18 @@ pub fn first_broken(
     }
 }
 
-// The same, where it is told what each record's call goes by.
+// Whether its records are written as they should be.
+fn is_formed(alloc: Global, c: &Description, trace: &[Rec], most: u64) -> Result<bool, NoMemory>
+    requires lawful { Lawful c.now }
+    requires bound { most ≤ 40000000000 }
+    requires legal { verdict_of c.now most (journal_of trace.now) ≡ Legal }
+    ensures { IfOk result (λ kept. kept ≡ formed c.now trace.now) }
+{
+    let openings = openings(alloc, c, trace, most)?;
+    formed(alloc, c, trace, openings.as_slice())
+}
+
+// The same, where its records are, and where it is told what each record's call goes by.
 fn broken_tied(
     alloc: Global,
     c: &Description,
@@ -51,6 +67,7 @@ fn broken_tied(
     requires lawful { Lawful c.now }
     requires bound { most ≤ 40000000000 }
     requires legal { verdict_of c.now most (journal_of trace.now) ≡ Legal }
+    requires formed { formed c.now trace.now ≡ true }
     requires ties { ties.now ≡ ties_of c.now trace.now }
     ensures { IfOk result (λ broken. broken ≡ first_broken c.now trace.now) }
 {
@@ -72,6 +89,7 @@ fn broken_marked(
     requires lawful { Lawful c.now }
     requires bound { most ≤ 40000000000 }
     requires legal { verdict_of c.now most (journal_of trace.now) ≡ Legal }
+    requires formed { formed c.now trace.now ≡ true }
     requires ties { ties.now ≡ ties_of c.now trace.now }
     requires marks { marks.now ≡ marks_of c.now trace.now }
     ensures { IfOk result (λ broken. broken ≡ first_broken c.now trace.now) }
@@ -91,6 +109,7 @@ fn broken_told(
     marks: &[bool],
     facts: &[EntryFacts],
 ) -> Result<Option<Rule>, NoMemory>
+    requires formed { formed c.now trace.now ≡ true }
     requires ties { ties.now ≡ ties_of c.now trace.now }
     requires marks { marks.now ≡ marks_of c.now trace.now }
     requires facts { facts.now ≡ facts_of c.now trace.now }

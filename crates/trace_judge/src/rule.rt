@@ -4,6 +4,9 @@ ghost use Rattle.trace_judge.specs.Rules.{name_of};
 /// A rule of a trace (this project).
 #[derive(Clone, Copy, Debug, PartialEq, Eq)]
 pub enum Rule {
+    /// Records are written as they should be: each packet's record follows from those before it, and what a server says of an open, of
+    /// a callback and of an operation stands together (this project).
+    Formed,
     /// What is called in a cache uses blocks that are held there (Nelson, Welch and Ousterhout 1988).
     CachedCalls,
     /// Operations on a file go out to its server only uncached (Nelson, Welch and Ousterhout 1988).
@@ -24,6 +27,7 @@ impl Rule {
         ensures { result.now ≡ name_of self }
     {
         match self {
+            Rule::Formed => "formed",
             Rule::CachedCalls => "P2",
             Rule::Operations => "P3",
             Rule::Fetches => "P4",
