@@ -4,6 +4,8 @@
 #[cfg(test)]
 mod block_moves;
 #[cfg(test)]
+mod bursts;
+#[cfg(test)]
 mod deliveries;
 #[cfg(test)]
 mod forms;
