@@ -1,3 +1,4 @@
 pub mod TieLaws
 pub mod KnownLaws
+pub mod CallerLaws
 pub mod TellLaws

@@ -21,9 +21,12 @@ use Rattle.call_journal.specs.Past.{Past, tie_at, last_event, no_past, state_by,
 use Rattle.trace_tables.specs.declared.known.Known.{Known}
 use Rattle.trace_tables.specs.declared.telling.Taken.TheVariants as taken
 use Rattle.trace_tables.specs.declared.tied.Tied.{Tied}
+use Rattle.trace_tables.specs.declared.caller.Caller.{Caller}
+use Rattle.trace_tables.specs.Callers.{caller_at, caller_in, callers_from, callers_of}
 use Rattle.trace_tables.specs.Known.{made_at, asked_at, tied_in, file_tie, made_with, Makes, opened_by, Asks}
 use Rattle.trace_tables.specs.Ties.{tied_by, tied_at, ties_from, ties_of}
 use Rattle.trace_tables.specs.Told.{opened_last, Tells, Takes, Going}
+use Rattle.trace_tables.proofs.CallerLaws.{caller_told}
 use Rattle.trace_tables.proofs.KnownLaws.{event_told, last_more, asked_more, ties_more}
 
 -- ---- what is kept, one record later
@@ -73,33 +76,41 @@ ties_on c past rec rest trace ties tie is all =
     ∙ ap (λ t. ties ++ t ∷ ties_from c (past_with c rec past) rest) is
     ∙ all
 
-other_by : (c : Description) (most place cost : ℕ) (trace rest : List Rec) (rec : Rec) (world world_after : World) (ps ps_after : List Process) (known new : Known) (ties : List (Option Tied)) (going : Going c most trace (rec ∷ rest) place cost world ps known ties) → (past_with c rec going.past).unix ≡ going.past.unix → (past_with c rec going.past).ties ≡ going.past.ties → journal_of (rec ∷ rest) ≡ journal_of rest → world_after ≡ world → ps_after ≡ ps → Asks rec.event known new → Going c most trace rest place cost world_after ps_after new (ties ++ tied_in known world ps rec.event ∷ [])
-other_by c most place cost trace rest rec world world_after ps ps_after known new ties going unix same_ties journal world_stays ps_stay asks =
-    subst (λ (w : World). Going c most trace rest place cost w ps_after new (ties ++ tied_in known world ps rec.event ∷ [])) (sym world_stays)
-    (subst (λ (qs : List Process). Going c most trace rest place cost world qs new (ties ++ tied_in known world ps rec.event ∷ [])) (sym ps_stay)
+-- and the processes
+callers_on : (c : Description) (past : Past) (rec : Rec) (rest trace : List Rec) (callers : List Caller) (caller : Caller) → caller ≡ caller_at c past rec.event → callers ++ callers_from c past (rec ∷ rest) ≡ callers_of c trace → (callers ++ caller ∷ []) ++ callers_from c (past_with c rec past) rest ≡ callers_of c trace
+callers_on c past rec rest trace callers caller is each =
+    append_assoc callers (caller ∷ []) (callers_from c (past_with c rec past) rest)
+    ∙ ap (λ t. callers ++ t ∷ callers_from c (past_with c rec past) rest) is
+    ∙ each
+
+other_by : (c : Description) (most place cost : ℕ) (trace rest : List Rec) (rec : Rec) (world world_after : World) (ps ps_after : List Process) (known new : Known) (ties : List (Option Tied)) (callers : List Caller) (going : Going c most trace (rec ∷ rest) place cost world ps known ties callers) → (past_with c rec going.past).unix ≡ going.past.unix → (past_with c rec going.past).ties ≡ going.past.ties → journal_of (rec ∷ rest) ≡ journal_of rest → world_after ≡ world → ps_after ≡ ps → Asks rec.event known new → Going c most trace rest place cost world_after ps_after new (ties ++ tied_in known world ps rec.event ∷ []) (callers ++ caller_in c world ps (tied_in known world ps rec.event) rec.event ∷ [])
+other_by c most place cost trace rest rec world world_after ps ps_after known new ties callers going unix same_ties journal world_stays ps_stay asks =
+    subst (λ (w : World). Going c most trace rest place cost w ps_after new (ties ++ tied_in known world ps rec.event ∷ []) (callers ++ caller_in c world ps (tied_in known world ps rec.event) rec.event ∷ [])) (sym world_stays)
+    (subst (λ (qs : List Process). Going c most trace rest place cost world qs new (ties ++ tied_in known world ps rec.event ∷ []) (callers ++ caller_in c world ps (tied_in known world ps rec.event) rec.event ∷ [])) (sym ps_stay)
     (record {
       past = past_with c rec going.past;
       tells = told_other c world ps known new going.past rec going.tells unix same_ties asks;
       all = ties_on c going.past rec rest trace ties (tied_in known world ps rec.event) (event_told c world ps known going.past rec.event going.tells) going.all;
+      each = callers_on c going.past rec rest trace callers (caller_in c world ps (tied_in known world ps rec.event) rec.event) (caller_told c world ps going.past (tied_in known world ps rec.event) rec.event (event_told c world ps known going.past rec.event going.tells) going.tells.unix) going.each;
       verdict = sym (ap (verdict_from c most place cost (unix_of c world ps)) journal) ∙ going.verdict;
       within = going.within;
     }))
 
 -- behind a record that is no entry
-on_by : (c : Description) (most place cost kernel : ℕ) (trace rest : List Rec) (e : Event) (world world_after : World) (ps ps_after : List Process) (known new : Known) (ties : List (Option Tied)) → Going c most trace (record { kernel = kernel; event = e } ∷ rest) place cost world ps known ties → Takes c (most - cost) e world ps known taken.On world_after ps_after new → Going c most trace rest place cost world_after ps_after new (ties ++ tied_in known world ps e ∷ [])
-on_by c most place cost kernel trace rest (event.Enter entry) world world_after ps ps_after known new ties going takes = absurd takes
-on_by c most place cost kernel trace rest (event.Burst pid count) world world_after ps ps_after known new ties going takes =
-    other_by c most place cost trace rest (record { kernel = kernel; event = event.Burst pid count }) world world_after ps ps_after known new ties going refl refl refl takes.world_stays takes.processes_stay takes.asks
-on_by c most place cost kernel trace rest e world world_after ps ps_after known new ties going takes =
-    other_by c most place cost trace rest (record { kernel = kernel; event = e }) world world_after ps ps_after known new ties going refl refl refl takes.world_stays takes.processes_stay takes.asks
+on_by : (c : Description) (most place cost kernel : ℕ) (trace rest : List Rec) (e : Event) (world world_after : World) (ps ps_after : List Process) (known new : Known) (ties : List (Option Tied)) (callers : List Caller) → Going c most trace (record { kernel = kernel; event = e } ∷ rest) place cost world ps known ties callers → Takes c (most - cost) e world ps known taken.On world_after ps_after new → Going c most trace rest place cost world_after ps_after new (ties ++ tied_in known world ps e ∷ []) (callers ++ caller_in c world ps (tied_in known world ps e) e ∷ [])
+on_by c most place cost kernel trace rest (event.Enter entry) world world_after ps ps_after known new ties callers going takes = absurd takes
+on_by c most place cost kernel trace rest (event.Burst pid count) world world_after ps ps_after known new ties callers going takes =
+    other_by c most place cost trace rest (record { kernel = kernel; event = event.Burst pid count }) world world_after ps ps_after known new ties callers going refl refl refl takes.world_stays takes.processes_stay takes.asks
+on_by c most place cost kernel trace rest e world world_after ps ps_after known new ties callers going takes =
+    other_by c most place cost trace rest (record { kernel = kernel; event = e }) world world_after ps ps_after known new ties callers going refl refl refl takes.world_stays takes.processes_stay takes.asks
 
-pub goes_on : (c : Description) (most place cost : ℕ) (trace rest : List Rec) (rec : Rec) (world world_after : World) (ps ps_after : List Process) (known new : Known) (ties : List (Option Tied)) → Going c most trace (rec ∷ rest) place cost world ps known ties → Takes c (most - cost) rec.event world ps known taken.On world_after ps_after new → Going c most trace rest place cost world_after ps_after new (ties ++ tied_in known world ps rec.event ∷ [])
-goes_on c most place cost trace rest rec world world_after ps ps_after known new ties going takes =
-    on_by c most place cost rec.kernel trace rest rec.event world world_after ps ps_after known new ties going takes
+pub goes_on : (c : Description) (most place cost : ℕ) (trace rest : List Rec) (rec : Rec) (world world_after : World) (ps ps_after : List Process) (known new : Known) (ties : List (Option Tied)) (callers : List Caller) → Going c most trace (rec ∷ rest) place cost world ps known ties callers → Takes c (most - cost) rec.event world ps known taken.On world_after ps_after new → Going c most trace rest place cost world_after ps_after new (ties ++ tied_in known world ps rec.event ∷ []) (callers ++ caller_in c world ps (tied_in known world ps rec.event) rec.event ∷ [])
+goes_on c most place cost trace rest rec world world_after ps ps_after known new ties callers going takes =
+    on_by c most place cost rec.kernel trace rest rec.event world world_after ps ps_after known new ties callers going takes
 
 -- behind an entry that one kernel makes
-entry_by : (c : Description) (most place cost kernel way : ℕ) (trace rest : List Rec) (e : Event) (world world_after : World) (ps ps_after : List Process) (known new : Known) (ties : List (Option Tied)) → Going c most trace (record { kernel = kernel; event = e } ∷ rest) place cost world ps known ties → Takes c (most - cost) e world ps known (taken.Entered way) world_after ps_after new → Going c most trace rest (place + 1) (cost + way) world_after ps_after new (ties ++ tied_in known world ps e ∷ [])
-entry_by c most place cost kernel way trace rest (event.Enter entry) world world_after ps ps_after known new ties going takes =
+entry_by : (c : Description) (most place cost kernel way : ℕ) (trace rest : List Rec) (e : Event) (world world_after : World) (ps ps_after : List Process) (known new : Known) (ties : List (Option Tied)) (callers : List Caller) → Going c most trace (record { kernel = kernel; event = e } ∷ rest) place cost world ps known ties callers → Takes c (most - cost) e world ps known (taken.Entered way) world_after ps_after new → Going c most trace rest (place + 1) (cost + way) world_after ps_after new (ties ++ tied_in known world ps e ∷ []) (callers ++ caller_in c world ps (tied_in known world ps e) e ∷ [])
+entry_by c most place cost kernel way trace rest (event.Enter entry) world world_after ps ps_after known new ties callers going takes =
     let u = unix_of c world ps in
     let v = unix_of c world_after ps_after in
     let rec : Rec = record { kernel = kernel; event = event.Enter entry } in
@@ -112,48 +123,49 @@ entry_by c most place cost kernel way trace rest (event.Enter entry) world world
       past = past_with c rec going.past;
       tells = told_entry c world world_after ps ps_after known new going.past kernel entry going.tells applies.2 applies.3 takes.1;
       all = ties_on c going.past rec rest trace ties (tied_in known world ps (event.Enter entry)) (event_told c world ps known going.past (event.Enter entry) going.tells) going.all;
+      each = callers_on c going.past rec rest trace callers (caller_in c world ps (tied_in known world ps (event.Enter entry)) (event.Enter entry)) (caller_told c world ps going.past (tied_in known world ps (event.Enter entry)) (event.Enter entry) (event_told c world ps known going.past (event.Enter entry) going.tells) going.tells.unix) going.each;
       verdict = sym (check_made c most place cost way u v entry (journal_of rest) way_is few applies.2) ∙ going.verdict;
       within = few;
     }
-entry_by c most place cost kernel way trace rest (event.Burst pid count) world world_after ps ps_after known new ties going takes = let on = takes.on in absurd (cc (on))
-entry_by c most place cost kernel way trace rest e world world_after ps ps_after known new ties going takes = let on = takes.on in absurd (cc (on))
+entry_by c most place cost kernel way trace rest (event.Burst pid count) world world_after ps ps_after known new ties callers going takes = let on = takes.on in absurd (cc (on))
+entry_by c most place cost kernel way trace rest e world world_after ps ps_after known new ties callers going takes = let on = takes.on in absurd (cc (on))
 
-pub enters_on : (c : Description) (most place cost way : ℕ) (trace rest : List Rec) (rec : Rec) (world world_after : World) (ps ps_after : List Process) (known new : Known) (ties : List (Option Tied)) → Going c most trace (rec ∷ rest) place cost world ps known ties → Takes c (most - cost) rec.event world ps known (taken.Entered way) world_after ps_after new → Going c most trace rest (place + 1) (cost + way) world_after ps_after new (ties ++ tied_in known world ps rec.event ∷ [])
-enters_on c most place cost way trace rest rec world world_after ps ps_after known new ties going takes =
-    entry_by c most place cost rec.kernel way trace rest rec.event world world_after ps ps_after known new ties going takes
+pub enters_on : (c : Description) (most place cost way : ℕ) (trace rest : List Rec) (rec : Rec) (world world_after : World) (ps ps_after : List Process) (known new : Known) (ties : List (Option Tied)) (callers : List Caller) → Going c most trace (rec ∷ rest) place cost world ps known ties callers → Takes c (most - cost) rec.event world ps known (taken.Entered way) world_after ps_after new → Going c most trace rest (place + 1) (cost + way) world_after ps_after new (ties ++ tied_in known world ps rec.event ∷ []) (callers ++ caller_in c world ps (tied_in known world ps rec.event) rec.event ∷ [])
+enters_on c most place cost way trace rest rec world world_after ps ps_after known new ties callers going takes =
+    entry_by c most place cost rec.kernel way trace rest rec.event world world_after ps ps_after known new ties callers going takes
 
 -- at an entry that one kernel doesn't make
-not_by : (c : Description) (most place cost kernel : ℕ) (trace rest : List Rec) (e : Event) (world world_after : World) (ps ps_after : List Process) (known new : Known) (ties : List (Option Tied)) → Going c most trace (record { kernel = kernel; event = e } ∷ rest) place cost world ps known ties → Takes c (most - cost) e world ps known taken.NotMade world_after ps_after new → verdict_of c most (journal_of trace) ≡ verdict.NotLegal place
-not_by c most place cost kernel trace rest (event.Enter entry) world world_after ps ps_after known new ties going takes =
+not_by : (c : Description) (most place cost kernel : ℕ) (trace rest : List Rec) (e : Event) (world world_after : World) (ps ps_after : List Process) (known new : Known) (ties : List (Option Tied)) (callers : List Caller) → Going c most trace (record { kernel = kernel; event = e } ∷ rest) place cost world ps known ties callers → Takes c (most - cost) e world ps known taken.NotMade world_after ps_after new → verdict_of c most (journal_of trace) ≡ verdict.NotLegal place
+not_by c most place cost kernel trace rest (event.Enter entry) world world_after ps ps_after known new ties callers going takes =
     let u = unix_of c world ps in
     let short : way_of c u entry ≤ most - cost = takes.0 in
     let within = going.within in
     let few : cost + way_of c u entry ≤ most = omega (arith, short, within) in
     sym going.verdict ∙ check_not_made c most place cost u entry (journal_of rest) few takes.1
-not_by c most place cost kernel trace rest (event.Burst pid count) world world_after ps ps_after known new ties going takes = let on = takes.on in absurd (cc (on))
-not_by c most place cost kernel trace rest e world world_after ps ps_after known new ties going takes = let on = takes.on in absurd (cc (on))
+not_by c most place cost kernel trace rest (event.Burst pid count) world world_after ps ps_after known new ties callers going takes = let on = takes.on in absurd (cc (on))
+not_by c most place cost kernel trace rest e world world_after ps ps_after known new ties callers going takes = let on = takes.on in absurd (cc (on))
 
-pub is_not_made : (c : Description) (most place cost : ℕ) (trace rest : List Rec) (rec : Rec) (world world_after : World) (ps ps_after : List Process) (known new : Known) (ties : List (Option Tied)) → Going c most trace (rec ∷ rest) place cost world ps known ties → Takes c (most - cost) rec.event world ps known taken.NotMade world_after ps_after new → verdict_of c most (journal_of trace) ≡ verdict.NotLegal place
-is_not_made c most place cost trace rest rec world world_after ps ps_after known new ties going takes =
-    not_by c most place cost rec.kernel trace rest rec.event world world_after ps ps_after known new ties going takes
+pub is_not_made : (c : Description) (most place cost : ℕ) (trace rest : List Rec) (rec : Rec) (world world_after : World) (ps ps_after : List Process) (known new : Known) (ties : List (Option Tied)) (callers : List Caller) → Going c most trace (rec ∷ rest) place cost world ps known ties callers → Takes c (most - cost) rec.event world ps known taken.NotMade world_after ps_after new → verdict_of c most (journal_of trace) ≡ verdict.NotLegal place
+is_not_made c most place cost trace rest rec world world_after ps ps_after known new ties callers going takes =
+    not_by c most place cost rec.kernel trace rest rec.event world world_after ps ps_after known new ties callers going takes
 
 -- and at one that is too far
-far_by : (c : Description) (most place cost kernel : ℕ) (trace rest : List Rec) (e : Event) (world world_after : World) (ps ps_after : List Process) (known new : Known) (ties : List (Option Tied)) → Going c most trace (record { kernel = kernel; event = e } ∷ rest) place cost world ps known ties → Takes c (most - cost) e world ps known taken.Far world_after ps_after new → verdict_of c most (journal_of trace) ≡ verdict.Steps place
-far_by c most place cost kernel trace rest (event.Enter entry) world world_after ps ps_after known new ties going takes =
+far_by : (c : Description) (most place cost kernel : ℕ) (trace rest : List Rec) (e : Event) (world world_after : World) (ps ps_after : List Process) (known new : Known) (ties : List (Option Tied)) (callers : List Caller) → Going c most trace (record { kernel = kernel; event = e } ∷ rest) place cost world ps known ties callers → Takes c (most - cost) e world ps known taken.Far world_after ps_after new → verdict_of c most (journal_of trace) ≡ verdict.Steps place
+far_by c most place cost kernel trace rest (event.Enter entry) world world_after ps ps_after known new ties callers going takes =
     let u = unix_of c world ps in
     let long : most - cost < way_of c u entry = takes in
     let within = going.within in
     let far : most < cost + way_of c u entry = omega (arith, long, within) in
     sym going.verdict ∙ check_far c most place cost u entry (journal_of rest) far
-far_by c most place cost kernel trace rest (event.Burst pid count) world world_after ps ps_after known new ties going takes = let on = takes.on in absurd (cc (on))
-far_by c most place cost kernel trace rest e world world_after ps ps_after known new ties going takes = let on = takes.on in absurd (cc (on))
+far_by c most place cost kernel trace rest (event.Burst pid count) world world_after ps ps_after known new ties callers going takes = let on = takes.on in absurd (cc (on))
+far_by c most place cost kernel trace rest e world world_after ps ps_after known new ties callers going takes = let on = takes.on in absurd (cc (on))
 
-pub is_far : (c : Description) (most place cost : ℕ) (trace rest : List Rec) (rec : Rec) (world world_after : World) (ps ps_after : List Process) (known new : Known) (ties : List (Option Tied)) → Going c most trace (rec ∷ rest) place cost world ps known ties → Takes c (most - cost) rec.event world ps known taken.Far world_after ps_after new → verdict_of c most (journal_of trace) ≡ verdict.Steps place
-is_far c most place cost trace rest rec world world_after ps ps_after known new ties going takes =
-    far_by c most place cost rec.kernel trace rest rec.event world world_after ps ps_after known new ties going takes
+pub is_far : (c : Description) (most place cost : ℕ) (trace rest : List Rec) (rec : Rec) (world world_after : World) (ps ps_after : List Process) (known new : Known) (ties : List (Option Tied)) (callers : List Caller) → Going c most trace (rec ∷ rest) place cost world ps known ties callers → Takes c (most - cost) rec.event world ps known taken.Far world_after ps_after new → verdict_of c most (journal_of trace) ≡ verdict.Steps place
+is_far c most place cost trace rest rec world world_after ps ps_after known new ties callers going takes =
+    far_by c most place cost rec.kernel trace rest rec.event world world_after ps ps_after known new ties callers going takes
 
 -- before the first record
-pub begins : (c : Description) (most : ℕ) (trace : List Rec) (world : World) (ps : List Process) (known : Known) → unix_of c world ps ≡ boot_of c → Ascending ps → known.made.entries ≡ [] → known.asked.entries ≡ [] → known.opened ≡ None → Going c most trace trace 1 0 world ps known []
+pub begins : (c : Description) (most : ℕ) (trace : List Rec) (world : World) (ps : List Process) (known : Known) → unix_of c world ps ≡ boot_of c → Ascending ps → known.made.entries ≡ [] → known.asked.entries ≡ [] → known.opened ≡ None → Going c most trace trace 1 0 world ps known [] []
 begins c most trace world ps known boots ascends made asked opened = record {
   past = no_past c;
   tells = record {
@@ -164,17 +176,19 @@ begins c most trace world ps known boots ascends made asked opened = record {
     opened = opened;
   };
   all = refl;
+  each = refl;
   verdict = ap (λ u. verdict_from c most 1 0 u (journal_of trace)) boots;
   within = omega arith;
 }
 
 -- behind the last one
-pub ends : (c : Description) (most place cost : ℕ) (trace : List Rec) (world : World) (ps : List Process) (known : Known) (ties : List (Option Tied)) → Going c most trace [] place cost world ps known ties → (verdict_of c most (journal_of trace) ≡ verdict.Legal) × (ties ≡ ties_of c trace)
-ends c most place cost trace world ps known ties going = (sym going.verdict, sym (append-nil ties) ∙ going.all)
+pub ends : (c : Description) (most place cost : ℕ) (trace : List Rec) (world : World) (ps : List Process) (known : Known) (ties : List (Option Tied)) (callers : List Caller) → Going c most trace [] place cost world ps known ties callers → (verdict_of c most (journal_of trace) ≡ verdict.Legal) × (ties ≡ ties_of c trace) × (callers ≡ callers_of c trace)
+ends c most place cost trace world ps known ties callers going = (sym going.verdict, sym (append-nil ties) ∙ going.all, sym (append-nil callers) ∙ going.each)
 
--- the same, by other names of its numbers and ties
-pub going_at : (c : Description) (most : ℕ) (trace rest : List Rec) (place other_place cost other_cost : ℕ) (world : World) (ps : List Process) (known : Known) (ties others : List (Option Tied)) → place ≡ other_place → cost ≡ other_cost → ties ≡ others → Going c most trace rest other_place other_cost world ps known others → Going c most trace rest place cost world ps known ties
-going_at c most trace rest place other_place cost other_cost world ps known ties others place_is cost_is ties_are going =
-    subst (λ (n : ℕ). Going c most trace rest n cost world ps known ties) (sym place_is)
-    (subst (λ (n : ℕ). Going c most trace rest other_place n world ps known ties) (sym cost_is)
-    (subst (λ (ts : List (Option Tied)). Going c most trace rest other_place other_cost world ps known ts) (sym ties_are) going))
+-- the same, by other names of its numbers and lists
+pub going_at : (c : Description) (most : ℕ) (trace rest : List Rec) (place other_place cost other_cost : ℕ) (world : World) (ps : List Process) (known : Known) (ties other_ties : List (Option Tied)) (callers others : List Caller) → place ≡ other_place → cost ≡ other_cost → ties ≡ other_ties → callers ≡ others → Going c most trace rest other_place other_cost world ps known other_ties others → Going c most trace rest place cost world ps known ties callers
+going_at c most trace rest place other_place cost other_cost world ps known ties other_ties callers others place_is cost_is ties_are callers_are going =
+    subst (λ (n : ℕ). Going c most trace rest n cost world ps known ties callers) (sym place_is)
+    (subst (λ (n : ℕ). Going c most trace rest other_place n world ps known ties callers) (sym cost_is)
+    (subst (λ (ts : List (Option Tied)). Going c most trace rest other_place other_cost world ps known ts callers) (sym ties_are)
+    (subst (λ (cs : List Caller). Going c most trace rest other_place other_cost world ps known other_ties cs) (sym callers_are) going)))

@@ -1,3 +1,4 @@
 pub mod Ties
+pub mod Callers
 pub mod Known
 pub mod Told

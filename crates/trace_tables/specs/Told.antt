@@ -25,6 +25,10 @@ use Rattle.trace_tables.specs.declared.telling.Taken.{Taken}
 use Rattle.trace_tables.specs.declared.telling.Taken.TheVariants as taken
 use Rattle.trace_tables.specs.declared.telling.Told.{Told}
 use Rattle.trace_tables.specs.declared.telling.Told.TheVariants as told
+use Rattle.trace_tables.specs.declared.telling.ToldCallers.{ToldCallers}
+use Rattle.trace_tables.specs.declared.telling.ToldCallers.TheVariants as told_callers
+use Rattle.trace_tables.specs.declared.caller.Caller.{Caller}
+use Rattle.trace_tables.specs.Callers.{callers_from, callers_of}
 use Rattle.trace_tables.specs.Known.{made_at, asked_at, opened_by, Makes, Asks}
 use Rattle.trace_tables.specs.Ties.{tied_by, ties_from, ties_of}
 
@@ -45,6 +49,13 @@ abbrev pub TellsOf : Description → ℕ → List Rec → Told → Type 0
 TellsOf c most trace (told.Legal ties) = (verdict_of c most (journal_of trace) ≡ verdict.Legal) × (ties.items ≡ ties_of c trace)
 TellsOf c most trace (told.NotLegal n) = verdict_of c most (journal_of trace) ≡ verdict.NotLegal n
 TellsOf c most trace (told.Steps n) = verdict_of c most (journal_of trace) ≡ verdict.Steps n
+
+-- the same, with what the process of each record is
+abbrev pub TellsCallersOf : Description → ℕ → List Rec → ToldCallers → Type 0
+TellsCallersOf c most trace (told_callers.Legal ties callers) =
+    (verdict_of c most (journal_of trace) ≡ verdict.Legal) × (ties.items ≡ ties_of c trace) × (callers.items ≡ callers_of c trace)
+TellsCallersOf c most trace (told_callers.NotLegal n) = verdict_of c most (journal_of trace) ≡ verdict.NotLegal n
+TellsCallersOf c most trace (told_callers.Steps n) = verdict_of c most (journal_of trace) ≡ verdict.Steps n
 
 -- what became of an entry, and what is kept behind it
 abbrev pub TakesEntry : Description → ℕ → Entry → World → List Process → Known → Taken → World → List Process → Known → Type 0
@@ -70,9 +81,10 @@ Takes c left (event.Enter entry) world ps known is world_after ps_after known_af
 Takes c left e world ps known is world_after ps_after known_after = TakesOther e world ps known is world_after ps_after known_after
 
 -- a place before the rest of a trace, with what is told so far, at that number of the next entry and after so many instructions
-pub record Going (c : Description) (most : ℕ) (trace rest : List Rec) (place cost : ℕ) (world : World) (ps : List Process) (known : Known) (ties : List (Option Tied)) : Type 0 where
+pub record Going (c : Description) (most : ℕ) (trace rest : List Rec) (place cost : ℕ) (world : World) (ps : List Process) (known : Known) (ties : List (Option Tied)) (callers : List Caller) : Type 0 where
   pub past : Past
   pub tells : Tells c world ps known past
   pub all : ties ++ ties_from c past rest ≡ ties_of c trace
+  pub each : callers ++ callers_from c past rest ≡ callers_of c trace
   pub verdict : verdict_from c most place cost (unix_of c world ps) (journal_of rest) ≡ verdict_of c most (journal_of trace)
   pub within : cost ≤ most

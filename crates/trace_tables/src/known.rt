@@ -108,8 +108,8 @@ fn tied_for(known: &Known, world: &World, ps: &[Process], pid: Pid, fd: u64) -> 
     }
 }
 
-// The descriptor of a call that goes by one.
-fn descriptor_of(call: &Call) -> Option<u64>
+/// The descriptor of a call that goes by one.
+pub(crate) fn descriptor_of(call: &Call) -> Option<u64>
     ensures { result ≡ descriptor_of call.now }
 {
     match call {

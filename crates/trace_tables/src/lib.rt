@@ -2,9 +2,12 @@
 #![tactic(auto)]
 
 mod call_at;
+mod caller;
+mod calling;
 mod known;
 mod telling;
 mod tied;
 
-pub use telling::{Told, tell};
+pub use caller::Caller;
+pub use telling::{Told, ToldCallers, tell, tell_callers};
 pub use tied::Tied;

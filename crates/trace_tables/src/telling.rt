@@ -1,8 +1,12 @@
-ghost use Rattle.std.specs.Prelude.{◌≡◌, ◌≤◌, ◌+◌, IfOk};
+ghost use Rattle.std.specs.Prelude.{◌≡◌, ◌≤◌, ◌+◌, ◌∷◌, ◌++◌, [], IfOk, OnOk};
 ghost use Rattle.unix_calls.specs.Lawful.{Lawful};
 ghost use Rattle.unix_world.specs.Among.{Ascending};
-ghost use Rattle.trace_tables.specs.Told.{Takes, TakesEntry, TellsOf};
+ghost use Rattle.trace_tables.specs.Callers.{caller_in};
+ghost use Rattle.trace_tables.specs.Known.{tied_in};
+ghost use Rattle.trace_tables.specs.Told.{Takes, TakesEntry, TellsCallersOf, TellsOf};
 
+use crate::caller::Caller;
+use crate::calling::caller_in;
 use crate::known::{Known, keep_entry, keep_event, tied_in};
 use crate::tied::Tied;
 use one_kernel::{Applied, apply};
@@ -20,6 +24,17 @@ pub enum Told {
     NotLegal(u32),
     /// One Unix kernel gives the entries before this one, counted from 1, and its process's way to its call passes the bound of
     /// instructions.
+    Steps(u32),
+}
+
+/// The same, with what the process of each record is.
+#[derive(Drop)]
+pub enum ToldCallers {
+    /// One Unix kernel gives the journal; of each record, the file and the stream that its call goes by, and its process.
+    Legal(Vec<Option<Tied>>, Vec<Caller>),
+    /// As `Told` has it.
+    NotLegal(u32),
+    /// As `Told` has it.
     Steps(u32),
 }
 
@@ -46,13 +61,41 @@ pub fn tell(alloc: Global, c: &Description, trace: &[Rec], most: u64) -> Result<
     requires bound { most ≤ 40000000000 }
     ensures { IfOk result (TellsOf c.now most trace.now) }
 {
+    match tell_callers(alloc, c, trace, most)? {
+        ToldCallers::Legal(ties, _callers) => Ok(Told::Legal(ties)),
+        ToldCallers::NotLegal(place) => Ok(Told::NotLegal(place)),
+        ToldCallers::Steps(place) => Ok(Told::Steps(place)),
+    }
+}
+
+/// The same, and of each record what its process is then.
+pub fn tell_callers(
+    alloc: Global,
+    c: &Description,
+    trace: &[Rec],
+    most: u64,
+) -> Result<ToldCallers, NoMemory>
+    requires lawful { Lawful c.now }
+    requires bound { most ≤ 40000000000 }
+    ensures { IfOk result (TellsCallersOf c.now most trace.now) }
+{
     let (mut world, mut processes) = boot(alloc, c)?;
     let mut known = Known::new(alloc);
     let mut ties = Vec::new(alloc);
+    let mut callers = Vec::new(alloc);
     let mut cost: u64 = 0;
     let mut place: u32 = 1;
     for rec in trace {
-        ties.push(tied_in(&known, &world, processes.as_slice(), &rec.event))?;
+        keep(
+            alloc,
+            c,
+            &world,
+            processes.as_slice(),
+            &known,
+            &rec.event,
+            &mut ties,
+            &mut callers,
+        )?;
         match take(
             alloc,
             c,
@@ -67,11 +110,34 @@ pub fn tell(alloc: Global, c: &Description, trace: &[Rec], most: u64) -> Result<
                 cost += way;
                 place = next_place(place)?;
             }
-            Taken::NotMade => return Ok(Told::NotLegal(place)),
-            Taken::Far => return Ok(Told::Steps(place)),
+            Taken::NotMade => return Ok(ToldCallers::NotLegal(place)),
+            Taken::Far => return Ok(ToldCallers::Steps(place)),
         }
     }
-    Ok(Told::Legal(ties))
+    Ok(ToldCallers::Legal(ties, callers))
+}
+
+// Keeps what a record's call goes by and what its process is.
+fn keep(
+    alloc: Global,
+    c: &Description,
+    world: &World,
+    ps: &[Process],
+    known: &Known,
+    event: &Event,
+    ties: &mut Vec<Option<Tied>>,
+    callers: &mut Vec<Caller>,
+) -> Result<(), NoMemory>
+    requires lawful { Lawful c.now }
+    requires ascends { Ascending ps.now }
+    ensures ties { OnOk result (ties.new.items ≡ ties.old.items ++ tied_in known.now world.now ps.now event.now ∷ []) }
+    ensures callers { OnOk result (callers.new.items ≡ callers.old.items ++ caller_in c.now world.now ps.now (tied_in known.now world.now ps.now event.now) event.now ∷ []) }
+{
+    let tied = tied_in(known, world, ps, event);
+    let caller = caller_in(alloc, c, world, ps, &tied, event)?;
+    ties.push(tied)?;
+    callers.extend_from_slice(&[caller])?;
+    Ok(())
 }
 
 // The number of the next entry.

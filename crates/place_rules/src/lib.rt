@@ -1,0 +1,11 @@
+//! The rules of a trace on where entries are made and where processes run, each judged in one pass over its records (this project).
+#![tactic(auto)]
+
+mod call_at;
+mod entries;
+mod homes;
+mod judging;
+mod stand;
+mod whereabouts;
+
+pub use entries::entries_stand_at_their_kernels;
