@@ -7,6 +7,8 @@ pub enum Rule {
     /// Records are written as they should be: each packet's record follows from those before it, and what a server says of an open, of
     /// a callback and of an operation stands together (this project).
     Formed,
+    /// Entries stand at the kernels that do their calls (Welch and Ousterhout 1986; Welch 1986; Douglis and Ousterhout 1991).
+    Entries,
     /// What is called in a cache uses blocks that are held there (Nelson, Welch and Ousterhout 1988).
     CachedCalls,
     /// Operations on a file go out to its server only uncached (Nelson, Welch and Ousterhout 1988).
@@ -28,6 +30,7 @@ impl Rule {
     {
         match self {
             Rule::Formed => "formed",
+            Rule::Entries => "P1",
             Rule::CachedCalls => "P2",
             Rule::Operations => "P3",
             Rule::Fetches => "P4",
