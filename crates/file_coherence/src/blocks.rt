@@ -1,4 +1,5 @@
 ghost use Rattle.std.specs.Prelude.{◌≡◌, ◌==◌, ◌+◌, IfOk, OnOk, option_map, filter, map, not, is_some, is_none, if◌then◌else◌, [], ◌<◌, slice_set, slice_index_or, drop, ◌++◌, ◌∷◌, List, length};
+ghost use Rattle.file_views.specs.Setting.{sprite_setting};
 ghost use Rattle.file_views.specs.Contents.{zeros};
 ghost use Rattle.file_views.specs.Clients.{held, without_block, with_block, cleaned, pieces, blocks_after, blocks_filled, blocks_written_back, same_number, held_bytes, joined, block_written, blocks_written};
 ghost use Rattle.file_coherence.specs.Parts.{clean_one};
@@ -66,6 +67,18 @@ pub(crate) fn pieces(
         add_piece(alloc, limits, size, one, &mut dirty)?;
     }
     Ok(dirty)
+}
+
+/// The dirty ones of a client's blocks, each cut at the client's size. The one error is want of memory.
+pub fn dirty_pieces(
+    alloc: Global,
+    size: usize,
+    blocks: &[Held],
+) -> Result<Items<(BlockNo, Bytes)>, NoMemory>
+    ensures { IfOk result (λ dirty. dirty ≡ pieces sprite_setting size blocks.now) }
+{
+    let limits = Limits::sprite();
+    pieces(alloc, &limits, size, blocks)
 }
 
 fn add_piece(

@@ -16,4 +16,8 @@ mod steps;
 mod streams;
 mod views;
 
-pub use one_file::OneFile;
+pub use blocks::dirty_pieces;
+pub use one_file::{OneFile, new_view, play_step};
+pub use possible::{has_room, is_named};
+pub use serving::store_pieces;
+pub use views::last_given;

@@ -30,11 +30,18 @@ impl Limits {
     pub(crate) fn sprite() -> Limits
         ensures { result ≡ sprite_setting }
     {
+        Limits::caching(true)
+    }
+
+    // The same, with clients that may cache the file or may not.
+    pub(crate) fn caching(cached: bool) -> Limits
+        ensures { result ≡ record sprite_setting { cached = cached } }
+    {
         Limits {
             block: 4096,
             most: 262_144,
             moved: 16_384,
-            cached: true,
+            cached,
         }
     }
 

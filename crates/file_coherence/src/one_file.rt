@@ -97,6 +97,24 @@ impl OneFile {
     }
 }
 
+/// Plays one step on a view, sound or not, in a cluster whose clients may cache the file, or may not: a step that is possible is done,
+/// and any other changes nothing. What took effect is added to `noted`. The one error is want of memory, and then the view is as
+/// before.
+pub fn play_step(
+    alloc: Global,
+    cached: bool,
+    view: &mut View,
+    step: &FileStep,
+    noted: &mut Items<Entered>,
+) -> Result<(), NoMemory>
+    ensures ok { OnOk result (view.new ≡ stepped (record sprite_setting { cached = cached }) view.old step.now) }
+    ensures err { OnErr result (view.new ≡ view.old) }
+    ensures entered { OnOk result (noted.new ≡ noted.old ++ entered (record sprite_setting { cached = cached }) view.old step.now) }
+{
+    let limits = Limits::caching(cached);
+    play_one(alloc, &limits, view, step, noted)
+}
+
 // Plays the steps.
 fn play_all(alloc: Global, view: &mut View, steps: &[FileStep]) -> Result<Items<Entered>, NoMemory>
     ensures view { OnOk result (view.new ≡ played sprite_setting view.old steps.now) }
@@ -148,7 +166,8 @@ fn next_view(
     Ok(Some(next))
 }
 
-fn new_view(alloc: Global, kernels: usize, bytes: Bytes) -> Result<View, NoMemory>
+/// A view of a file that nobody has opened, with these first bytes, in a cluster of so many clients. The one error is want of memory.
+pub fn new_view(alloc: Global, kernels: usize, bytes: Bytes) -> Result<View, NoMemory>
     ensures { IfOk result (λ view. view ≡ new_view kernels bytes) }
 {
     let mut view = empty_view(alloc, bytes);

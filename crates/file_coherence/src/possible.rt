@@ -33,8 +33,8 @@ fn dirty_counts_fit(clients: &[Client]) -> bool
     clients.iter().all(|client| client.count <= u64::from(TOP))
 }
 
-// Whether no number of the view is over it.
-fn has_room(view: &View) -> bool
+/// Whether no number of the view is over 2,000,000,000, the most with which a step is possible.
+pub fn has_room(view: &View) -> bool
     ensures { result ≡ has_room view.now }
 {
     let counts = counts_fit(view.opens.as_slice());
@@ -144,8 +144,8 @@ fn any_names(stream: &StreamNo, clients: &[Client]) -> bool
     clients.iter().any(|client| names(stream, client))
 }
 
-// Whether anything in the view names the stream.
-fn is_named(view: &View, stream: &StreamNo) -> bool
+/// Whether anything in the view names the stream.
+pub fn is_named(view: &View, stream: &StreamNo) -> bool
     ensures { result ≡ is_named view.now stream.now }
 {
     let shared = has_stream(stream, view.shared.as_slice());

@@ -1,5 +1,6 @@
 ghost use Rattle.std.specs.Prelude.{◌≡◌, ◌++◌, ◌&&◌, IfOk, OnOk, filter, ◌∷◌, []};
 ghost use Rattle.std.specs.List.{list_any};
+ghost use Rattle.file_views.specs.Setting.{sprite_setting};
 ghost use Rattle.file_views.specs.Views.{busy, waiting_calls, answer, server};
 ghost use Rattle.file_views.specs.Streams.{same_stream};
 ghost use Rattle.file_views.specs.Serving.{still_shared, with_opens, close, bytes_after, op_reply, data_op, block_of, store, refuse_old, serve_body, serve, serve_all, request_comes, store_blocks, holder_answered, flushed, resume, resumed, callback_answered};
@@ -387,6 +388,19 @@ fn store_blocks(
         put_block(alloc, limits, bytes, number, size, piece.1.as_slice())?;
     }
     Ok(())
+}
+
+/// Stores blocks in the server's bytes, which then have at least that size. The one error is want of memory.
+pub fn store_pieces(
+    alloc: Global,
+    bytes: &mut Bytes,
+    size: usize,
+    pieces: &[(BlockNo, Bytes)],
+) -> Result<(), NoMemory>
+    ensures { OnOk result (bytes.new ≡ store_blocks sprite_setting bytes.old size pieces.now) }
+{
+    let limits = Limits::sprite();
+    store_blocks(alloc, &limits, bytes, size, pieces)
 }
 
 // A kernel that answers a callback is the holder no more.

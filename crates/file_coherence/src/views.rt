@@ -132,8 +132,8 @@ fn last_stamp(stamps: &[u32]) -> u32
     last
 }
 
-// The stamp given last: it is the current one of the kernel that got it.
-pub(crate) fn last_given(view: &View) -> u32
+/// The stamp given last: it is the current one of the kernel that got it.
+pub fn last_given(view: &View) -> u32
     ensures { result ≡ last_stamp view.now }
 {
     last_stamp(view.stamps.as_slice())
