@@ -1,10 +1,10 @@
 ghost use Rattle.unix_calls.specs.Lawful.{Lawful};
 
-use trace_bursts::bursts_are_worth;
 use cluster_file::read_description;
 use sprite_ids::NoMemory;
 use std::alloc::Global;
 use std::test::Fail;
+use trace_bursts::bursts_are_worth;
 use trace_tables::{Told, tell};
 use trace_text::read_trace;
 use unix_calls::{Description, Rec};

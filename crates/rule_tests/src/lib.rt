@@ -10,6 +10,8 @@ mod deliveries;
 #[cfg(test)]
 mod forms;
 #[cfg(test)]
+mod places;
+#[cfg(test)]
 mod sharing;
 #[cfg(test)]
 mod tests;
