@@ -1,0 +1,8 @@
+use Rattle.std.proofs.Common.{◌≡◌, ◌+◌, drop, count_by}
+use Rattle.call_journal.specs.Matching.{has_event}
+use Rattle.call_journal.specs.WorthSends.{is_occasion}
+use Rattle.send_worth.proofs.free_sends.occasions.Given as goal
+
+-- those so far, and those of the rest, are all
+abbrev pub invariant-loop-rec : goal.invariant-loop-rec
+invariant-loop-rec l = l.count + count_by (has_event is_occasion) (drop l.rec-index l.trace) ≡ count_by (has_event is_occasion) l.fn.trace
