@@ -1,10 +1,11 @@
-//! One value that threads take in turns, by itself (this project): two threads write into one book, each under its own number, and the
-//! book comes back with all that they wrote. Docs/BUILDERS.md says what `turn_gate` promises.
+//! One value that threads take in turns, by itself (this project): two threads write into one ledger, each under its own number, and the
+//! ledger comes back with all that they wrote, and with its sum. Docs/BUILDERS.md says what `turn_gate` promises.
 #![tactic(auto)]
 
-ghost use Rattle.std.specs.Prelude.{◌≡◌, All, map};
+ghost use Rattle.std.specs.Prelude.{◌≡◌, ◌+◌, All, map};
 ghost use Rattle.turn_gate.specs.Steps.{Grows, Later};
 ghost use Rattle.turn_gate.specs.Ended.{IsAll};
+ghost use Rattle.example_turn_gate.specs.Sums.{sum_of};
 
 use std::alloc::Global;
 use std::sync::Wait;
@@ -12,58 +13,71 @@ use std::thread::Threads;
 use std::{io, thread};
 use turn_gate::{Book, Gate, Seat};
 
-/// Numbered lines under one title, each with the seat that wrote it.
+/// Amounts, each with the seat that wrote it, behind one that the ledger opened with; and what they all come to.
 #[derive(Drop)]
 struct Ledger {
-    title: u32,
-    lines: Vec<(u8, u32)>,
+    opening: u64,
+    amounts: Vec<(u8, u32)>,
+    sum: u64,
 }
 
 impl Book for Ledger {
-    type Origin = u32;
+    type Origin = u64;
 
     type Item = u32;
 
-    ghost origin = { λ s. s.title };
+    ghost origin = { λ l. l.opening };
 
-    ghost holds = { λ s. s.title ≡ 7 };
+    ghost holds = { λ l. l.sum ≡ l.opening + sum_of l.amounts.items };
 
-    ghost log = { λ s. s.lines.items };
+    ghost log = { λ l. l.amounts.items };
 
     fn length(&self) -> u64 {
-        self.lines.len() as u64
+        self.amounts.len() as u64
     }
 }
 
 impl Ledger {
-    // Writes a line, where there is memory for it.
-    fn write(&mut self, seat: u8, line: u32)
-        ensures title { self.new.title ≡ self.old.title }
-        ensures lines { Grows seat self.old.lines.items self.new.lines.items }
+    // Writes an amount, where there is memory for it and the sum stays below 2^64.
+    fn write(&mut self, seat: u8, amount: u32)
+        requires { self.old.sum ≡ self.old.opening + sum_of self.old.amounts.items }
+        ensures opening { self.new.opening ≡ self.old.opening }
+        ensures summed { self.new.sum ≡ self.new.opening + sum_of self.new.amounts.items }
+        ensures amounts { Grows seat self.old.amounts.items self.new.amounts.items }
     {
-        let _ = self.lines.push((seat, line));
+        let Some(sum) = self.sum.checked_add(u64::from(amount)) else {
+            return;
+        };
+        if self.amounts.push((seat, amount)).is_ok() {
+            self.sum = sum;
+        }
     }
 }
 
 fn main(rt: HostRuntime) -> io::Result<()> {
     let ledger = written(&rt, rt.alloc());
-    println!(rt; "{} lines under title {}", ledger.lines.len(), ledger.title)?;
+    println!(rt;
+        "{} amounts, and {} in all",
+        ledger.amounts.len(),
+        ledger.sum
+    )?;
     for seat in 1..3 {
         println!(rt;
             "of seat {seat} in order: {}",
-            in_order(&ledger.lines, seat)
+            in_order(&ledger.amounts, seat)
         )?;
     }
     Ok(())
 }
 
-/// A ledger into which two threads write, a hundred lines each.
+/// A ledger into which two threads write, a hundred amounts each.
 fn written<R: Threads + Wait + Sync>(rt: &R, alloc: Global) -> Ledger
-    ensures { result.title ≡ 7 }
+    ensures { result.sum ≡ result.opening + sum_of result.amounts.items }
 {
     let ledger = Ledger {
-        title: 7,
-        lines: Vec::new(alloc),
+        opening: 7,
+        amounts: Vec::new(alloc),
+        sum: 7,
     };
     match Gate::start(alloc, ledger, 2) {
         Err(ledger) => ledger,
@@ -96,39 +110,39 @@ fn write_both<R: Threads + Wait + Sync>(
     };
     let (first, second) = thread::join(
         rt,
-        || write_lines(rt, gate, first),
-        || write_lines(rt, gate, second),
+        || write_amounts(rt, gate, first),
+        || write_amounts(rt, gate, second),
     );
     seats.push_reserved(first);
     seats.push_reserved(second);
     seats
 }
 
-/// A hundred turns of the seat, each with its number as a line.
-fn write_lines<R: Wait>(rt: &R, gate: &Gate<Ledger>, seat: Seat<Ledger>) -> Seat<Ledger>
+/// A hundred turns of the seat, each with its number as an amount.
+fn write_amounts<R: Wait>(rt: &R, gate: &Gate<Ledger>, seat: Seat<Ledger>) -> Seat<Ledger>
     requires { seat.token.table_id ≡ gate.now.table.shared.table_id }
     ensures table { result.token.table_id ≡ seat.token.table_id }
     ensures later { Later seat.token.me.0 result.token.me.0 }
 {
     let mut seat = seat;
-    for line in 0..100 {
+    for amount in 0..100 {
         let mut turn = gate.take(rt, seat);
         let number = turn.number();
-        turn.value.write(number, line);
+        turn.value.write(number, amount);
         seat = gate.put(turn);
     }
     seat
 }
 
-/// Whether the lines of the seat are 0, 1, 2 and so on.
-fn in_order(lines: &[(u8, u32)], seat: u8) -> bool {
+/// Whether the amounts of the seat are 0, 1, 2 and so on.
+fn in_order(amounts: &[(u8, u32)], seat: u8) -> bool {
     let mut next = 0;
-    for line in lines {
-        if line.0 == seat {
-            if line.1 != next {
+    for amount in amounts {
+        if amount.0 == seat {
+            if amount.1 != next {
                 return false;
             }
-            next = line.1.saturating_add(1);
+            next = amount.1.saturating_add(1);
         }
     }
     true
