@@ -310,7 +310,7 @@ first_more : (s w : Bool) → (s ≡ true → w ≡ false) → one_if (cond s tr
 first_more true w f = let e = ap one_if (f refl) in omega (arith, e)
 first_more false w f = omega arith
 
-same_turned : (a b : ℕ) → (a == b) ≡ (b == a)
+pub same_turned : (a b : ℕ) → (a == b) ≡ (b == a)
 same_turned a b = both_true (a == b) (b == a) (λ e. eq-eqb b a (sym (eqb-true a b e))) (λ e. eq-eqb a b (sym (eqb-true b a e)))
 
 turned : (a b : ℕ) (p : Bool) → (a == b && p) ≡ (p && b == a)

@@ -32,7 +32,8 @@ pub(crate) struct Packets {
     pub(crate) slots: IndexMap<Slot, Pair>,
 }
 
-fn no_packets(alloc: Global) -> Packets
+/// Nothing so far.
+pub(crate) fn no_packets(alloc: Global) -> Packets
     ensures packets { result.packets.entries ≡ [] }
     ensures faults { result.faults.entries ≡ [] }
     ensures resends { result.resends.entries ≡ [] }

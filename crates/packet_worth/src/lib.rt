@@ -4,7 +4,9 @@
 mod counts;
 mod deliveries;
 mod faults;
+mod losses;
 mod pairs;
 
 pub use deliveries::deliveries_are_few;
 pub use faults::faults_are_few;
+pub use losses::losses_are_met;
