@@ -9,6 +9,8 @@ use Rattle.sprite_ids.specs.declared.Errno.TheVariants.{NoProcess}
 use Rattle.sprite_ids.specs.declared.FileId.{FileId}
 use Rattle.sprite_ids.specs.declared.TxNo.{TxNo}
 use Rattle.sprite_ids.specs.Lists.{less, without}
+use Rattle.kernel_steps.specs.declared.Input.{Input}
+use Rattle.kernel_steps.specs.declared.Input.TheVariants.{Replied}
 use Rattle.kernel_steps.specs.Rows.{is_under}
 use Rattle.process_machine.specs.declared.Call.{Call}
 use Rattle.process_machine.specs.declared.Reply.{Reply}
@@ -83,13 +85,16 @@ nothing = record { process = Nothing }
 abbrev pub holds : Held → Hand → Hand
 holds held h = record h { process = held }
 
--- steps as a whole, and what the files' side does
-pub record KeepsFiles (F P : ClientProcs → Hand → Type 0) : Type 0 where
+-- steps as a whole
+pub record KeepsSteps (F P : ClientProcs → Hand → Type 0) : Type 0 where
   pub begins : (s : ClientProcs) (h : Hand) (next : TxNo) (step : ℕ) → F s h → P s h → P (stepping.begins_step next step s) h
   pub ends_step : (s : ClientProcs) (h : Hand) → F s (holds Nothing h) → P s (holds Nothing h) → P (stepping.ends_step s) (holds Nothing h)
+
+-- what the files' side does, where that input came
+pub record KeepsFiles (came : Input) (F P : ClientProcs → Hand → Type 0) : Type 0 where
   pub uses_files : (s : ClientProcs) (h : Hand) (about : About) (call : Call) (device : Option DeviceId) → F s (holds Nothing h) → P s (holds Nothing h) → P (issuing_calls.uses_files about call device s) (holds Nothing h)
   pub called_back : (s : ClientProcs) (h : Hand) (tx : TxNo) (request : CallbackRequest) → F s (holds Nothing h) → P s (holds Nothing h) → P (record s { files = file_grants.called_back tx request s.files }) (holds Nothing h)
-  pub answered : (s : ClientProcs) (h : Hand) (tx : TxNo) (source : ℕ) (body : ReplyBody) → tables_of_files.owns tx s.files ≡ true → F s (holds Nothing h) → P s (holds Nothing h) → P (record s { files = file_answers.answered tx source body s.files }) (holds Nothing h)
+  pub answered : (s : ClientProcs) (h : Hand) (tx : TxNo) (source : ℕ) (body : ReplyBody) → came ≡ Replied tx source body → tables_of_files.owns tx s.files ≡ true → F s (holds Nothing h) → P s (holds Nothing h) → P (record s { files = file_answers.answered tx source body s.files }) (holds Nothing h)
   pub gives_up : (s : ClientProcs) (h : Hand) (tx : TxNo) → F s (holds Nothing h) → P s (holds Nothing h) → P (record s { files = name_answers.gives_up tx s.files }) (holds Nothing h)
   pub due_goes : (s : ClientProcs) (h : Hand) (file : FileId) (block : BlockNo) → F s (holds Nothing h) → P s (holds Nothing h) → P (record s { files = write_backs.due_goes file block s.files }) (holds Nothing h)
   pub goes_on : (s : ClientProcs) (h : Hand) → turning.is_quiet s ≡ false → F s (holds Nothing h) → P s (holds Nothing h) → P (record s { files = file_turns.goes_on s.files }) (holds Nothing h)
@@ -192,15 +197,20 @@ pub record KeepsComings (F P : ClientProcs → Hand → Type 0) : Type 0 where
   pub is_ready : (s : ClientProcs) (h : Hand) (pid : ℕ) → F s (holds Nothing h) → P s (holds Nothing h) → P (procs_of.in_state pid states.Ready s) (holds Nothing h)
   pub fetches_for_answer : (s : ClientProcs) (h : Hand) (pid page : ℕ) (reply : Reply) → F s (holds Nothing h) → P s (holds Nothing h) → P (paging.fetches_for_answer pid page reply s) (holds Nothing h)
 
--- all of these
-pub record Keeps (F P : ClientProcs → Hand → Type 0) : Type 0 where
-  pub files : KeepsFiles F P
+-- all that is done within a step, where that input came
+pub record KeepsWithin (came : Input) (F P : ClientProcs → Hand → Type 0) : Type 0 where
+  pub files : KeepsFiles came F P
   pub calls : KeepsCalls F P
   pub homes : KeepsHomes F P
   pub kills : KeepsKills F P
   pub devices : KeepsDevices F P
   pub moves : KeepsMoves F P
   pub comings : KeepsComings F P
+
+-- all of these
+pub record Keeps (F P : ClientProcs → Hand → Type 0) : Type 0 where
+  pub steps : KeepsSteps F P
+  pub within : (came : Input) → KeepsWithin came F P
 
 -- what is always so
 abbrev pub Always : ClientProcs → Hand → Type 0

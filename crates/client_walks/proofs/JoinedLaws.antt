@@ -1,14 +1,19 @@
 -- Two facts, of which the second leans on the first.
+use Rattle.kernel_steps.specs.declared.Input.{Input}
 use Rattle.client_homes.specs.declared.client.ClientProcs.{ClientProcs}
-use Rattle.client_walks.proofs.Deeds.{Always, Both, Hand, Keeps, KeepsCalls, KeepsComings, KeepsDevices, KeepsFiles, KeepsHomes, KeepsKills, KeepsMoves}
+use Rattle.client_walks.proofs.Deeds.{Always, Both, Hand, Keeps, KeepsCalls, KeepsComings, KeepsDevices, KeepsFiles, KeepsHomes, KeepsKills, KeepsMoves, KeepsSteps, KeepsWithin}
 
-joined_files : (F P : ClientProcs → Hand → Type 0) → KeepsFiles Always F → KeepsFiles F P → KeepsFiles Always (Both F P)
-joined_files F P f p = record {
+joined_steps : (F P : ClientProcs → Hand → Type 0) → KeepsSteps Always F → KeepsSteps F P → KeepsSteps Always (Both F P)
+joined_steps F P f p = record {
   begins = λ s h next step u k. (f.begins s h next step u k.0, p.begins s h next step k.0 k.1);
   ends_step = λ s h u k. (f.ends_step s h u k.0, p.ends_step s h k.0 k.1);
+}
+
+joined_files : (came : Input) (F P : ClientProcs → Hand → Type 0) → KeepsFiles came Always F → KeepsFiles came F P → KeepsFiles came Always (Both F P)
+joined_files came F P f p = record {
   uses_files = λ s h about call device u k. (f.uses_files s h about call device u k.0, p.uses_files s h about call device k.0 k.1);
   called_back = λ s h tx request u k. (f.called_back s h tx request u k.0, p.called_back s h tx request k.0 k.1);
-  answered = λ s h tx source body e0 u k. (f.answered s h tx source body e0 u k.0, p.answered s h tx source body e0 k.0 k.1);
+  answered = λ s h tx source body e0 e1 u k. (f.answered s h tx source body e0 e1 u k.0, p.answered s h tx source body e0 e1 k.0 k.1);
   gives_up = λ s h tx u k. (f.gives_up s h tx u k.0, p.gives_up s h tx k.0 k.1);
   due_goes = λ s h file block u k. (f.due_goes s h file block u k.0, p.due_goes s h file block k.0 k.1);
   goes_on = λ s h e0 u k. (f.goes_on s h e0 u k.0, p.goes_on s h e0 k.0 k.1);
@@ -113,10 +118,10 @@ joined_comings F P f p = record {
   fetches_for_answer = λ s h pid page reply u k. (f.fetches_for_answer s h pid page reply u k.0, p.fetches_for_answer s h pid page reply k.0 k.1);
 }
 
--- a fact that is kept where another one is so, and that one: both are kept
-pub joined : (F P : ClientProcs → Hand → Type 0) → Keeps Always F → Keeps F P → Keeps Always (Both F P)
-joined F P f p = record {
-  files = joined_files F P f.files p.files;
+-- a fact that is kept within a step where another one is so, and that one: both are kept within it
+pub joined_within : (came : Input) (F P : ClientProcs → Hand → Type 0) → KeepsWithin came Always F → KeepsWithin came F P → KeepsWithin came Always (Both F P)
+joined_within came F P f p = record {
+  files = joined_files came F P f.files p.files;
   calls = joined_calls F P f.calls p.calls;
   homes = joined_homes F P f.homes p.homes;
   kills = joined_kills F P f.kills p.kills;
@@ -124,3 +129,7 @@ joined F P f p = record {
   moves = joined_moves F P f.moves p.moves;
   comings = joined_comings F P f.comings p.comings;
 }
+
+-- and by steps as a whole
+pub joined : (F P : ClientProcs → Hand → Type 0) → Keeps Always F → Keeps F P → Keeps Always (Both F P)
+joined F P f p = record { steps = joined_steps F P f.steps p.steps; within = λ came. joined_within came F P (f.within came) (p.within came) }

@@ -10,6 +10,7 @@ use Rattle.sprite_ids.specs.declared.Errno.TheVariants as errnos
 use Rattle.sprite_ids.specs.declared.TxNo.{TxNo}
 use Rattle.sprite_ids.specs.Lists.{less, without}
 use Rattle.sprite_ids.specs.Pid.{home_of}
+use Rattle.kernel_steps.specs.declared.Input.{Input}
 use Rattle.kernel_steps.specs.Rows.{first_under, is_under}
 use Rattle.process_machine.specs.declared.Reply.{Reply}
 use Rattle.process_machine.specs.declared.Reply.TheVariants.{Value, Error}
@@ -60,7 +61,7 @@ use Rattle.client_procs.specs.Issues as issuing_calls
 use Rattle.client_procs.specs.Launching as launching
 use Rattle.client_facts.proofs.ComingLaws.{not_false}
 use Rattle.client_walks.specs.Hands.{Held, Nothing, Holding, hand_of}
-use Rattle.client_walks.proofs.Deeds.{Hand, Keeps, KeepsCalls, KeepsComings, KeepsDevices, KeepsFiles, KeepsHomes, KeepsKills, KeepsMoves}
+use Rattle.client_walks.proofs.Deeds.{Hand, Keeps, KeepsCalls, KeepsComings, KeepsDevices, KeepsFiles, KeepsHomes, KeepsKills, KeepsMoves, KeepsSteps}
 use Rattle.client_walks.proofs.RowLaws.{less_same, removed_same}
 use Rattle.client_walks.proofs.Spots.{KeepsSpots, Spots, spots_of}
 
@@ -249,13 +250,14 @@ module _ (F : ClientProcs → Hand → Type 0) (Q : Spots → Held → Type 0) (
 
   -- The deeds
 
-  files : KeepsFiles F Holds
-  files = record {
-    begins = λ s h next step f p. p;
-    ends_step = λ s h f p. p;
+  steps : KeepsSteps F Holds
+  steps = record { begins = λ s h next step f p. p; ends_step = λ s h f p. p }
+
+  files : (came : Input) → KeepsFiles came F Holds
+  files came = record {
     uses_files = λ s h about call device f p. state_kept Nothing about.pid states.InFiles s p;
     called_back = λ s h tx request f p. p;
-    answered = λ s h tx source body e f p. p;
+    answered = λ s h tx source body e g f p. p;
     gives_up = λ s h tx f p. p;
     due_goes = λ s h file block f p. p;
     goes_on = λ s h e f p. p;
@@ -370,4 +372,7 @@ module _ (F : ClientProcs → Hand → Type 0) (Q : Spots → Held → Type 0) (
   }
 
   pub by_spots : Keeps F Holds
-  by_spots = record { files = files; calls = calls; homes = homes_kept; kills = kills_kept; devices = devices; moves = moves; comings = comings }
+  by_spots = record {
+    steps = steps;
+    within = λ came. record { files = files came; calls = calls; homes = homes_kept; kills = kills_kept; devices = devices; moves = moves; comings = comings };
+  }

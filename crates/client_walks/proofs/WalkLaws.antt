@@ -97,9 +97,9 @@ use Rattle.client_procs.specs.Steps.{client_step}
 use Rattle.client_procs.specs.Turning as turning
 use Rattle.client_facts.proofs.PlaceLaws.{by_bool}
 use Rattle.client_walks.specs.Hands.{Nothing, Coming, Holding, brought, child_heard, coming_if, forked, hand_of, heard}
-use Rattle.client_walks.proofs.Deeds.{Always, Hand, Keeps, holds}
+use Rattle.client_walks.proofs.Deeds.{Always, Hand, Keeps, KeepsWithin, holds}
 
-module _ (P : ClientProcs → Hand → Type 0) (keeps : Keeps Always P) (h : Hand) where
+module _ (P : ClientProcs → Hand → Type 0) (came : Input) (keeps : KeepsWithin came Always P) (h : Hand) where
   -- no process is in hand
   abbrev At : ClientProcs → Type 0
   At s = P s (holds Nothing h)
@@ -717,19 +717,23 @@ module _ (P : ClientProcs → Hand → Type 0) (keeps : Keeps Always P) (h : Han
   call_taken (Some (unfinished.Home pid)) tx body s p = keeps.calls.takes_call s (holds (heard (Some (unfinished.Home pid)) body s) h) tx tt p
   call_taken (Some call) tx body s p = keeps.calls.takes_call s (holds Nothing h) tx tt p
 
-  replied : (b : Bool) (tx : TxNo) (source : ℕ) (body : ReplyBody) (s : ClientProcs) → owns tx s.files ≡ b → P s (holds (cond b Nothing (heard (first_under procs_of.is_call tx s.unfinished) body s)) h) → At (cond b (says.with_files (file_answers.answered tx source body s.files) s) (hearing.hears_own tx body s))
-  replied true tx source body s e p = keeps.files.answered s h tx source body e tt p
-  replied false tx source body s e p =
+  -- an answer to a remote call of the processes' side
+  pub heard_own : (tx : TxNo) (body : ReplyBody) (s : ClientProcs) → P s (holds (heard (first_under procs_of.is_call tx s.unfinished) body s) h) → At (hearing.hears_own tx body s)
+  heard_own tx body s p =
       let call = first_under procs_of.is_call tx s.unfinished in
       heard_if call tx body (record s { unfinished = less (is_under procs_of.is_call tx) s.unfinished }) (call_taken call tx body s p)
 
-  taken : (input : Input) (s : ClientProcs) → P s (holds (brought input s) h) → At (stepping.takes input s)
-  taken (inputs.Issued pid number call) s p = issued (about_of pid number) call s p
-  taken (inputs.Request tx source body) s p = served body tx s p
-  taken (inputs.Replied tx source body) s p = replied (owns tx s.files) tx source body s refl p
-  taken (inputs.GaveUp tx) s p = keeps.files.gives_up s h tx tt p
-  taken (inputs.Due file block) s p = keeps.files.due_goes s h file block tt p
-  taken (inputs.PageNeeded pid page) s p = page_needed pid page s p
+  replied : (b : Bool) (tx : TxNo) (source : ℕ) (body : ReplyBody) (s : ClientProcs) → came ≡ inputs.Replied tx source body → owns tx s.files ≡ b → P s (holds (cond b Nothing (heard (first_under procs_of.is_call tx s.unfinished) body s)) h) → At (cond b (says.with_files (file_answers.answered tx source body s.files) s) (hearing.hears_own tx body s))
+  replied true tx source body s is e p = keeps.files.answered s h tx source body is e tt p
+  replied false tx source body s is e p = heard_own tx body s p
+
+  taken : (input : Input) (s : ClientProcs) → came ≡ input → P s (holds (brought input s) h) → At (stepping.takes input s)
+  taken (inputs.Issued pid number call) s is p = issued (about_of pid number) call s p
+  taken (inputs.Request tx source body) s is p = served body tx s p
+  taken (inputs.Replied tx source body) s is p = replied (owns tx s.files) tx source body s is refl p
+  taken (inputs.GaveUp tx) s is p = keeps.files.gives_up s h tx tt p
+  taken (inputs.Due file block) s is p = keeps.files.due_goes s h file block tt p
+  taken (inputs.PageNeeded pid page) s is p = page_needed pid page s p
 
   -- Rounds
 
@@ -766,25 +770,33 @@ module _ (P : ClientProcs → Hand → Type 0) (keeps : Keeps Always P) (h : Han
   rounds zero s p = p
   rounds (suc count) s p = turned (turning.turns count s) (rounds count s p)
 
+  -- what each deed within a step keeps, all rounds of it keep
+  pub rounds_keep : (s : ClientProcs) → At s → At (turning.goes_on s)
+  rounds_keep s p = rounds (turning.rounds_for s) s p
+
+  -- and all that it does, from its beginning to its end, with what its input brings in hand at first
+  pub within_keeps : (s : ClientProcs) → P s (holds (brought came s) h) → At (turning.goes_on (stepping.takes came s))
+  within_keeps s p = rounds_keep (stepping.takes came s) (taken came s refl p)
+
+module _ (P : ClientProcs → Hand → Type 0) (keeps : Keeps Always P) (h : Hand) where
   -- A step
 
   begun_heard : (b : Bool) (o : Option Unfinished) (body : ReplyBody) (s : ClientProcs) (next : TxNo) (step : ℕ) → P s (holds (cond b Nothing (heard o body s)) h) → P (stepping.begins_step next step s) (holds (cond b Nothing (heard o body (stepping.begins_step next step s))) h)
-  begun_heard true o body s next step p = keeps.files.begins s (holds Nothing h) next step tt p
-  begun_heard false (Some (unfinished.Home pid)) body s next step p = keeps.files.begins s (holds (heard (Some (unfinished.Home pid)) body s) h) next step tt p
-  begun_heard false (Some call) body s next step p = keeps.files.begins s (holds Nothing h) next step tt p
-  begun_heard false None body s next step p = keeps.files.begins s (holds Nothing h) next step tt p
+  begun_heard true o body s next step p = keeps.steps.begins s (holds Nothing h) next step tt p
+  begun_heard false (Some (unfinished.Home pid)) body s next step p = keeps.steps.begins s (holds (heard (Some (unfinished.Home pid)) body s) h) next step tt p
+  begun_heard false (Some call) body s next step p = keeps.steps.begins s (holds Nothing h) next step tt p
+  begun_heard false None body s next step p = keeps.steps.begins s (holds Nothing h) next step tt p
 
   begun_step : (input : Input) (s : ClientProcs) (next : TxNo) (step : ℕ) → P s (holds (brought input s) h) → P (stepping.begins_step next step s) (holds (brought input (stepping.begins_step next step s)) h)
-  begun_step (inputs.Issued pid number call) s next step p = keeps.files.begins s (holds Nothing h) next step tt p
-  begun_step (inputs.Request tx source body) s next step p = keeps.files.begins s (holds (coming_if (arriving.brought body)) h) next step tt p
+  begun_step (inputs.Issued pid number call) s next step p = keeps.steps.begins s (holds Nothing h) next step tt p
+  begun_step (inputs.Request tx source body) s next step p = keeps.steps.begins s (holds (coming_if (arriving.brought body)) h) next step tt p
   begun_step (inputs.Replied tx source body) s next step p = begun_heard (owns tx s.files) (first_under procs_of.is_call tx s.unfinished) body s next step p
-  begun_step (inputs.GaveUp tx) s next step p = keeps.files.begins s (holds Nothing h) next step tt p
-  begun_step (inputs.Due file block) s next step p = keeps.files.begins s (holds Nothing h) next step tt p
-  begun_step (inputs.PageNeeded pid page) s next step p = keeps.files.begins s (holds Nothing h) next step tt p
+  begun_step (inputs.GaveUp tx) s next step p = keeps.steps.begins s (holds Nothing h) next step tt p
+  begun_step (inputs.Due file block) s next step p = keeps.steps.begins s (holds Nothing h) next step tt p
+  begun_step (inputs.PageNeeded pid page) s next step p = keeps.steps.begins s (holds Nothing h) next step tt p
 
   -- what each deed keeps, each step does, with what its input brings in hand at first
   pub step_keeps : (s : ClientProcs) (input : Input) (next : TxNo) (step : ℕ) → P s (holds (brought input s) h) → P (client_step s input next step).0 (holds Nothing h)
   step_keeps s input next step p =
       let begun : ClientProcs = stepping.begins_step next step s in
-      let come : ClientProcs = stepping.takes input begun in
-      keeps.files.ends_step (turning.goes_on come) h tt (rounds (turning.rounds_for come) come (taken input begun (begun_step input s next step p)))
+      keeps.steps.ends_step (turning.goes_on (stepping.takes input begun)) h tt (within_keeps P input (keeps.within input) h begun (begun_step input s next step p))

@@ -1,0 +1,151 @@
+-- What each step of a kernel tells of prefixes.
+use Rattle.std.proofs.Common.{◌≡◌, ℕ, Bool, true, false, cond, List, [], ◌∷◌, ◌++◌, Option, Some, None, option_map, refl, sym, ap, ◌∙◌, append-nil}
+use Rattle.std.specs.List.{list_any}
+use Rattle.sprite_ids.specs.declared.TxNo.{TxNo}
+use Rattle.process_machine.specs.Machine.{Machine}
+use Rattle.packet_bodies.specs.declared.ReplyBody.{ReplyBody}
+use Rattle.kernel_steps.specs.declared.Input.{Input}
+use Rattle.kernel_steps.specs.declared.Input.TheVariants as inputs
+use Rattle.kernel_steps.specs.Rows.{is_under}
+use Rattle.unix_calls.specs.declared.Description.{Description}
+use Rattle.unix_calls.specs.declared.Event.{Event}
+use Rattle.unix_calls.specs.declared.Event.TheVariants as events
+use Rattle.unix_calls.specs.declared.SendKind.TheVariants as sendings
+use Rattle.prefix_table.specs.declared.prefixes.Domain.{Domain}
+use Rattle.prefix_table.specs.Prefixes.{domain, knows, learned}
+use Rattle.server_kernel.specs.declared.Server.{Server}
+use Rattle.server_kernel.specs.Steps as server_steps
+use Rattle.client_file_tables.specs.declared.client_files.ClientFiles.{ClientFiles}
+use Rattle.client_file_tables.specs.declared.names.NameWork.{NameWork}
+use Rattle.client_file_tables.specs.declared.pending.Pending.{Pending}
+use Rattle.client_file_tables.specs.declared.pending.Pending.TheVariants as operations
+use Rattle.client_file_tables.specs.declared.states.NameState.{NameState}
+use Rattle.client_file_tables.specs.declared.states.NameState.TheVariants as name_states
+use Rattle.client_file_tables.specs.Rows.{first_call, first_of, less_call, less_of, same_call}
+use Rattle.client_file_tables.specs.Says as says
+use Rattle.client_file_tables.specs.Says.{about_of}
+use Rattle.client_file_tables.specs.Steps.{owns}
+use Rattle.client_names.specs.Lookups as lookups
+use Rattle.client_streams.specs.Closing.{closed_at_server}
+use Rattle.client_files.specs.Answered as answering
+use Rattle.client_files.specs.Asked as asked
+use Rattle.client_homes.specs.declared.client.ClientProcs.{ClientProcs}
+use Rattle.client_homes.specs.declared.process.Proc.{Proc}
+use Rattle.client_homes.specs.Procs.{proc_at, with_proc}
+use Rattle.client_homes.specs.Says.{with_files}
+use Rattle.client_procs.specs.Answered.{hears_own}
+use Rattle.client_procs.specs.Boot.{boots}
+use Rattle.client_procs.specs.Readers.{with_image}
+use Rattle.client_procs.specs.Steps.{begins_step, client_step, takes}
+use Rattle.client_procs.specs.Turning.{goes_on}
+use Rattle.prefix_laws.specs.Prefixes.{LearnsSo, learned_by_call, learned_by_operation, learned_by_process, learned_from, learned_from_answer, learned_in}
+use Rattle.prefix_laws.proofs.Bearing.{Bears, learned_so, learning}
+use Rattle.prefix_laws.proofs.DataBearing as data_side
+use Rattle.prefix_laws.proofs.NameBearing as files_side
+use Rattle.prefix_laws.proofs.ServerBearing.{server_takes}
+use Rattle.prefix_laws.proofs.StepBearing.{goes, heard, rounds}
+use Rattle.prefix_laws.proofs.TellsLaws.{learned_append, learns_nothing}
+
+-- ---- what is known grows by what is told
+
+pub clients_learn : (s : ClientProcs) (input : Input) (next : TxNo) (step : ℕ) → LearnsSo s.files.prefixes (client_step s input next step).0.files.prefixes (client_step s input next step).1.events
+clients_learn s input next step =
+    let bears : Bears (λ known told. LearnsSo s.files.prefixes known told) = learning s.files.prefixes in
+    goes (λ known told. LearnsSo s.files.prefixes known told) bears.telling input (λ tx source body t e q. files_side.answered (λ known told. LearnsSo s.files.prefixes known told) bears tx source body t q) (begins_step next step s) (learns_nothing s.files.prefixes)
+
+pub clients_begin : (c : Description) (kernel : ℕ) → (boots c kernel).files.prefixes ≡ []
+clients_begin c kernel = refl
+
+image_leaves : (o : Option Proc) (s : ClientProcs) (pid : ℕ) (f : Proc → Proc) → (with_proc pid (option_map f o) s).files.prefixes ≡ s.files.prefixes
+image_leaves None s pid f = refl
+image_leaves (Some proc) s pid f = refl
+
+pub images_leave : (s : ClientProcs) (pid : ℕ) (image : Machine) → (with_image pid image s).files.prefixes ≡ s.files.prefixes
+images_leave s pid image = image_leaves (proc_at pid s) s pid (λ proc. record proc { image = image })
+
+pub servers_learn : (s : Server) (input : Input) (next : TxNo) → LearnsSo [] [] (server_steps.server_step s input next).1.events
+servers_learn s input next = server_takes (λ told. LearnsSo [] [] told) (λ told event h q. (learning []).telling.tells [] told event h q) input (server_steps.begins next s) (learns_nothing [])
+
+-- ---- which steps learn
+
+module _ (domains : List Domain) where
+  -- so much was learned
+  abbrev Told : ClientFiles → List Domain → Type 0
+  Told s more = learned_in s.out.events ≡ domains ++ more
+
+  abbrev Q : List Domain → List Event → Type 0
+  Q known told = learned_in told ≡ domains
+
+  no_more : (s : ClientFiles) → Q s.prefixes s.out.events → Told s []
+  no_more s q = q ∙ sym (append-nil domains)
+
+  learns_by : (b : Bool) (prefix : List (List ℕ)) (server : ℕ) (s : ClientFiles) → Q s.prefixes s.out.events → Told (cond b s (says.notes (events.Learned prefix server) (record s { prefixes = learned s.prefixes prefix server }))) (cond b [] (domain prefix server ∷ []))
+  learns_by true prefix server s q = no_more s q
+  learns_by false prefix server s q = learned_append s.out.events (events.Learned prefix server ∷ []) ∙ ap (λ (ds : List Domain). ds ++ domain prefix server ∷ []) q
+
+  call_learns : (state : NameState) (pid : ℕ) (work : NameWork) (source : ℕ) (body : ReplyBody) (s : ClientFiles) → Q s.prefixes s.out.events → Told (asked.answers_name_by state pid work source body s) (learned_by_call state source s.prefixes)
+  call_learns (name_states.Broadcasting tx prefix) pid work source body s q =
+      let more : List Domain = learned_by_call (name_states.Broadcasting tx prefix) source s.prefixes in
+      files_side.looks_up (λ known told. learned_in told ≡ domains ++ more) (learned_so (domains ++ more)) pid work (lookups.learns prefix source s) (learns_by (knows s.prefixes prefix) prefix source s q)
+  call_learns (name_states.Echoing tx server) pid work source body s q =
+      no_more (asked.answers_name_by (name_states.Echoing tx server) pid work source body s) (data_side.sent Q (learned_so domains) server (Some (about_of pid work.number)) sendings.Other s refl q)
+  call_learns (name_states.Asking tx) pid work source body s q =
+      no_more (asked.answers_name_by (name_states.Asking tx) pid work source body s) (files_side.ends_asked Q (learned_so domains) body pid work s q)
+
+  operation_learns : (o : Option Pending) (pid source : ℕ) (body : ReplyBody) (s : ClientFiles) → Q s.prefixes s.out.events → Told (answering.answered_by o pid source body s) (learned_by_operation o source s.prefixes)
+  operation_learns (Some (operations.Name call)) pid source body s q = call_learns call.state pid call.work source body s q
+  operation_learns (Some (operations.Data call)) pid source body s q = no_more (answering.answered_by (Some (operations.Data call)) pid source body s) (data_side.answered_in Q (learned_so domains) call.state pid call body s q)
+  operation_learns (Some (operations.Sync call)) pid source body s q = no_more s q
+  operation_learns (Some (operations.Close work)) pid source body s q = no_more (answering.answered_by (Some (operations.Close work)) pid source body s) (data_side.close_answers Q (learned_so domains) (closed_at_server work.state) pid work s q)
+  operation_learns (Some (operations.Move work)) pid source body s q = no_more (answering.answered_by (Some (operations.Move work)) pid source body s) (files_side.answers_move Q (learned_so domains) body pid work s q)
+  operation_learns None pid source body s q = no_more s q
+
+  process_learns : (o : Option ℕ) (source : ℕ) (body : ReplyBody) (s : ClientFiles) → Q s.prefixes s.out.events → Told (answering.answered_first o source body s) (learned_by_process o source s.pending s.prefixes)
+  process_learns (Some pid) source body s q = operation_learns (first_of pid s.pending) pid source body (record s { pending = less_of pid s.pending }) q
+  process_learns None source body s q = no_more s q
+
+  answer_by : (b : Bool) (tx : TxNo) (source : ℕ) (body : ReplyBody) (s t : ClientFiles) → Q t.prefixes t.out.events → Q s.prefixes s.out.events → Told (cond b t (answering.answered_first (first_call tx s.txs) source body (record s { txs = less_call tx s.txs }))) (cond b [] (learned_by_process (first_call tx s.txs) source s.pending s.prefixes))
+  answer_by true tx source body s t back q = no_more t back
+  answer_by false tx source body s t back q = process_learns (first_call tx s.txs) source body (record s { txs = less_call tx s.txs }) q
+
+  pub answer_learns : (tx : TxNo) (source : ℕ) (body : ReplyBody) (s : ClientFiles) → learned_in s.out.events ≡ domains → learned_in (answering.answered tx source body s).out.events ≡ domains ++ learned_from_answer tx source s
+  answer_learns tx source body s q = answer_by (list_any (is_under same_call tx) s.write_backs) tx source body s _ (data_side.written_back Q (learned_so domains) tx body s q) q
+
+-- no answer to a remote call of the files' side comes by another input
+abbrev Apart : Input → Type 0
+Apart input = (tx : TxNo) (source : ℕ) (body : ReplyBody) → input ≡ inputs.Replied tx source body → ⊥
+
+goes_apart : (input : Input) → Apart input → (s : ClientProcs) → learned_in s.files.out.events ≡ [] → learned_in (goes_on (takes input s)).files.out.events ≡ []
+goes_apart input apart s q = goes (λ known told. learned_in told ≡ []) (learned_so []) input (λ tx source body t e p. absurd (apart tx source body e)) s q
+
+-- the rounds of a step have no such answer
+no_call : TxNo
+no_call = record { 0 = 0 }
+
+due_apart : Apart (inputs.GaveUp no_call)
+due_apart tx source body e = absurd (cc)
+
+rounds_so : (domains : List Domain) (s : ClientProcs) → learned_in s.files.out.events ≡ domains → learned_in (goes_on s).files.out.events ≡ domains
+rounds_so domains s q = rounds (λ known told. learned_in told ≡ domains) (learned_so domains) (inputs.GaveUp no_call) (λ tx source body t e p. absurd (due_apart tx source body e)) s q
+
+heard_so : (tx : TxNo) (body : ReplyBody) (s : ClientProcs) → learned_in s.files.out.events ≡ [] → learned_in (hears_own tx body s).files.out.events ≡ []
+heard_so tx body s q = heard (λ known told. learned_in told ≡ []) (learned_so []) (inputs.GaveUp no_call) (λ tx source body t e p. absurd (due_apart tx source body e)) tx body s q
+
+replied_so : (b : Bool) (tx : TxNo) (source : ℕ) (body : ReplyBody) (s : ClientProcs) → learned_in s.files.out.events ≡ [] → learned_in (goes_on (cond b (with_files (answering.answered tx source body s.files) s) (hears_own tx body s))).files.out.events ≡ cond b (learned_from_answer tx source s.files) []
+replied_so true tx source body s q = rounds_so (learned_from_answer tx source s.files) (with_files (answering.answered tx source body s.files) s) (answer_learns [] tx source body s.files q)
+replied_so false tx source body s q = rounds_so [] (hears_own tx body s) (heard_so tx body s q)
+
+taken_so : (input : Input) (s : ClientProcs) → learned_in s.files.out.events ≡ [] → learned_in (goes_on (takes input s)).files.out.events ≡ learned_from input s.files
+taken_so (inputs.Replied tx source body) s q = replied_so (owns tx s.files) tx source body s q
+taken_so (inputs.Issued pid number call) s q = goes_apart (inputs.Issued pid number call) (λ tx source body e. absurd (cc)) s q
+taken_so (inputs.Request tx source body) s q = goes_apart (inputs.Request tx source body) (λ other from reply e. absurd (cc)) s q
+taken_so (inputs.GaveUp tx) s q = goes_apart (inputs.GaveUp tx) (λ other source body e. absurd (cc)) s q
+taken_so (inputs.Due file block) s q = goes_apart (inputs.Due file block) (λ tx source body e. absurd (cc)) s q
+taken_so (inputs.PageNeeded pid page) s q = goes_apart (inputs.PageNeeded pid page) (λ tx source body e. absurd (cc)) s q
+
+pub clients_answered : (s : ClientProcs) (input : Input) (next : TxNo) (step : ℕ) → learned_in (client_step s input next step).1.events ≡ learned_from input s.files
+clients_answered s input next step = begun_same input s next step (taken_so input (begins_step next step s) refl)
+  where
+    begun_same : (input : Input) (s : ClientProcs) (next : TxNo) (step : ℕ) → learned_in (client_step s input next step).1.events ≡ learned_from input (begins_step next step s).files → learned_in (client_step s input next step).1.events ≡ learned_from input s.files
+    begun_same (inputs.Replied tx source body) s next step h = h
+    begun_same input s next step h = h
