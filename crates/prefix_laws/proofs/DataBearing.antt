@@ -1,5 +1,5 @@
 -- The files' side of a client's kernel, but for names: no deed of it changes which prefixes are known, or tells of any.
-use Rattle.std.proofs.Common.{◌≡◌, ℕ, zero, suc, ◌+◌, nat_lt, Bool, true, false, ◌&&◌, not, cond, List, [], ◌∷◌, ◌++◌, Option, Some, None, refl}
+use Rattle.std.proofs.Common.{◌≡◌, ℕ, zero, suc, ◌+◌, Bool, true, false, cond, List, [], ◌∷◌, ◌++◌, Option, Some, None, refl}
 use Rattle.std.specs.List.{list_any}
 use Rattle.sprite_ids.specs.declared.BlockNo.{BlockNo}
 use Rattle.sprite_ids.specs.declared.CallKind.{CallKind}
@@ -17,7 +17,7 @@ use Rattle.packet_bodies.specs.declared.CallbackRequest.{CallbackRequest}
 use Rattle.packet_bodies.specs.declared.ReplyBody.{ReplyBody}
 use Rattle.packet_bodies.specs.declared.ReplyBody.TheVariants as bodies
 use Rattle.packet_bodies.specs.declared.ValueReply.{ValueReply}
-use Rattle.kernel_steps.specs.Rows.{is_row, is_under}
+use Rattle.kernel_steps.specs.Rows.{is_under}
 use Rattle.unix_calls.specs.declared.About.{About}
 use Rattle.unix_calls.specs.declared.DropCause.{DropCause}
 use Rattle.unix_calls.specs.declared.DropCause.TheVariants as causes
@@ -86,7 +86,6 @@ use Rattle.client_data.specs.Grants as grants
 use Rattle.client_data.specs.Looks as looking
 use Rattle.client_data.specs.Plans.{plan_of}
 use Rattle.client_data.specs.Replies as replied
-use Rattle.client_data.specs.ServerOps as server_ops
 use Rattle.client_data.specs.Sync as syncing
 use Rattle.client_data.specs.SyncAnswers as synced
 use Rattle.client_data.specs.WriteBacks as written

@@ -1,18 +1,13 @@
 -- A server's kernel tells nothing of prefixes: what bears that such things are told, each deed of it keeps, and so each step.
-use Rattle.std.proofs.Common.{◌≡◌, ℕ, zero, suc, ◌+◌, nat_lt, Bool, true, false, ◌&&◌, not, cond, List, [], ◌∷◌, ◌++◌, length, Option, Some, None, is_some, Result, Ok, Err, refl}
+use Rattle.std.proofs.Common.{◌≡◌, ℕ, zero, suc, ◌+◌, nat_lt, Bool, true, false, ◌&&◌, cond, List, [], ◌∷◌, ◌++◌, length, Option, Some, None, is_some, Result, Ok, Err, refl}
 use Rattle.std.specs.List.{list_any}
 use Rattle.sprite_ids.specs.declared.BlockNo.{BlockNo}
-use Rattle.sprite_ids.specs.declared.DeviceId.{DeviceId}
-use Rattle.sprite_ids.specs.declared.Errno.{Errno}
-use Rattle.sprite_ids.specs.declared.Errno.TheVariants as errno
 use Rattle.sprite_ids.specs.declared.FileId.{FileId}
 use Rattle.sprite_ids.specs.declared.Grant.{Grant}
 use Rattle.sprite_ids.specs.declared.Mode.{Mode}
 use Rattle.sprite_ids.specs.declared.StreamNo.{StreamNo}
 use Rattle.sprite_ids.specs.declared.TxNo.{TxNo}
 use Rattle.sprite_ids.specs.Lists.{less}
-use Rattle.process_machine.specs.declared.Call.{Call}
-use Rattle.process_machine.specs.declared.Reply.{Reply}
 use Rattle.packet_bodies.specs.declared.CloseRequest.{CloseRequest}
 use Rattle.packet_bodies.specs.declared.FileOp.{FileOp}
 use Rattle.packet_bodies.specs.declared.FileOp.TheVariants as file_ops

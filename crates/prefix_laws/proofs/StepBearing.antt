@@ -1,6 +1,5 @@
 -- All deeds of a client's kernel: what a fact of known prefixes and of what was told bears, each of them keeps, and so each step.
-use Rattle.std.proofs.Common.{◌≡◌, ℕ, ◌+◌, ◌==◌, nat_lt, Bool, true, false, not, cond, List, [], ◌∷◌, ◌++◌, length, Option, Some, None, option_map, refl}
-use Rattle.std.specs.List.{list_any, position}
+use Rattle.std.proofs.Common.{◌≡◌, ℕ, Bool, true, false, cond, List, [], ◌∷◌, ◌++◌, Option, Some, None, option_map, refl}
 use Rattle.sprite_ids.specs.declared.Errno.{Errno}
 use Rattle.sprite_ids.specs.declared.Errno.TheVariants as errnos
 use Rattle.sprite_ids.specs.declared.TxNo.{TxNo}
@@ -39,7 +38,6 @@ use Rattle.client_homes.specs.Calls as calling
 use Rattle.client_homes.specs.Ends as ending
 use Rattle.client_homes.specs.Homes as homes
 use Rattle.client_homes.specs.Issuing as issuing
-use Rattle.client_homes.specs.Kills as kills
 use Rattle.client_homes.specs.Pages as pages
 use Rattle.client_homes.specs.Procs as procs_of
 use Rattle.client_homes.specs.Says as says
@@ -54,12 +52,11 @@ use Rattle.client_moves.specs.Freezing as freezing
 use Rattle.client_moves.specs.Paging as paging
 use Rattle.client_moves.specs.Returning as returning
 use Rattle.client_procs.specs.Answered as answering
-use Rattle.client_procs.specs.Arriving as arriving
 use Rattle.client_procs.specs.Issues as issuing_calls
 use Rattle.client_procs.specs.Launching as launching
 use Rattle.client_procs.specs.Steps as stepping
 use Rattle.client_procs.specs.Turning as turning
-use Rattle.client_walks.proofs.Deeds.{Always, Hand, KeepsCalls, KeepsComings, KeepsDevices, KeepsFiles, KeepsHomes, KeepsKills, KeepsMoves, KeepsWithin, holds, nothing}
+use Rattle.client_walks.proofs.Deeds.{Always, Hand, KeepsCalls, KeepsComings, KeepsDevices, KeepsFiles, KeepsHomes, KeepsKills, KeepsMoves, KeepsWithin, nothing}
 use Rattle.client_walks.proofs.WalkLaws.{heard_own, rounds_keep, within_keeps}
 use Rattle.prefix_laws.specs.Prefixes.{is_other}
 use Rattle.prefix_laws.proofs.Bearing.{BearsTelling}

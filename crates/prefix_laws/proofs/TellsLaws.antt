@@ -1,5 +1,5 @@
 -- What some events tell of prefixes, one behind the other.
-use Rattle.std.proofs.Common.{◌≡◌, ℕ, Bool, true, false, not, cond, List, [], ◌∷◌, ◌++◌, map, Option, refl, sym, ap, subst, ◌∙◌, append_assoc, append-nil}
+use Rattle.std.proofs.Common.{◌≡◌, ℕ, true, false, not, List, [], ◌∷◌, ◌++◌, map, Option, refl, sym, ap, subst, ◌∙◌, append_assoc, append-nil}
 use Rattle.sprite_ids.specs.declared.TxNo.{TxNo}
 use Rattle.kernel_steps.specs.Outs.{send_event}
 use Rattle.unix_calls.specs.declared.About.{About}

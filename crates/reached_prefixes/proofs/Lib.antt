@@ -1,0 +1,4 @@
+pub mod FaultLaws
+pub mod TraceLaws
+pub mod TurnLaws
+pub mod KnownLaws
