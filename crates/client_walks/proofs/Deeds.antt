@@ -10,7 +10,7 @@ use Rattle.sprite_ids.specs.declared.FileId.{FileId}
 use Rattle.sprite_ids.specs.declared.TxNo.{TxNo}
 use Rattle.sprite_ids.specs.Lists.{less, without}
 use Rattle.kernel_steps.specs.declared.Input.{Input}
-use Rattle.kernel_steps.specs.declared.Input.TheVariants.{Replied}
+use Rattle.kernel_steps.specs.declared.Input.TheVariants as inputs
 use Rattle.kernel_steps.specs.Rows.{is_under}
 use Rattle.process_machine.specs.declared.Call.{Call}
 use Rattle.process_machine.specs.declared.Reply.{Reply}
@@ -22,6 +22,7 @@ use Rattle.packet_bodies.specs.declared.CarriedStream.{CarriedStream}
 use Rattle.packet_bodies.specs.declared.HomeRequest.{HomeRequest}
 use Rattle.packet_bodies.specs.declared.ReplyBody.{ReplyBody}
 use Rattle.packet_bodies.specs.declared.ReplyBody.TheVariants.{Done, Gone}
+use Rattle.packet_bodies.specs.declared.Request.TheVariants as requests
 use Rattle.pseudo_device.specs.declared.ask.Ask.{Ask}
 use Rattle.unix_calls.specs.declared.About.{About}
 use Rattle.unix_calls.specs.declared.Event.TheVariants.{Freeze, Thaw}
@@ -41,6 +42,7 @@ use Rattle.client_homes.specs.declared.client.ClientProcs.{ClientProcs}
 use Rattle.client_homes.specs.declared.client.KillState.{KillState}
 use Rattle.client_homes.specs.declared.client.Leaving.{Leaving}
 use Rattle.client_homes.specs.declared.client.Parked.{Parked}
+use Rattle.client_homes.specs.declared.client.Unfinished.TheVariants as unfinished
 use Rattle.client_homes.specs.declared.process.Proc.{Proc}
 use Rattle.client_homes.specs.declared.process.ProcState.TheVariants as states
 use Rattle.client_homes.specs.Births as births
@@ -72,7 +74,7 @@ use Rattle.client_procs.specs.Issues as issuing_calls
 use Rattle.client_procs.specs.Moving as moving
 use Rattle.client_procs.specs.Steps as stepping
 use Rattle.client_procs.specs.Turning as turning
-use Rattle.client_walks.specs.Hands.{Held, Nothing, Coming, Holding, hand_of}
+use Rattle.client_walks.specs.Hands.{Held, Nothing, Coming, Holding, hand_of, heard}
 
 -- what a step took in hand and hasn't put anywhere; between two steps it is nothing
 pub record Hand : Type 0 where
@@ -94,7 +96,7 @@ pub record KeepsSteps (F P : ClientProcs → Hand → Type 0) : Type 0 where
 pub record KeepsFiles (came : Input) (F P : ClientProcs → Hand → Type 0) : Type 0 where
   pub uses_files : (s : ClientProcs) (h : Hand) (about : About) (call : Call) (device : Option DeviceId) → F s (holds Nothing h) → P s (holds Nothing h) → P (issuing_calls.uses_files about call device s) (holds Nothing h)
   pub called_back : (s : ClientProcs) (h : Hand) (tx : TxNo) (request : CallbackRequest) → F s (holds Nothing h) → P s (holds Nothing h) → P (record s { files = file_grants.called_back tx request s.files }) (holds Nothing h)
-  pub answered : (s : ClientProcs) (h : Hand) (tx : TxNo) (source : ℕ) (body : ReplyBody) → came ≡ Replied tx source body → tables_of_files.owns tx s.files ≡ true → F s (holds Nothing h) → P s (holds Nothing h) → P (record s { files = file_answers.answered tx source body s.files }) (holds Nothing h)
+  pub answered : (s : ClientProcs) (h : Hand) (tx : TxNo) (source : ℕ) (body : ReplyBody) → came ≡ inputs.Replied tx source body → tables_of_files.owns tx s.files ≡ true → F s (holds Nothing h) → P s (holds Nothing h) → P (record s { files = file_answers.answered tx source body s.files }) (holds Nothing h)
   pub gives_up : (s : ClientProcs) (h : Hand) (tx : TxNo) → F s (holds Nothing h) → P s (holds Nothing h) → P (record s { files = name_answers.gives_up tx s.files }) (holds Nothing h)
   pub due_goes : (s : ClientProcs) (h : Hand) (file : FileId) (block : BlockNo) → F s (holds Nothing h) → P s (holds Nothing h) → P (record s { files = write_backs.due_goes file block s.files }) (holds Nothing h)
   pub goes_on : (s : ClientProcs) (h : Hand) → turning.is_quiet s ≡ false → F s (holds Nothing h) → P s (holds Nothing h) → P (record s { files = file_turns.goes_on s.files }) (holds Nothing h)
@@ -215,6 +217,34 @@ pub record Keeps (F P : ClientProcs → Hand → Type 0) : Type 0 where
 -- what is always so
 abbrev pub Always : ClientProcs → Hand → Type 0
 Always s hand = Unit {0}
+
+-- what is done at homes and with kills, each function as a whole; `came` is what the step was given
+pub record KeepsAtHome (P : ClientProcs → Hand → Type 0) (came : Input) : Type 0 where
+  pub dies : (s : ClientProcs) (h : Hand) (pid : ℕ) → P s (holds Nothing h) → P (ending.dies pid s) (holds Nothing h)
+  pub issues : (s : ClientProcs) (h : Hand) (pid : ℕ) → P s (holds Nothing h) → P (issuing.issues_home pid s) (holds Nothing h)
+  pub serves : (s : ClientProcs) (h : Hand) (tx : TxNo) (source : ℕ) (request : HomeRequest) → came ≡ inputs.Request tx source (requests.Home request) → P s (holds Nothing h) → P (issuing.serves_home tx request s) (holds Nothing h)
+  pub hears : (s : ClientProcs) (h : Hand) (tx : TxNo) (pid : ℕ) (body : ReplyBody) → P s (holds (heard (Some (unfinished.Home pid)) body s) h) → P (issuing.hears_home tx pid body s) (holds Nothing h)
+  pub hears_kill : (s : ClientProcs) (h : Hand) (tx : TxNo) (pid : ℕ) → P s (holds Nothing h) → P (kills.hears_kill tx pid s) (holds Nothing h)
+  pub kill_replied : (s : ClientProcs) (h : Hand) (pid : ℕ) (body : ReplyBody) → P s (holds Nothing h) → P (kills.kill_replied pid body s) (holds Nothing h)
+  pub tells_place : (s : ClientProcs) (h : Hand) (tx : TxNo) (pid kernel : ℕ) → P s (holds Nothing h) → P (kills.tells_place tx pid kernel s) (holds Nothing h)
+  pub ends : (s : ClientProcs) (h : Hand) (pid : ℕ) (about : Option About) → P s (holds Nothing h) → P (ending.ends pid about s) (holds Nothing h)
+  pub forgets_waiting : (s : ClientProcs) (h : Hand) (pid : ℕ) → P s (holds Nothing h) → P (killing.forgets_waiting pid s) (holds Nothing h)
+  pub flags : (s : ClientProcs) (h : Hand) (pid : ℕ) → P s (holds Nothing h) → P (procs_of.killed_at pid s) (holds Nothing h)
+  pub lets_go : (s : ClientProcs) (h : Hand) (pid : ℕ) → P s (holds (Holding pid) h) → P s (holds Nothing h)
+
+-- what a walk through what is done within a step must keep that was given that: what is done at homes as a whole, and the deeds of the rest
+pub record WalkWithin (P : ClientProcs → Hand → Type 0) (came : Input) : Type 0 where
+  pub files : KeepsFiles came Always P
+  pub calls : KeepsCalls Always P
+  pub home : KeepsAtHome P came
+  pub devices : KeepsDevices Always P
+  pub moves : KeepsMoves Always P
+  pub comings : KeepsComings Always P
+
+-- and with its beginning and end
+pub record Walk (P : ClientProcs → Hand → Type 0) (came : Input) : Type 0 where
+  pub steps : KeepsSteps Always P
+  pub within : WalkWithin P came
 
 -- both
 abbrev pub Both : (ClientProcs → Hand → Type 0) → (ClientProcs → Hand → Type 0) → ClientProcs → Hand → Type 0

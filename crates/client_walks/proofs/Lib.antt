@@ -1,5 +1,6 @@
 pub mod Deeds
 pub mod JoinedLaws
+pub mod AtHomeLaws
 pub mod WalkLaws
 pub mod RowLaws
 pub mod Spots
