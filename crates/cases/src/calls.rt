@@ -60,6 +60,14 @@ const EVENTS: [&str; 4] = [
     "events-of-no-host",
 ];
 
+/// Texts of steps of one file whose server stops and comes back; the last one is the documents' example.
+const STEPS: [&str; 4] = [
+    "steps-claim-granted",
+    "steps-claim-refused",
+    "steps-truncation-without-write",
+    "steps-stale-claim",
+];
+
 /// Packets that are sent in frames.
 const PACKETS: [&str; 6] = [
     "frames-second-lost",
@@ -155,6 +163,7 @@ pub fn print_all<R: Threads + Wait + Sync>(rt: &HostRuntime, threads: &R) -> io:
     print!(rt; "== check hello: ")?;
     print_call(rt, threads, &["check"], "hello", SOUND)?;
     print_events(rt, threads)?;
+    print_steps(rt, threads)?;
     print_packets(rt, threads)?;
     print_pieces(rt, threads)?;
     print_seeds(rt, threads)?;
@@ -170,6 +179,15 @@ fn print_events<R: Threads + Wait + Sync>(rt: &HostRuntime, threads: &R) -> io::
     for name in EVENTS {
         print!(rt; "== lend {name}: ")?;
         print_call(rt, threads, &["lend"], name, SOUND)?;
+    }
+    Ok(())
+}
+
+/// What comes of steps of one file.
+fn print_steps<R: Threads + Wait + Sync>(rt: &HostRuntime, threads: &R) -> io::Result<()> {
+    for name in STEPS {
+        print!(rt; "== file {name}: ")?;
+        print_call(rt, threads, &["file"], name, SOUND)?;
     }
     Ok(())
 }

@@ -1,15 +1,17 @@
 -- Right words over right bytes come to what they ask for.
-use Rattle.std.proofs.Common.{arith, ◌≡◌, ◌≢◌, ◌∙◌, ℕ, ◌+◌, ◌<◌, ◌≤◌, Bool, true, false, inl, inr, List, [], ◌++◌, length, Option, Some, None, Result, Ok, Err, IfOk, sym, ap, subst}
+use Rattle.std.proofs.Common.{arith, ◌≡◌, ◌≢◌, ◌∙◌, ℕ, ◌+◌, ◌<◌, ◌≤◌, Bool, true, false, inl, inr, List, [], ◌∷◌, ◌++◌, length, nat_eq, refl, Option, Some, None, Result, Ok, Err, IfOk, sym, ap, subst}
 use Rattle.std.specs.Prelude.{nat_lt, if◌then◌else◌}
+use Rattle.std.specs.List.{list_any}
 use Rattle.std.specs.Io.KnownBytes.{Consumes, IsAtEnd}
 use Rattle.std.proofs.lemmas.List.{append-nil, length-append}
-use Rattle.std.proofs.lemmas.Bool.{lt-ltb}
+use Rattle.std.proofs.lemmas.Bool.{eq-eqb, lt-ltb}
 use Rattle.call_journal.specs.declared.closed.Closed.{Closed}
 use Rattle.unix_calls.specs.declared.description.Description.{Description}
 use Rattle.cluster_file.specs.declared.Refusal.{Refusal}
 use Rattle.cluster_file.specs.Refusals.{refusal}
 use Rattle.cluster_file.specs.Clusters.{Describes, Refuses, described_in, document_of}
 use Rattle.lend_text.specs.Bodies.{answer_text}
+use Rattle.restart_text.specs.FileTexts.{file_text}
 use Rattle.history_check.specs.declared.judgement.Judgement.{Judgement}
 use Rattle.history_check.specs.Judged.{ComesTo}
 use Rattle.sprite_words.specs.declared.Command.{Command}
@@ -27,7 +29,7 @@ use Rattle.sprite_top.specs.declared.top.Status.TheVariants as status
 use Rattle.sprite_top.specs.Judged.{judgement_status}
 use Rattle.frames_text.specs.Texts.{HoldsPackets, IsTextRefusal}
 use Rattle.frames_text.proofs.TextLaws.{held_not_refused}
-use Rattle.sprite_top.specs.Top.{Telling, AreNoPackets, IsAnswered, AreNoEvents, AreRefused, AsksFor, Causes, Completes, IsCommand, IsEnded, IsOfAnswer, IsOfCheck, IsOfRefusal, IsOfRun, IsOfUsage, IsRefused, IsRefuted, NoFault, printing_of}
+use Rattle.sprite_top.specs.Top.{Reading, Telling, AreNoPackets, IsAnswered, IsMisread, AreNoLines, AreRefused, AsksFor, Causes, Completes, IsCommand, IsEnded, IsOfAnswer, IsOfCheck, IsOfRefusal, IsOfRun, IsOfUsage, IsRefused, IsRefuted, NoFault, printing_of}
 
 -- what came of a source that was read to its end is what it held
 came_whole : (left left_after : Option (List ℕ)) (bytes came : List ℕ) → left ≡ Some bytes → Consumes left left_after came → IsAtEnd left_after → came ≡ bytes
@@ -58,114 +60,74 @@ not_long bytes c describes long = by_test (nat_lt 1048576 (length bytes)) (lt-lt
     by_test true is made = absurd (cc)
     by_test false is made = absurd (cc)
 
--- a command that runs a cluster of a file has words of its own
-not_check : (one : Command) (print : Printing) → printing_of one ≡ Some print → form_of one ≡ 1099 → ⊥
-not_check command.Check print prints form = absurd (cc (prints))
-not_check command.Run print prints form = (let e : 1114 ≡ 1099 = form in absurd (omega arith))
-not_check (command.RunSeed seed) print prints form = (let e : 3114 ≡ 1099 = form in absurd (omega arith))
-not_check command.RunStats print prints form = (let e : 2114 ≡ 1099 = form in absurd (omega arith))
-not_check command.History print prints form = (let e : 1104 ≡ 1099 = form in absurd (omega arith))
-not_check (command.Load count) print prints form = (let e : 2108 ≡ 1099 = form in absurd (omega arith))
-not_check command.Trace print prints form = (let e : 1116 ≡ 1099 = form in absurd (omega arith))
-not_check command.Frames print prints form = (let e : 1102 ≡ 1099 = form in absurd (omega arith))
-not_check command.Lend print prints form = (let e : 1108 ≡ 1099 = form in absurd (omega arith))
+-- commands are told apart by the forms of their words
+apart : (a b : Command) (words : List (List ℕ)) → nat_eq (form_of a) (form_of b) ≡ false → IsSpelled a words → IsSpelled b words → ⊥
+apart a b words differ is that =
+    (let same : nat_eq (form_of a) (form_of a) ≡ false = subst (λ (form : ℕ). nat_eq (form_of a) form ≡ false) (sym (one_form a b words is that)) differ in
+    let both : true ≡ false = sym (eq-eqb (form_of a) (form_of a) refl) ∙ same in
+    absurd (cc (both)))
 
-not_lend : (one : Command) (print : Printing) → printing_of one ≡ Some print → form_of one ≡ 1108 → ⊥
-not_lend command.Lend print prints form = absurd (cc (prints))
-not_lend command.Run print prints form = (let e : 1114 ≡ 1108 = form in absurd (omega arith))
-not_lend (command.RunSeed seed) print prints form = (let e : 3114 ≡ 1108 = form in absurd (omega arith))
-not_lend command.RunStats print prints form = (let e : 2114 ≡ 1108 = form in absurd (omega arith))
-not_lend command.History print prints form = (let e : 1104 ≡ 1108 = form in absurd (omega arith))
-not_lend (command.Load count) print prints form = (let e : 2108 ≡ 1108 = form in absurd (omega arith))
-not_lend command.Trace print prints form = (let e : 1116 ≡ 1108 = form in absurd (omega arith))
-not_lend command.Frames print prints form = (let e : 1102 ≡ 1108 = form in absurd (omega arith))
-not_lend command.Check print prints form = (let e : 1099 ≡ 1108 = form in absurd (omega arith))
+-- whether a command of that form runs the cluster of a file
+runs : ℕ → Bool
+runs form = list_any (nat_eq form) (form_of command.Run ∷ form_of (command.RunSeed 0) ∷ form_of command.RunStats ∷ form_of command.History ∷ form_of command.Trace ∷ [])
 
-not_frames : (one : Command) (print : Printing) → printing_of one ≡ Some print → form_of one ≡ 1102 → ⊥
-not_frames command.Frames print prints form = absurd (cc (prints))
-not_frames command.Run print prints form = (let e : 1114 ≡ 1102 = form in absurd (omega arith))
-not_frames (command.RunSeed seed) print prints form = (let e : 3114 ≡ 1102 = form in absurd (omega arith))
-not_frames command.RunStats print prints form = (let e : 2114 ≡ 1102 = form in absurd (omega arith))
-not_frames command.History print prints form = (let e : 1104 ≡ 1102 = form in absurd (omega arith))
-not_frames (command.Load count) print prints form = (let e : 2108 ≡ 1102 = form in absurd (omega arith))
-not_frames command.Trace print prints form = (let e : 1116 ≡ 1102 = form in absurd (omega arith))
-not_frames command.Lend print prints form = (let e : 1108 ≡ 1102 = form in absurd (omega arith))
-not_frames command.Check print prints form = (let e : 1099 ≡ 1102 = form in absurd (omega arith))
+runs_if : (one : Command) (print : Printing) → printing_of one ≡ Some print → runs (form_of one) ≡ true
+unfolding runs
+runs_if command.Run print prints = refl
+runs_if (command.RunSeed seed) print prints = refl
+runs_if command.RunStats print prints = refl
+runs_if command.History print prints = refl
+runs_if (command.Load count) print prints = absurd (cc (prints))
+runs_if command.Check print prints = absurd (cc (prints))
+runs_if command.Trace print prints = refl
+runs_if command.Frames print prints = absurd (cc (prints))
+runs_if command.File print prints = absurd (cc (prints))
+runs_if command.Lend print prints = absurd (cc (prints))
 
-not_load : (one : Command) (print : Printing) → printing_of one ≡ Some print → form_of one ≡ 2108 → ⊥
-not_load (command.Load count) print prints form = absurd (cc (prints))
-not_load command.Run print prints form = (let e : 1114 ≡ 2108 = form in absurd (omega arith))
-not_load (command.RunSeed seed) print prints form = (let e : 3114 ≡ 2108 = form in absurd (omega arith))
-not_load command.RunStats print prints form = (let e : 2114 ≡ 2108 = form in absurd (omega arith))
-not_load command.History print prints form = (let e : 1104 ≡ 2108 = form in absurd (omega arith))
-not_load command.Lend print prints form = (let e : 1108 ≡ 2108 = form in absurd (omega arith))
-not_load command.Trace print prints form = (let e : 1116 ≡ 2108 = form in absurd (omega arith))
-not_load command.Frames print prints form = (let e : 1102 ≡ 2108 = form in absurd (omega arith))
-not_load command.Check print prints form = (let e : 1099 ≡ 2108 = form in absurd (omega arith))
+no_run : (print : Printing) (one : Command) (words : List (List ℕ)) → runs (form_of one) ≡ false → AsksFor print words → IsSpelled one words → ⊥
+no_run print one words none asks are =
+    (let form : form_of asks.command ≡ form_of one = one_form asks.command one words asks.is_spelled are in
+    let both : true ≡ false = sym (runs_if asks.command print asks.prints) ∙ (ap runs form ∙ none) in
+    absurd (cc (both)))
 
-run_no_check : (print : Printing) (words : List (List ℕ)) → AsksFor print words → IsSpelled command.Check words → ⊥
-run_no_check print words asks check = not_check asks.command print asks.prints (one_form asks.command command.Check words asks.is_spelled check)
+load_runs_none : (count : ℕ) → runs (form_of (command.Load count)) ≡ false
+unfolding runs
+load_runs_none count = refl
 
-run_no_lend : (print : Printing) (words : List (List ℕ)) → AsksFor print words → IsSpelled command.Lend words → ⊥
-run_no_lend print words asks lend = not_lend asks.command print asks.prints (one_form asks.command command.Lend words asks.is_spelled lend)
+check_runs_none : runs (form_of command.Check) ≡ false
+unfolding runs
+check_runs_none = refl
 
-run_no_frames : (print : Printing) (words : List (List ℕ)) → AsksFor print words → IsSpelled command.Frames words → ⊥
-run_no_frames print words asks frames = not_frames asks.command print asks.prints (one_form asks.command command.Frames words asks.is_spelled frames)
+frames_runs_none : runs (form_of command.Frames) ≡ false
+unfolding runs
+frames_runs_none = refl
 
-run_no_load : (print : Printing) (count : ℕ) (words : List (List ℕ)) → AsksFor print words → IsSpelled (command.Load count) words → ⊥
-run_no_load print count words asks load = not_load asks.command print asks.prints (one_form asks.command (command.Load count) words asks.is_spelled load)
+file_runs_none : runs (form_of command.File) ≡ false
+unfolding runs
+file_runs_none = refl
 
-load_isnt_check : (count : ℕ) → form_of (command.Load count) ≡ form_of command.Check → ⊥
-load_isnt_check count form = absurd (omega arith)
-
-load_isnt_lend : (count : ℕ) → form_of (command.Load count) ≡ form_of command.Lend → ⊥
-load_isnt_lend count form = absurd (omega arith)
-
-check_isnt_lend : form_of command.Check ≡ form_of command.Lend → ⊥
-check_isnt_lend form = absurd (omega arith)
-
-load_no_check : (count : ℕ) (words : List (List ℕ)) → IsSpelled (command.Load count) words → IsSpelled command.Check words → ⊥
-load_no_check count words load check = load_isnt_check count (one_form (command.Load count) command.Check words load check)
-
-load_no_lend : (count : ℕ) (words : List (List ℕ)) → IsSpelled (command.Load count) words → IsSpelled command.Lend words → ⊥
-load_no_lend count words load lend = load_isnt_lend count (one_form (command.Load count) command.Lend words load lend)
-
-check_no_lend : (words : List (List ℕ)) → IsSpelled command.Check words → IsSpelled command.Lend words → ⊥
-check_no_lend words check lend = check_isnt_lend (one_form command.Check command.Lend words check lend)
-
-load_isnt_frames : (count : ℕ) → form_of (command.Load count) ≡ form_of command.Frames → ⊥
-load_isnt_frames count form = absurd (omega arith)
-
-check_isnt_frames : form_of command.Check ≡ form_of command.Frames → ⊥
-check_isnt_frames form = absurd (omega arith)
-
-lend_isnt_frames : form_of command.Lend ≡ form_of command.Frames → ⊥
-lend_isnt_frames form = absurd (omega arith)
-
-load_no_frames : (count : ℕ) (words : List (List ℕ)) → IsSpelled (command.Load count) words → IsSpelled command.Frames words → ⊥
-load_no_frames count words load frames = load_isnt_frames count (one_form (command.Load count) command.Frames words load frames)
-
-check_no_frames : (words : List (List ℕ)) → IsSpelled command.Check words → IsSpelled command.Frames words → ⊥
-check_no_frames words check frames = check_isnt_frames (one_form command.Check command.Frames words check frames)
-
-lend_no_frames : (words : List (List ℕ)) → IsSpelled command.Lend words → IsSpelled command.Frames words → ⊥
-lend_no_frames words lend frames = lend_isnt_frames (one_form command.Lend command.Frames words lend frames)
+lend_runs_none : runs (form_of command.Lend) ≡ false
+unfolding runs
+lend_runs_none = refl
 
 -- an answer isn't that of another command
 run_no_answer : (told : Telling) (print : Printing) (words : List (List ℕ)) (left left_after : Option (List ℕ)) (closed : Option Closed) (due : List ℕ) → AsksFor print words → IsAnswered told words left left_after closed due → ⊥
-run_no_answer told print words left left_after closed due asks (inl lent) = run_no_lend print words asks lent.words_are
-run_no_answer told print words left left_after closed due asks (inr framed) = run_no_frames print words asks framed.words_are
+run_no_answer told print words left left_after closed due asks (inl lent) = no_run print command.Lend words lend_runs_none asks lent.words_are
+run_no_answer told print words left left_after closed due asks (inr (inl played)) = no_run print command.File words file_runs_none asks played.words_are
+run_no_answer told print words left left_after closed due asks (inr (inr framed)) = no_run print command.Frames words frames_runs_none asks framed.words_are
 
 load_no_answer : (told : Telling) (count : ℕ) (words : List (List ℕ)) (left left_after : Option (List ℕ)) (closed : Option Closed) (due : List ℕ) → IsSpelled (command.Load count) words → IsAnswered told words left left_after closed due → ⊥
-load_no_answer told count words left left_after closed due load (inl lent) = load_no_lend count words load lent.words_are
-load_no_answer told count words left left_after closed due load (inr framed) = load_no_frames count words load framed.words_are
+load_no_answer told count words left left_after closed due load (inl lent) = apart (command.Load count) command.Lend words refl load lent.words_are
+load_no_answer told count words left left_after closed due load (inr (inl played)) = apart (command.Load count) command.File words refl load played.words_are
+load_no_answer told count words left left_after closed due load (inr (inr framed)) = apart (command.Load count) command.Frames words refl load framed.words_are
 
 check_no_answer : (told : Telling) (words : List (List ℕ)) (left left_after : Option (List ℕ)) (closed : Option Closed) (due : List ℕ) → IsSpelled command.Check words → IsAnswered told words left left_after closed due → ⊥
-check_no_answer told words left left_after closed due check (inl lent) = check_no_lend words check lent.words_are
-check_no_answer told words left left_after closed due check (inr framed) = check_no_frames words check framed.words_are
+check_no_answer told words left left_after closed due check (inl lent) = apart command.Check command.Lend words refl check lent.words_are
+check_no_answer told words left left_after closed due check (inr (inl played)) = apart command.Check command.File words refl check played.words_are
+check_no_answer told words left left_after closed due check (inr (inr framed)) = apart command.Check command.Frames words refl check framed.words_are
 
-answered_twice : (bytes lines : List ℕ) (number : ℕ) → answer_text bytes ≡ Ok lines → answer_text bytes ≡ Err number → ⊥
-answered_twice bytes lines number answers bad = absurd (cc)
+answered_twice : (reads : Reading) (bytes lines : List ℕ) (number : ℕ) → reads bytes ≡ Ok lines → reads bytes ≡ Err number → ⊥
+answered_twice reads bytes lines number answers bad = absurd (cc)
 
 -- what is refused isn't what asks for a run of a cluster that is described
 run_not_refused : (print : Printing) (words : List (List ℕ)) (left left_after : Option (List ℕ)) (closed : Option Closed) (due bytes : List ℕ) (c : Description) → AsksFor print words → left ≡ Some bytes → Describes bytes c → IsRefused words left left_after closed due → ⊥
@@ -174,10 +136,11 @@ run_not_refused print words left left_after closed due bytes c asks is describes
     by_cause : AreRefused left_after run.came due → ⊥
     by_cause (inl whole) = not_both bytes c whole.2.refusal describes (subst (λ (bs : List ℕ). Refuses bs whole.2.refusal) (came_whole left left_after bytes run.came is run.read whole.0) whole.2.refuses)
     by_cause (inr long) = (let short = came_short left left_after bytes run.came is run.read in let more = long.0 in not_long bytes c describes (omega arith))
-run_not_refused print words left left_after closed due bytes c asks is describes (inr (inl checked)) = run_no_check print words asks checked.words_are
-run_not_refused print words left left_after closed due bytes c asks is describes (inr (inr (inl long))) = run_no_check print words asks long.words_are
-run_not_refused print words left left_after closed due bytes c asks is describes (inr (inr (inr (inl lent)))) = run_no_lend print words asks lent.words_are
-run_not_refused print words left left_after closed due bytes c asks is describes (inr (inr (inr (inr framed)))) = run_no_frames print words asks framed.words_are
+run_not_refused print words left left_after closed due bytes c asks is describes (inr (inl checked)) = no_run print command.Check words check_runs_none asks checked.words_are
+run_not_refused print words left left_after closed due bytes c asks is describes (inr (inr (inl long))) = no_run print command.Check words check_runs_none asks long.words_are
+run_not_refused print words left left_after closed due bytes c asks is describes (inr (inr (inr (inl lent)))) = no_run print command.Lend words lend_runs_none asks lent.words_are
+run_not_refused print words left left_after closed due bytes c asks is describes (inr (inr (inr (inr (inl played))))) = no_run print command.File words file_runs_none asks played.words_are
+run_not_refused print words left left_after closed due bytes c asks is describes (inr (inr (inr (inr (inr framed))))) = no_run print command.Frames words frames_runs_none asks framed.words_are
 
 -- what a run of a cluster file comes to
 runs_so : (told : Telling) (state : Status) (words : List (List ℕ)) (left left_after : Option (List ℕ)) (faults faults_after : ℕ) (closed : Option Closed) (due : List ℕ) → Causes told state words left left_after faults faults_after closed due → (print : Printing) (bytes : List ℕ) (c : Description) → AsksFor print words → left ≡ Some bytes → Describes bytes c → NoFault faults faults_after → IsOfRun state
@@ -185,9 +148,9 @@ runs_so told status.Ended words left left_after faults faults_after closed due w
 runs_so told status.Budget words left left_after faults faults_after closed due why print bytes c asks is describes calm = tt
 runs_so told status.Stalled words left left_after faults faults_after closed due why print bytes c asks is describes calm = tt
 runs_so told status.Refuted words left left_after faults faults_after closed due why print bytes c asks is describes calm = tt
-runs_so told status.Legal words left left_after faults faults_after closed due why print bytes c asks is describes calm = absurd (run_no_check print words asks why.words_are)
-runs_so told status.NotLegal words left left_after faults faults_after closed due why print bytes c asks is describes calm = absurd (run_no_check print words asks why.words_are)
-runs_so told status.Steps words left left_after faults faults_after closed due why print bytes c asks is describes calm = absurd (run_no_check print words asks why.words_are)
+runs_so told status.Legal words left left_after faults faults_after closed due why print bytes c asks is describes calm = absurd (no_run print command.Check words check_runs_none asks why.words_are)
+runs_so told status.NotLegal words left left_after faults faults_after closed due why print bytes c asks is describes calm = absurd (no_run print command.Check words check_runs_none asks why.words_are)
+runs_so told status.Steps words left left_after faults faults_after closed due why print bytes c asks is describes calm = absurd (no_run print command.Check words check_runs_none asks why.words_are)
 runs_so told status.Answered words left left_after faults faults_after closed due why print bytes c asks is describes calm = absurd (run_no_answer told print words left left_after closed due asks why)
 runs_so told status.Refused words left left_after faults faults_after closed due why print bytes c asks is describes calm = absurd (run_not_refused print words left left_after closed due bytes c asks is describes why)
 runs_so told status.Usage words left left_after faults faults_after closed due why print bytes c asks is describes calm = absurd (why.no_command (asks.command, asks.is_spelled))
@@ -197,20 +160,21 @@ runs_so told status.WriteFault words left left_after faults faults_after closed 
 
 -- what a load comes to
 load_not_refused : (count : ℕ) (words : List (List ℕ)) (left left_after : Option (List ℕ)) (closed : Option Closed) (due : List ℕ) → IsSpelled (command.Load count) words → IsRefused words left left_after closed due → ⊥
-load_not_refused count words left left_after closed due load (inl run) = run_no_load run.print count words run.asks load
-load_not_refused count words left left_after closed due load (inr (inl checked)) = load_no_check count words load checked.words_are
-load_not_refused count words left left_after closed due load (inr (inr (inl long))) = load_no_check count words load long.words_are
-load_not_refused count words left left_after closed due load (inr (inr (inr (inl lent)))) = load_no_lend count words load lent.words_are
-load_not_refused count words left left_after closed due load (inr (inr (inr (inr framed)))) = load_no_frames count words load framed.words_are
+load_not_refused count words left left_after closed due load (inl run) = no_run run.print (command.Load count) words (load_runs_none count) run.asks load
+load_not_refused count words left left_after closed due load (inr (inl checked)) = apart (command.Load count) command.Check words refl load checked.words_are
+load_not_refused count words left left_after closed due load (inr (inr (inl long))) = apart (command.Load count) command.Check words refl load long.words_are
+load_not_refused count words left left_after closed due load (inr (inr (inr (inl lent)))) = apart (command.Load count) command.Lend words refl load lent.words_are
+load_not_refused count words left left_after closed due load (inr (inr (inr (inr (inl played))))) = apart (command.Load count) command.File words refl load played.words_are
+load_not_refused count words left left_after closed due load (inr (inr (inr (inr (inr framed))))) = apart (command.Load count) command.Frames words refl load framed.words_are
 
 loads_so : (told : Telling) (state : Status) (words : List (List ℕ)) (left left_after : Option (List ℕ)) (faults faults_after : ℕ) (closed : Option Closed) (due : List ℕ) → Causes told state words left left_after faults faults_after closed due → (count : ℕ) → IsSpelled (command.Load count) words → NoFault faults faults_after → IsOfRun state
 loads_so told status.Ended words left left_after faults faults_after closed due why count load calm = tt
 loads_so told status.Budget words left left_after faults faults_after closed due why count load calm = tt
 loads_so told status.Stalled words left left_after faults faults_after closed due why count load calm = tt
 loads_so told status.Refuted words left left_after faults faults_after closed due why count load calm = tt
-loads_so told status.Legal words left left_after faults faults_after closed due why count load calm = absurd (load_no_check count words load why.words_are)
-loads_so told status.NotLegal words left left_after faults faults_after closed due why count load calm = absurd (load_no_check count words load why.words_are)
-loads_so told status.Steps words left left_after faults faults_after closed due why count load calm = absurd (load_no_check count words load why.words_are)
+loads_so told status.Legal words left left_after faults faults_after closed due why count load calm = absurd (apart (command.Load count) command.Check words refl load why.words_are)
+loads_so told status.NotLegal words left left_after faults faults_after closed due why count load calm = absurd (apart (command.Load count) command.Check words refl load why.words_are)
+loads_so told status.Steps words left left_after faults faults_after closed due why count load calm = absurd (apart (command.Load count) command.Check words refl load why.words_are)
 loads_so told status.Answered words left left_after faults faults_after closed due why count load calm = absurd (load_no_answer told count words left left_after closed due load why)
 loads_so told status.Refused words left left_after faults faults_after closed due why count load calm = absurd (load_not_refused count words left left_after closed due load why)
 loads_so told status.Usage words left left_after faults faults_after closed due why count load calm = absurd (why.no_command (command.Load count, load))
@@ -218,37 +182,30 @@ loads_so told status.ReadFault words left left_after faults faults_after closed 
 loads_so told status.NoMemory words left left_after faults faults_after closed due why count load calm = absurd why
 loads_so told status.WriteFault words left left_after faults faults_after closed due why count load calm = absurd why
 
--- a run that was made isn't that of a check, nor of an answer to events
-ended_no_check : (end : Finish) (words : List (List ℕ)) (left left_after : Option (List ℕ)) (closed : Option Closed) (due : List ℕ) → IsSpelled command.Check words → IsEnded end words left left_after closed due → ⊥
-ended_no_check end words left left_after closed due are (inl file) = run_no_check file.print words file.asks are
-ended_no_check end words left left_after closed due are (inr load) = load_no_check load.count words load.asks are
+-- a run that was made isn't that of a command that runs nothing
+ended_not : (end : Finish) (one : Command) (words : List (List ℕ)) (left left_after : Option (List ℕ)) (closed : Option Closed) (due : List ℕ) → runs (form_of one) ≡ false → nat_eq (form_of (command.Load 0)) (form_of one) ≡ false → IsSpelled one words → IsEnded end words left left_after closed due → ⊥
+ended_not end one words left left_after closed due none differ are (inl file) = no_run file.print one words none file.asks are
+ended_not end one words left left_after closed due none differ are (inr load) = apart (command.Load load.count) one words differ load.asks are
 
-refuted_no_check : (words : List (List ℕ)) (left left_after : Option (List ℕ)) (closed : Option Closed) (due : List ℕ) → IsSpelled command.Check words → IsRefuted words left left_after closed due → ⊥
-refuted_no_check words left left_after closed due are (inl file) = run_no_check file.print words file.asks are
-refuted_no_check words left left_after closed due are (inr load) = load_no_check load.count words load.asks are
-
-ended_no_lend : (end : Finish) (words : List (List ℕ)) (left left_after : Option (List ℕ)) (closed : Option Closed) (due : List ℕ) → IsSpelled command.Lend words → IsEnded end words left left_after closed due → ⊥
-ended_no_lend end words left left_after closed due are (inl file) = run_no_lend file.print words file.asks are
-ended_no_lend end words left left_after closed due are (inr load) = load_no_lend load.count words load.asks are
-
-refuted_no_lend : (words : List (List ℕ)) (left left_after : Option (List ℕ)) (closed : Option Closed) (due : List ℕ) → IsSpelled command.Lend words → IsRefuted words left left_after closed due → ⊥
-refuted_no_lend words left left_after closed due are (inl file) = run_no_lend file.print words file.asks are
-refuted_no_lend words left left_after closed due are (inr load) = load_no_lend load.count words load.asks are
+refuted_not : (one : Command) (words : List (List ℕ)) (left left_after : Option (List ℕ)) (closed : Option Closed) (due : List ℕ) → runs (form_of one) ≡ false → nat_eq (form_of (command.Load 0)) (form_of one) ≡ false → IsSpelled one words → IsRefuted words left left_after closed due → ⊥
+refuted_not one words left left_after closed due none differ are (inl file) = no_run file.print one words none file.asks are
+refuted_not one words left left_after closed due none differ are (inr load) = apart (command.Load load.count) one words differ load.asks are
 
 -- what the check of a text comes to that isn't refused
 check_not_refused : (words : List (List ℕ)) (left left_after : Option (List ℕ)) (closed : Option Closed) (due bytes : List ℕ) → IsSpelled command.Check words → left ≡ Some bytes → length bytes ≤ 67108864 → ((j : Judgement) → ComesTo bytes j → judgement_status j ≢ status.Refused) → IsRefused words left left_after closed due → ⊥
-check_not_refused words left left_after closed due bytes check is short formed (inl run) = run_no_check run.print words run.asks check
+check_not_refused words left left_after closed due bytes check is short formed (inl run) = no_run run.print command.Check words check_runs_none run.asks check
 check_not_refused words left left_after closed due bytes check is short formed (inr (inl checked)) =
     formed checked.text.judgement (subst (λ (bs : List ℕ). ComesTo bs checked.text.judgement) (came_whole left left_after bytes checked.came is checked.read checked.at_end) checked.text.comes_to) (sym checked.text.state_is)
 check_not_refused words left left_after closed due bytes check is short formed (inr (inr (inl long))) = (let some = came_short left left_after bytes long.came is long.read in let more = long.long in absurd (omega arith))
-check_not_refused words left left_after closed due bytes check is short formed (inr (inr (inr (inl lent)))) = check_no_lend words check lent.words_are
-check_not_refused words left left_after closed due bytes check is short formed (inr (inr (inr (inr framed)))) = check_no_frames words check framed.words_are
+check_not_refused words left left_after closed due bytes check is short formed (inr (inr (inr (inl lent)))) = apart command.Check command.Lend words refl check lent.words_are
+check_not_refused words left left_after closed due bytes check is short formed (inr (inr (inr (inr (inl played))))) = apart command.Check command.File words refl check played.words_are
+check_not_refused words left left_after closed due bytes check is short formed (inr (inr (inr (inr (inr framed))))) = apart command.Check command.Frames words refl check framed.words_are
 
 checks_so : (told : Telling) (state : Status) (words : List (List ℕ)) (left left_after : Option (List ℕ)) (faults faults_after : ℕ) (closed : Option Closed) (due : List ℕ) → Causes told state words left left_after faults faults_after closed due → (bytes : List ℕ) → IsSpelled command.Check words → left ≡ Some bytes → length bytes ≤ 67108864 → ((j : Judgement) → ComesTo bytes j → judgement_status j ≢ status.Refused) → NoFault faults faults_after → IsOfCheck state
-checks_so told status.Ended words left left_after faults faults_after closed due why bytes check is short formed calm = absurd (ended_no_check finish.AllEnded words left left_after closed due check why)
-checks_so told status.Budget words left left_after faults faults_after closed due why bytes check is short formed calm = absurd (ended_no_check finish.Budget words left left_after closed due check why)
-checks_so told status.Stalled words left left_after faults faults_after closed due why bytes check is short formed calm = absurd (ended_no_check finish.Stalled words left left_after closed due check why)
-checks_so told status.Refuted words left left_after faults faults_after closed due why bytes check is short formed calm = absurd (refuted_no_check words left left_after closed due check why)
+checks_so told status.Ended words left left_after faults faults_after closed due why bytes check is short formed calm = absurd (ended_not finish.AllEnded command.Check words left left_after closed due check_runs_none refl check why)
+checks_so told status.Budget words left left_after faults faults_after closed due why bytes check is short formed calm = absurd (ended_not finish.Budget command.Check words left left_after closed due check_runs_none refl check why)
+checks_so told status.Stalled words left left_after faults faults_after closed due why bytes check is short formed calm = absurd (ended_not finish.Stalled command.Check words left left_after closed due check_runs_none refl check why)
+checks_so told status.Refuted words left left_after faults faults_after closed due why bytes check is short formed calm = absurd (refuted_not command.Check words left left_after closed due check_runs_none refl check why)
 checks_so told status.Legal words left left_after faults faults_after closed due why bytes check is short formed calm = tt
 checks_so told status.NotLegal words left left_after faults faults_after closed due why bytes check is short formed calm = tt
 checks_so told status.Steps words left left_after faults faults_after closed due why bytes check is short formed calm = tt
@@ -259,87 +216,79 @@ checks_so told status.ReadFault words left left_after faults faults_after closed
 checks_so told status.NoMemory words left left_after faults faults_after closed due why bytes check is short formed calm = absurd why
 checks_so told status.WriteFault words left left_after faults faults_after closed due why bytes check is short formed calm = absurd why
 
--- what an answer to a text of events comes to
-lend_not_refused : (words : List (List ℕ)) (left left_after : Option (List ℕ)) (closed : Option Closed) (due bytes lines : List ℕ) → IsSpelled command.Lend words → left ≡ Some bytes → length bytes ≤ 1048576 → answer_text bytes ≡ Ok lines → IsRefused words left left_after closed due → ⊥
-lend_not_refused words left left_after closed due bytes lines lend is short answers (inl run) = run_no_lend run.print words run.asks lend
-lend_not_refused words left left_after closed due bytes lines lend is short answers (inr (inl checked)) = check_no_lend words checked.words_are lend
-lend_not_refused words left left_after closed due bytes lines lend is short answers (inr (inr (inl long))) = check_no_lend words long.words_are lend
-lend_not_refused words left left_after closed due bytes lines lend is short answers (inr (inr (inr (inr framed)))) = lend_no_frames words lend framed.words_are
-lend_not_refused words left left_after closed due bytes lines lend is short answers (inr (inr (inr (inl lent)))) = by_cause lent.cause
+-- a text whose lines are of their form isn't refused for one that isn't
+read_not_refused : (one : Command) (reads : Reading) (words : List (List ℕ)) (left left_after : Option (List ℕ)) (closed : Option Closed) (due bytes lines : List ℕ) → left ≡ Some bytes → length bytes ≤ 1048576 → reads bytes ≡ Ok lines → IsMisread one reads words left left_after closed due → ⊥
+read_not_refused one reads words left left_after closed due bytes lines is short answers misread = by_cause misread.cause
   where
-    by_cause : AreNoEvents left_after lent.came due → ⊥
-    by_cause (inl whole) = answered_twice bytes lines whole.2.number answers (subst (λ (bs : List ℕ). answer_text bs ≡ Err whole.2.number) (came_whole left left_after bytes lent.came is lent.read whole.0) whole.2.bad)
-    by_cause (inr long) = (let some = came_short left left_after bytes lent.came is lent.read in let more = long.0 in absurd (omega arith))
+    by_cause : AreNoLines reads left_after misread.came due → ⊥
+    by_cause (inl whole) = answered_twice reads bytes lines whole.2.number answers (subst (λ (bs : List ℕ). reads bs ≡ Err whole.2.number) (came_whole left left_after bytes misread.came is misread.read whole.0) whole.2.bad)
+    by_cause (inr long) = (let some = came_short left left_after bytes misread.came is misread.read in let more = long.0 in absurd (omega arith))
 
-answers_so : (told : Telling) (state : Status) (words : List (List ℕ)) (left left_after : Option (List ℕ)) (faults faults_after : ℕ) (closed : Option Closed) (due : List ℕ) → Causes told state words left left_after faults faults_after closed due → (bytes lines : List ℕ) → IsSpelled command.Lend words → left ≡ Some bytes → length bytes ≤ 1048576 → answer_text bytes ≡ Ok lines → NoFault faults faults_after → IsOfAnswer state
-answers_so told status.Ended words left left_after faults faults_after closed due why bytes lines lend is short answers calm = absurd (ended_no_lend finish.AllEnded words left left_after closed due lend why)
-answers_so told status.Budget words left left_after faults faults_after closed due why bytes lines lend is short answers calm = absurd (ended_no_lend finish.Budget words left left_after closed due lend why)
-answers_so told status.Stalled words left left_after faults faults_after closed due why bytes lines lend is short answers calm = absurd (ended_no_lend finish.Stalled words left left_after closed due lend why)
-answers_so told status.Refuted words left left_after faults faults_after closed due why bytes lines lend is short answers calm = absurd (refuted_no_lend words left left_after closed due lend why)
-answers_so told status.Legal words left left_after faults faults_after closed due why bytes lines lend is short answers calm = absurd (check_no_lend words why.words_are lend)
-answers_so told status.NotLegal words left left_after faults faults_after closed due why bytes lines lend is short answers calm = absurd (check_no_lend words why.words_are lend)
-answers_so told status.Steps words left left_after faults faults_after closed due why bytes lines lend is short answers calm = absurd (check_no_lend words why.words_are lend)
-answers_so told status.Answered words left left_after faults faults_after closed due why bytes lines lend is short answers calm = tt
-answers_so told status.Refused words left left_after faults faults_after closed due why bytes lines lend is short answers calm = absurd (lend_not_refused words left left_after closed due bytes lines lend is short answers why)
-answers_so told status.Usage words left left_after faults faults_after closed due why bytes lines lend is short answers calm = absurd (why.no_command (command.Lend, lend))
-answers_so told status.ReadFault words left left_after faults faults_after closed due why bytes lines lend is short answers calm = absurd (calm why.rose)
-answers_so told status.NoMemory words left left_after faults faults_after closed due why bytes lines lend is short answers calm = absurd why
-answers_so told status.WriteFault words left left_after faults faults_after closed due why bytes lines lend is short answers calm = absurd why
+-- an answer to a text of events isn't refused, nor one to steps of a file
+lend_not_refused : (words : List (List ℕ)) (left left_after : Option (List ℕ)) (closed : Option Closed) (due bytes lines : List ℕ) → IsSpelled command.Lend words → left ≡ Some bytes → length bytes ≤ 1048576 → answer_text bytes ≡ Ok lines → IsRefused words left left_after closed due → ⊥
+lend_not_refused words left left_after closed due bytes lines lend is short answers (inl run) = no_run run.print command.Lend words lend_runs_none run.asks lend
+lend_not_refused words left left_after closed due bytes lines lend is short answers (inr (inl checked)) = apart command.Check command.Lend words refl checked.words_are lend
+lend_not_refused words left left_after closed due bytes lines lend is short answers (inr (inr (inl long))) = apart command.Check command.Lend words refl long.words_are lend
+lend_not_refused words left left_after closed due bytes lines lend is short answers (inr (inr (inr (inl lent)))) = read_not_refused command.Lend answer_text words left left_after closed due bytes lines is short answers lent
+lend_not_refused words left left_after closed due bytes lines lend is short answers (inr (inr (inr (inr (inl played))))) = apart command.Lend command.File words refl lend played.words_are
+lend_not_refused words left left_after closed due bytes lines lend is short answers (inr (inr (inr (inr (inr framed))))) = apart command.Lend command.Frames words refl lend framed.words_are
 
-ended_no_frames : (end : Finish) (words : List (List ℕ)) (left left_after : Option (List ℕ)) (closed : Option Closed) (due : List ℕ) → IsSpelled command.Frames words → IsEnded end words left left_after closed due → ⊥
-ended_no_frames end words left left_after closed due are (inl file) = run_no_frames file.print words file.asks are
-ended_no_frames end words left left_after closed due are (inr load) = load_no_frames load.count words load.asks are
-
-refuted_no_frames : (words : List (List ℕ)) (left left_after : Option (List ℕ)) (closed : Option Closed) (due : List ℕ) → IsSpelled command.Frames words → IsRefuted words left left_after closed due → ⊥
-refuted_no_frames words left left_after closed due are (inl file) = run_no_frames file.print words file.asks are
-refuted_no_frames words left left_after closed due are (inr load) = load_no_frames load.count words load.asks are
+file_not_refused : (words : List (List ℕ)) (left left_after : Option (List ℕ)) (closed : Option Closed) (due bytes lines : List ℕ) → IsSpelled command.File words → left ≡ Some bytes → length bytes ≤ 1048576 → file_text bytes ≡ Ok lines → IsRefused words left left_after closed due → ⊥
+file_not_refused words left left_after closed due bytes lines file is short answers (inl run) = no_run run.print command.File words file_runs_none run.asks file
+file_not_refused words left left_after closed due bytes lines file is short answers (inr (inl checked)) = apart command.Check command.File words refl checked.words_are file
+file_not_refused words left left_after closed due bytes lines file is short answers (inr (inr (inl long))) = apart command.Check command.File words refl long.words_are file
+file_not_refused words left left_after closed due bytes lines file is short answers (inr (inr (inr (inl lent)))) = apart command.Lend command.File words refl lent.words_are file
+file_not_refused words left left_after closed due bytes lines file is short answers (inr (inr (inr (inr (inl played))))) = read_not_refused command.File file_text words left left_after closed due bytes lines is short answers played
+file_not_refused words left left_after closed due bytes lines file is short answers (inr (inr (inr (inr (inr framed))))) = apart command.File command.Frames words refl file framed.words_are
 
 -- what is told of a text of packets
 frames_not_refused : (words : List (List ℕ)) (left left_after : Option (List ℕ)) (closed : Option Closed) (due bytes : List ℕ) → IsSpelled command.Frames words → left ≡ Some bytes → length bytes ≤ 67108864 → HoldsPackets bytes → IsRefused words left left_after closed due → ⊥
-frames_not_refused words left left_after closed due bytes frames is short holds (inl run) = run_no_frames run.print words run.asks frames
-frames_not_refused words left left_after closed due bytes frames is short holds (inr (inl checked)) = check_no_frames words checked.words_are frames
-frames_not_refused words left left_after closed due bytes frames is short holds (inr (inr (inl long))) = check_no_frames words long.words_are frames
-frames_not_refused words left left_after closed due bytes frames is short holds (inr (inr (inr (inl lent)))) = lend_no_frames words lent.words_are frames
-frames_not_refused words left left_after closed due bytes frames is short holds (inr (inr (inr (inr framed)))) = by_cause framed.cause
+frames_not_refused words left left_after closed due bytes frames is short holds (inl run) = no_run run.print command.Frames words frames_runs_none run.asks frames
+frames_not_refused words left left_after closed due bytes frames is short holds (inr (inl checked)) = apart command.Check command.Frames words refl checked.words_are frames
+frames_not_refused words left left_after closed due bytes frames is short holds (inr (inr (inl long))) = apart command.Check command.Frames words refl long.words_are frames
+frames_not_refused words left left_after closed due bytes frames is short holds (inr (inr (inr (inl lent)))) = apart command.Lend command.Frames words refl lent.words_are frames
+frames_not_refused words left left_after closed due bytes frames is short holds (inr (inr (inr (inr (inl played))))) = apart command.File command.Frames words refl played.words_are frames
+frames_not_refused words left left_after closed due bytes frames is short holds (inr (inr (inr (inr (inr framed))))) = by_cause framed.cause
   where
     by_cause : AreNoPackets left_after framed.came due → ⊥
     by_cause (inl whole) = held_not_refused bytes due holds (subst (λ (bs : List ℕ). IsTextRefusal bs due) (came_whole left left_after bytes framed.came is framed.read whole.0) whole.2)
     by_cause (inr long) = (let some = came_short left left_after bytes framed.came is framed.read in let more = long.0 in absurd (omega arith))
 
-tells_so : (told : Telling) (state : Status) (words : List (List ℕ)) (left left_after : Option (List ℕ)) (faults faults_after : ℕ) (closed : Option Closed) (due : List ℕ) → Causes told state words left left_after faults faults_after closed due → (bytes : List ℕ) → IsSpelled command.Frames words → left ≡ Some bytes → length bytes ≤ 67108864 → HoldsPackets bytes → NoFault faults faults_after → IsOfAnswer state
-tells_so told status.Ended words left left_after faults faults_after closed due why bytes frames is short holds calm = absurd (ended_no_frames finish.AllEnded words left left_after closed due frames why)
-tells_so told status.Budget words left left_after faults faults_after closed due why bytes frames is short holds calm = absurd (ended_no_frames finish.Budget words left left_after closed due frames why)
-tells_so told status.Stalled words left left_after faults faults_after closed due why bytes frames is short holds calm = absurd (ended_no_frames finish.Stalled words left left_after closed due frames why)
-tells_so told status.Refuted words left left_after faults faults_after closed due why bytes frames is short holds calm = absurd (refuted_no_frames words left left_after closed due frames why)
-tells_so told status.Legal words left left_after faults faults_after closed due why bytes frames is short holds calm = absurd (check_no_frames words why.words_are frames)
-tells_so told status.NotLegal words left left_after faults faults_after closed due why bytes frames is short holds calm = absurd (check_no_frames words why.words_are frames)
-tells_so told status.Steps words left left_after faults faults_after closed due why bytes frames is short holds calm = absurd (check_no_frames words why.words_are frames)
-tells_so told status.Answered words left left_after faults faults_after closed due why bytes frames is short holds calm = tt
-tells_so told status.Refused words left left_after faults faults_after closed due why bytes frames is short holds calm = absurd (frames_not_refused words left left_after closed due bytes frames is short holds why)
-tells_so told status.Usage words left left_after faults faults_after closed due why bytes frames is short holds calm = absurd (why.no_command (command.Frames, frames))
-tells_so told status.ReadFault words left left_after faults faults_after closed due why bytes frames is short holds calm = absurd (calm why.rose)
-tells_so told status.NoMemory words left left_after faults faults_after closed due why bytes frames is short holds calm = absurd why
-tells_so told status.WriteFault words left left_after faults faults_after closed due why bytes frames is short holds calm = absurd why
+-- what a command that runs nothing and judges nothing comes to, where it isn't refused
+answers_so : (told : Telling) (state : Status) (one : Command) (words : List (List ℕ)) (left left_after : Option (List ℕ)) (faults faults_after : ℕ) (closed : Option Closed) (due : List ℕ) → Causes told state words left left_after faults faults_after closed due → runs (form_of one) ≡ false → nat_eq (form_of (command.Load 0)) (form_of one) ≡ false → nat_eq (form_of command.Check) (form_of one) ≡ false → IsSpelled one words → (IsRefused words left left_after closed due → ⊥) → NoFault faults faults_after → IsOfAnswer state
+answers_so told status.Ended one words left left_after faults faults_after closed due why none load check are sound calm = absurd (ended_not finish.AllEnded one words left left_after closed due none load are why)
+answers_so told status.Budget one words left left_after faults faults_after closed due why none load check are sound calm = absurd (ended_not finish.Budget one words left left_after closed due none load are why)
+answers_so told status.Stalled one words left left_after faults faults_after closed due why none load check are sound calm = absurd (ended_not finish.Stalled one words left left_after closed due none load are why)
+answers_so told status.Refuted one words left left_after faults faults_after closed due why none load check are sound calm = absurd (refuted_not one words left left_after closed due none load are why)
+answers_so told status.Legal one words left left_after faults faults_after closed due why none load check are sound calm = absurd (apart command.Check one words check why.words_are are)
+answers_so told status.NotLegal one words left left_after faults faults_after closed due why none load check are sound calm = absurd (apart command.Check one words check why.words_are are)
+answers_so told status.Steps one words left left_after faults faults_after closed due why none load check are sound calm = absurd (apart command.Check one words check why.words_are are)
+answers_so told status.Answered one words left left_after faults faults_after closed due why none load check are sound calm = tt
+answers_so told status.Refused one words left left_after faults faults_after closed due why none load check are sound calm = absurd (sound why)
+answers_so told status.Usage one words left left_after faults faults_after closed due why none load check are sound calm = absurd (why.no_command (one, are))
+answers_so told status.ReadFault one words left left_after faults faults_after closed due why none load check are sound calm = absurd (calm why.rose)
+answers_so told status.NoMemory one words left left_after faults faults_after closed due why none load check are sound calm = absurd why
+answers_so told status.WriteFault one words left left_after faults faults_after closed due why none load check are sound calm = absurd why
 
 -- what a cluster file that has a refusal comes to
 refused_not_ended : (end : Finish) (print : Printing) (words : List (List ℕ)) (left left_after : Option (List ℕ)) (closed : Option Closed) (due bytes : List ℕ) (r : Refusal) → AsksFor print words → left ≡ Some bytes → Refuses bytes r → IsEnded end words left left_after closed due → ⊥
 refused_not_ended end print words left left_after closed due bytes r asks is refuses (inl file) =
     not_both bytes file.run_of.cluster r (subst (λ (bs : List ℕ). Describes bs file.run_of.cluster) (came_whole left left_after bytes file.came is file.read file.at_end) file.run_of.describes) refuses
-refused_not_ended end print words left left_after closed due bytes r asks is refuses (inr load) = run_no_load print load.count words asks load.asks
+refused_not_ended end print words left left_after closed due bytes r asks is refuses (inr load) = no_run print (command.Load load.count) words (load_runs_none load.count) asks load.asks
 
 refused_not_refuted : (print : Printing) (words : List (List ℕ)) (left left_after : Option (List ℕ)) (closed : Option Closed) (due bytes : List ℕ) (r : Refusal) → AsksFor print words → left ≡ Some bytes → Refuses bytes r → IsRefuted words left left_after closed due → ⊥
 refused_not_refuted print words left left_after closed due bytes r asks is refuses (inl file) =
     not_both bytes file.run_of.cluster r (subst (λ (bs : List ℕ). Describes bs file.run_of.cluster) (came_whole left left_after bytes file.came is file.read file.at_end) file.run_of.describes) refuses
-refused_not_refuted print words left left_after closed due bytes r asks is refuses (inr load) = run_no_load print load.count words asks load.asks
+refused_not_refuted print words left left_after closed due bytes r asks is refuses (inr load) = no_run print (command.Load load.count) words (load_runs_none load.count) asks load.asks
 
 refuses_so : (told : Telling) (state : Status) (words : List (List ℕ)) (left left_after : Option (List ℕ)) (faults faults_after : ℕ) (closed : Option Closed) (due : List ℕ) → Causes told state words left left_after faults faults_after closed due → (print : Printing) (bytes : List ℕ) (r : Refusal) → AsksFor print words → left ≡ Some bytes → Refuses bytes r → NoFault faults faults_after → IsOfRefusal state
 refuses_so told status.Ended words left left_after faults faults_after closed due why print bytes r asks is refuses calm = absurd (refused_not_ended finish.AllEnded print words left left_after closed due bytes r asks is refuses why)
 refuses_so told status.Budget words left left_after faults faults_after closed due why print bytes r asks is refuses calm = absurd (refused_not_ended finish.Budget print words left left_after closed due bytes r asks is refuses why)
 refuses_so told status.Stalled words left left_after faults faults_after closed due why print bytes r asks is refuses calm = absurd (refused_not_ended finish.Stalled print words left left_after closed due bytes r asks is refuses why)
 refuses_so told status.Refuted words left left_after faults faults_after closed due why print bytes r asks is refuses calm = absurd (refused_not_refuted print words left left_after closed due bytes r asks is refuses why)
-refuses_so told status.Legal words left left_after faults faults_after closed due why print bytes r asks is refuses calm = absurd (run_no_check print words asks why.words_are)
-refuses_so told status.NotLegal words left left_after faults faults_after closed due why print bytes r asks is refuses calm = absurd (run_no_check print words asks why.words_are)
-refuses_so told status.Steps words left left_after faults faults_after closed due why print bytes r asks is refuses calm = absurd (run_no_check print words asks why.words_are)
+refuses_so told status.Legal words left left_after faults faults_after closed due why print bytes r asks is refuses calm = absurd (no_run print command.Check words check_runs_none asks why.words_are)
+refuses_so told status.NotLegal words left left_after faults faults_after closed due why print bytes r asks is refuses calm = absurd (no_run print command.Check words check_runs_none asks why.words_are)
+refuses_so told status.Steps words left left_after faults faults_after closed due why print bytes r asks is refuses calm = absurd (no_run print command.Check words check_runs_none asks why.words_are)
 refuses_so told status.Answered words left left_after faults faults_after closed due why print bytes r asks is refuses calm = absurd (run_no_answer told print words left left_after closed due asks why)
 refuses_so told status.Refused words left left_after faults faults_after closed due why print bytes r asks is refuses calm = tt
 refuses_so told status.Usage words left left_after faults faults_after closed due why print bytes r asks is refuses calm = absurd (why.no_command (asks.command, asks.is_spelled))
@@ -358,14 +307,16 @@ refuted_asks words left left_after closed due (inr load) = (command.Load load.co
 
 answer_asks : (told : Telling) (words : List (List ℕ)) (left left_after : Option (List ℕ)) (closed : Option Closed) (due : List ℕ) → IsAnswered told words left left_after closed due → IsCommand words
 answer_asks told words left left_after closed due (inl lent) = (command.Lend, lent.words_are)
-answer_asks told words left left_after closed due (inr framed) = (command.Frames, framed.words_are)
+answer_asks told words left left_after closed due (inr (inl played)) = (command.File, played.words_are)
+answer_asks told words left left_after closed due (inr (inr framed)) = (command.Frames, framed.words_are)
 
 refused_asks : (words : List (List ℕ)) (left left_after : Option (List ℕ)) (closed : Option Closed) (due : List ℕ) → IsRefused words left left_after closed due → IsCommand words
 refused_asks words left left_after closed due (inl run) = (run.asks.command, run.asks.is_spelled)
 refused_asks words left left_after closed due (inr (inl checked)) = (command.Check, checked.words_are)
 refused_asks words left left_after closed due (inr (inr (inl long))) = (command.Check, long.words_are)
 refused_asks words left left_after closed due (inr (inr (inr (inl lent)))) = (command.Lend, lent.words_are)
-refused_asks words left left_after closed due (inr (inr (inr (inr framed)))) = (command.Frames, framed.words_are)
+refused_asks words left left_after closed due (inr (inr (inr (inr (inl played))))) = (command.File, played.words_are)
+refused_asks words left left_after closed due (inr (inr (inr (inr (inr framed))))) = (command.Frames, framed.words_are)
 
 usage_so : (told : Telling) (state : Status) (words : List (List ℕ)) (left left_after : Option (List ℕ)) (faults faults_after : ℕ) (closed : Option Closed) (due : List ℕ) → Causes told state words left left_after faults faults_after closed due → (IsCommand words → ⊥) → IsOfUsage state
 usage_so told status.Ended words left left_after faults faults_after closed due why none = absurd (none (ended_asks finish.AllEnded words left left_after closed due why))
@@ -388,8 +339,9 @@ caused_completes told sunk sunk_after state words left left_after faults faults_
   runs = λ print bytes c asks is describes calm sound. runs_so told state words left left_after faults faults_after closed due why print bytes c asks is describes calm;
   loads = λ count load calm sound. loads_so told state words left left_after faults faults_after closed due why count load calm;
   checks = λ bytes check is short formed calm sound. checks_so told state words left left_after faults faults_after closed due why bytes check is short formed calm;
-  answers = λ bytes lines lend is short answers calm sound. answers_so told state words left left_after faults faults_after closed due why bytes lines lend is short answers calm;
-  tells = λ bytes frames is short holds calm sound. tells_so told state words left left_after faults faults_after closed due why bytes frames is short holds calm;
+  answers = λ bytes lines lend is short answers calm sound. answers_so told state command.Lend words left left_after faults faults_after closed due why lend_runs_none refl refl lend (lend_not_refused words left left_after closed due bytes lines lend is short answers) calm;
+  plays = λ bytes lines file is short answers calm sound. answers_so told state command.File words left left_after faults faults_after closed due why file_runs_none refl refl file (file_not_refused words left left_after closed due bytes lines file is short answers) calm;
+  tells = λ bytes frames is short holds calm sound. answers_so told state command.Frames words left left_after faults faults_after closed due why frames_runs_none refl refl frames (frames_not_refused words left left_after closed due bytes frames is short holds) calm;
   refuses = λ print bytes r asks is refuses calm. refuses_so told state words left left_after faults faults_after closed due why print bytes r asks is refuses calm;
   refuses_words = λ none. usage_so told state words left left_after faults faults_after closed due why none;
 }
@@ -400,6 +352,7 @@ broken_completes words left faults faults_after sunk sunk_after rose = record {
   loads = λ count load calm sound. absurd (sound rose);
   checks = λ bytes check is short formed calm sound. absurd (sound rose);
   answers = λ bytes lines lend is short answers calm sound. absurd (sound rose);
+  plays = λ bytes lines file is short answers calm sound. absurd (sound rose);
   tells = λ bytes frames is short holds calm sound. absurd (sound rose);
   refuses = λ print bytes r asks is refuses calm. tt;
   refuses_words = λ none. tt;
@@ -411,6 +364,7 @@ wanting_completes words left faults faults_after sunk sunk_after = record {
   loads = λ count load calm sound. tt;
   checks = λ bytes check is short formed calm sound. tt;
   answers = λ bytes lines lend is short answers calm sound. tt;
+  plays = λ bytes lines file is short answers calm sound. tt;
   tells = λ bytes frames is short holds calm sound. tt;
   refuses = λ print bytes r asks is refuses calm. tt;
   refuses_words = λ none. tt;

@@ -1,5 +1,5 @@
 -- The words of the command line, and what is due for a whole file.
-use Rattle.std.proofs.Common.{◌≡◌, ◌∙◌, ℕ, ◌≤◌, Bool, true, false, List, length, Option, Result, Ok, Err, IfOk, sym, inl, inr, None, Some, refl, ap, subst}
+use Rattle.std.proofs.Common.{codes, ◌≡◌, ◌∙◌, ℕ, ◌≤◌, Bool, true, false, List, length, Option, Result, Ok, Err, IfOk, sym, inl, inr, None, Some, refl, ap, subst}
 use Rattle.std.specs.Io.KnownBytes.{Consumes, IsAtEnd}
 use Rattle.sprite_ids.specs.declared.no_memory.NoMemory.{NoMemory}
 use Rattle.sprite_bytes.specs.Counts.{IsFault, Rose}
@@ -20,13 +20,15 @@ use Rattle.report_print.specs.declared.Tally.{Tally}
 use Rattle.one_kernel.specs.declared.verdict.Verdict.TheVariants as verdict
 use Rattle.history_check.specs.declared.judgement.Judgement.{Judgement}
 use Rattle.history_check.specs.declared.judgement.Judgement.TheVariants as judgement
-use Rattle.sprite_top.specs.Judged.{TextCauses, judgement_status}
+use Rattle.sprite_top.specs.Judged.{TextCauses, judgement_status, numbered_line}
 use Rattle.sprite_words.specs.declared.Command.TheVariants as command
+use Rattle.lend_text.specs.Bodies.{answer_text}
+use Rattle.restart_text.specs.FileTexts.{file_text}
 use Rattle.sprite_words.specs.Words.{IsSpelled}
 use Rattle.frames_text.specs.declared.FramesAnswer.{FramesAnswer}
 use Rattle.frames_text.specs.declared.FramesAnswer.TheVariants.{Lines, Refused}
 use Rattle.frames_text.specs.Texts.{Answers, AreTold}
-use Rattle.sprite_top.specs.Top.{Telling, PacketsCauses, told_answer, AsksFor, IsCommand, RunsOver, LoadCauses, EventsCauses, fault_line, printed, status_of, Causes, FileCauses, ClusterCauses}
+use Rattle.sprite_top.specs.Top.{Telling, PacketsCauses, told_answer, AsksFor, IsCommand, RunsOver, LoadCauses, LinesCauses, Reading, fault_line, printed, status_of, Causes, FileCauses, ClusterCauses}
 use Rattle.sprite_ids.specs.declared.running.Finish.{Finish}
 use Rattle.sprite_ids.specs.declared.running.Finish.TheVariants as finish
 use Rattle.run_judge.specs.Judged.{IsJudged}
@@ -183,7 +185,7 @@ pub accepted : (print : Printing) (run : Closed) (output due : List ℕ) (tally 
 accepted print run output due tally spent j is = accepted_at print run.description run output due tally run.finish refl refl spent j is
 
 -- what is due for a text of events is due for the words `lend`, whose source was read to its end
-of_events : (told : Telling) (state : Status) (words : List (List ℕ)) (left left_after : Option (List ℕ)) (faults faults_after : ℕ) (came : List ℕ) (closed : Option Closed) (due : List ℕ) → IsSpelled command.Lend words → Consumes left left_after came → IsAtEnd left_after → length came ≤ 1048576 → EventsCauses state came closed due → Causes told state words left left_after faults faults_after closed due
+of_events : (told : Telling) (state : Status) (words : List (List ℕ)) (left left_after : Option (List ℕ)) (faults faults_after : ℕ) (came : List ℕ) (closed : Option Closed) (due : List ℕ) → IsSpelled command.Lend words → Consumes left left_after came → IsAtEnd left_after → length came ≤ 1048576 → LinesCauses answer_text state came closed due → Causes told state words left left_after faults faults_after closed due
 of_events told status.Answered words left left_after faults faults_after came closed due are read end short why =
     inl (record { words_are = are; came = came; read = read; at_end = end; short = short; answers = why.0; no_run = why.1 })
 of_events told status.Refused words left left_after faults faults_after came closed due are read end short why =
@@ -200,16 +202,46 @@ of_events told status.NotLegal words left left_after faults faults_after came cl
 of_events told status.Steps words left left_after faults faults_after came closed due are read end short why = absurd why
 of_events told status.WriteFault words left left_after faults faults_after came closed due are read end short why = absurd why
 
-pub from_events : (told : Telling) (words : List (List ℕ)) (left left_after : Option (List ℕ)) (faults faults_after : ℕ) (came : List ℕ) (r : Result Answer NoMemory) → IsSpelled command.Lend words → Consumes left left_after came → IsAtEnd left_after → length came ≤ 1048576 → IfOk r (λ a. EventsCauses a.status came a.closed a.due) → IfOk r (λ a. Causes told a.status words left left_after faults faults_after a.closed a.due)
+pub from_events : (told : Telling) (words : List (List ℕ)) (left left_after : Option (List ℕ)) (faults faults_after : ℕ) (came : List ℕ) (r : Result Answer NoMemory) → IsSpelled command.Lend words → Consumes left left_after came → IsAtEnd left_after → length came ≤ 1048576 → IfOk r (λ a. LinesCauses answer_text a.status came a.closed a.due) → IfOk r (λ a. Causes told a.status words left left_after faults faults_after a.closed a.due)
 from_events told words left left_after faults faults_after came (Ok a) are read end short why = of_events told a.status words left left_after faults faults_after came a.closed a.due are read end short why
 from_events told words left left_after faults faults_after came (Err e) are read end short why = why
+
+-- what is due for a text of steps of a file is due for the words `file`, whose source was read to its end
+of_steps : (told : Telling) (state : Status) (words : List (List ℕ)) (left left_after : Option (List ℕ)) (faults faults_after : ℕ) (came : List ℕ) (closed : Option Closed) (due : List ℕ) → IsSpelled command.File words → Consumes left left_after came → IsAtEnd left_after → length came ≤ 1048576 → LinesCauses file_text state came closed due → Causes told state words left left_after faults faults_after closed due
+of_steps told status.Answered words left left_after faults faults_after came closed due are read end short why =
+    inr (inl (record { words_are = are; came = came; read = read; at_end = end; short = short; answers = why.0; no_run = why.1 }))
+of_steps told status.Refused words left left_after faults faults_after came closed due are read end short why =
+    inr (inr (inr (inr (inl (record { words_are = are; came = came; read = read; cause = inl (end, short, why.0); no_run = why.1 })))))
+of_steps told status.Ended words left left_after faults faults_after came closed due are read end short why = absurd why
+of_steps told status.Budget words left left_after faults faults_after came closed due are read end short why = absurd why
+of_steps told status.Stalled words left left_after faults faults_after came closed due are read end short why = absurd why
+of_steps told status.Refuted words left left_after faults faults_after came closed due are read end short why = absurd why
+of_steps told status.Usage words left left_after faults faults_after came closed due are read end short why = absurd why
+of_steps told status.ReadFault words left left_after faults faults_after came closed due are read end short why = absurd why
+of_steps told status.NoMemory words left left_after faults faults_after came closed due are read end short why = absurd why
+of_steps told status.Legal words left left_after faults faults_after came closed due are read end short why = absurd why
+of_steps told status.NotLegal words left left_after faults faults_after came closed due are read end short why = absurd why
+of_steps told status.Steps words left left_after faults faults_after came closed due are read end short why = absurd why
+of_steps told status.WriteFault words left left_after faults faults_after came closed due are read end short why = absurd why
+
+pub from_steps : (told : Telling) (words : List (List ℕ)) (left left_after : Option (List ℕ)) (faults faults_after : ℕ) (came : List ℕ) (r : Result Answer NoMemory) → IsSpelled command.File words → Consumes left left_after came → IsAtEnd left_after → length came ≤ 1048576 → IfOk r (λ a. LinesCauses file_text a.status came a.closed a.due) → IfOk r (λ a. Causes told a.status words left left_after faults faults_after a.closed a.due)
+from_steps told words left left_after faults faults_after came (Ok a) are read end short why = of_steps told a.status words left left_after faults faults_after came a.closed a.due are read end short why
+from_steps told words left left_after faults faults_after came (Err e) are read end short why = why
+
+-- an answer to the lines of a text, and the line that refuses one
+pub from_answered : (reads : Reading) (text due : List ℕ) (a : Answer) → reads text ≡ Ok due → a ≡ record { status = status.Answered; due = due; closed = None } → LinesCauses reads a.status text a.closed a.due
+from_answered reads text due a is made = subst (λ (b : Answer). LinesCauses reads b.status text b.closed b.due) (sym made) (is, refl)
+
+pub from_bad_line : (reads : Reading) (text : List ℕ) (number : ℕ) (r : Result Answer NoMemory) → reads text ≡ Err number → IfOk r (λ a. a ≡ record { status = status.Refused; due = numbered_line (codes "refused: 15 line ") number; closed = None }) → IfOk r (λ a. LinesCauses reads a.status text a.closed a.due)
+from_bad_line reads text number (Ok a) is made = subst (λ (b : Answer). LinesCauses reads b.status text b.closed b.due) (sym made) (record { number = number; bad = is; line_is = refl }, refl)
+from_bad_line reads text number (Err e) is made = made
 
 -- what is due for a text of packets is due for the words `frames`, whose source was read to its end
 of_packets : (told : Telling) (state : Status) (words : List (List ℕ)) (left left_after : Option (List ℕ)) (faults faults_after : ℕ) (came : List ℕ) (closed : Option Closed) (due : List ℕ) → IsSpelled command.Frames words → Consumes left left_after came → IsAtEnd left_after → length came ≤ 67108864 → PacketsCauses told state came closed due → Causes told state words left left_after faults faults_after closed due
 of_packets told status.Answered words left left_after faults faults_after came closed due are read end short why =
-    inr (record { words_are = are; came = came; read = read; at_end = end; short = short; tells = why.0; no_run = why.1 })
+    inr (inr (record { words_are = are; came = came; read = read; at_end = end; short = short; tells = why.0; no_run = why.1 }))
 of_packets told status.Refused words left left_after faults faults_after came closed due are read end short why =
-    inr (inr (inr (inr (record { words_are = are; came = came; read = read; cause = inl (end, short, why.0); no_run = why.1 }))))
+    inr (inr (inr (inr (inr (record { words_are = are; came = came; read = read; cause = inl (end, short, why.0); no_run = why.1 })))))
 of_packets told status.Ended words left left_after faults faults_after came closed due are read end short why = absurd why
 of_packets told status.Budget words left left_after faults faults_after came closed due are read end short why = absurd why
 of_packets told status.Stalled words left left_after faults faults_after came closed due are read end short why = absurd why

@@ -1,5 +1,5 @@
 -- What the top call promises for each status.
-use Rattle.std.specs.Prelude.{codes, IsTrue, ◌≡◌, ◌≢◌, ℕ, ◌+◌, ◌<◌, ◌≤◌, Bool, true, false, ◌⊎◌, List, [], ◌∷◌, ◌++◌, Option, Some, None, Ok, Err, length, take}
+use Rattle.std.specs.Prelude.{codes, IsTrue, ◌≡◌, ◌≢◌, ℕ, ◌+◌, ◌<◌, ◌≤◌, Bool, true, false, ◌⊎◌, List, [], ◌∷◌, ◌++◌, Option, Some, None, Result, Ok, Err, length, take}
 use Rattle.std.specs.List.{list_any}
 use Rattle.std.specs.Io.KnownBytes.{Consumes, Appends, IsAtEnd}
 use Rattle.sprite_ids.specs.declared.running.Finish.{Finish}
@@ -20,6 +20,7 @@ use Rattle.report_print.specs.Stats.{stats_of}
 use Rattle.report_print.specs.Summaries.{summary_of}
 use Rattle.workload_maker.specs.Workloads.{workload_text}
 use Rattle.lend_text.specs.Bodies.{answer_text}
+use Rattle.restart_text.specs.FileTexts.{file_text}
 use Rattle.frames_text.specs.declared.FramesAnswer.{FramesAnswer}
 use Rattle.frames_text.specs.declared.FramesAnswer.TheVariants.{Lines, Refused}
 use Rattle.frames_text.specs.Texts.{HoldsPackets, IsTextRefusal}
@@ -64,6 +65,7 @@ printing_of (command.Load count) = None
 printing_of command.Check = None
 printing_of command.Trace = Some printing.Trace
 printing_of command.Frames = None
+printing_of command.File = None
 printing_of command.Lend = None
 
 -- the words spell a command that runs the cluster of a cluster file and prints that of it
@@ -87,7 +89,7 @@ printed printing.Trace c trace end = trace_of trace ++ last_line end
 
 -- the lines that are written where nothing was run
 abbrev pub usage_line : List ℕ
-usage_line = codes "usage: sprite run | run --seed N | run --stats | history | load N | check | trace | frames | lend\n"
+usage_line = codes "usage: sprite run | run --seed N | run --stats | history | load N | check | trace | frames | file | lend\n"
 
 abbrev pub too_long_line : List ℕ
 too_long_line = codes "refused: 1\n"
@@ -297,33 +299,37 @@ pub record IsTextTooLong (words : List (List ℕ)) (left left_after : Option (Li
   pub long : 67108864 < length came
   pub line : IsLine closed due too_long_line
 
--- the words are `lend`, the source was read to its end, and what is due answers the events that came
-pub record IsLent (words : List (List ℕ)) (left left_after : Option (List ℕ)) (closed : Option Closed) (due : List ℕ) : Type 0 where
-  pub words_are : IsSpelled command.Lend words
+-- what answers a text: the bytes that are due, or the number of its first line that isn't of its form
+abbrev pub Reading : Type 0
+Reading = List ℕ → Result (List ℕ) ℕ
+
+-- the words are that command, the source was read to its end, and what is due answers the lines that came
+pub record IsRead (command : Command) (reads : Reading) (words : List (List ℕ)) (left left_after : Option (List ℕ)) (closed : Option Closed) (due : List ℕ) : Type 0 where
+  pub words_are : IsSpelled command words
   pub came : List ℕ
   pub read : Consumes left left_after came
   pub at_end : IsAtEnd left_after
   pub short : length came ≤ 1048576
-  pub answers : answer_text came ≡ Ok due
+  pub answers : reads came ≡ Ok due
   pub no_run : closed ≡ None
 
 -- a line isn't of its form, and what is due says which
-pub record IsBadLine (text due : List ℕ) : Type 0 where
+pub record IsBadLine (reads : Reading) (text due : List ℕ) : Type 0 where
   pub number : ℕ
-  pub bad : answer_text text ≡ Err number
+  pub bad : reads text ≡ Err number
   pub line_is : due ≡ numbered_line (codes "refused: 15 line ") number
 
 -- bytes that are read to their end and have a line that isn't of its form, or too many bytes
-abbrev pub AreNoEvents : Option (List ℕ) → List ℕ → List ℕ → Type 0
-AreNoEvents left_after came due =
-    (IsAtEnd left_after × (length came ≤ 1048576) × IsBadLine came due) ⊎ ((1048576 < length came) × (due ≡ too_long_line))
+abbrev pub AreNoLines : Reading → Option (List ℕ) → List ℕ → List ℕ → Type 0
+AreNoLines reads left_after came due =
+    (IsAtEnd left_after × (length came ≤ 1048576) × IsBadLine reads came due) ⊎ ((1048576 < length came) × (due ≡ too_long_line))
 
--- the words are `lend`, and what was read is no text of events
-pub record IsLendRefused (words : List (List ℕ)) (left left_after : Option (List ℕ)) (closed : Option Closed) (due : List ℕ) : Type 0 where
-  pub words_are : IsSpelled command.Lend words
+-- the words are that command, and what was read isn't of its form
+pub record IsMisread (command : Command) (reads : Reading) (words : List (List ℕ)) (left left_after : Option (List ℕ)) (closed : Option Closed) (due : List ℕ) : Type 0 where
+  pub words_are : IsSpelled command words
   pub came : List ℕ
   pub read : Consumes left left_after came
-  pub cause : AreNoEvents left_after came due
+  pub cause : AreNoLines reads left_after came due
   pub no_run : closed ≡ None
 
 -- what a text of packets and the lines that tell of them have to do with each other
@@ -340,9 +346,10 @@ pub record IsFramed (told : Telling) (words : List (List ℕ)) (left left_after 
   pub tells : told came due
   pub no_run : closed ≡ None
 
--- events were answered, or packets were sent
+-- events were answered, steps of a file were played, or packets were sent
 abbrev pub IsAnswered : Telling → List (List ℕ) → Option (List ℕ) → Option (List ℕ) → Option Closed → List ℕ → Type 0
-IsAnswered told words left left_after closed due = IsLent words left left_after closed due ⊎ IsFramed told words left left_after closed due
+IsAnswered told words left left_after closed due =
+    IsRead command.Lend answer_text words left left_after closed due ⊎ (IsRead command.File file_text words left left_after closed due ⊎ IsFramed told words left left_after closed due)
 
 -- bytes that are read to their end and are refused as a text of packets, or too many bytes
 abbrev pub AreNoPackets : Option (List ℕ) → List ℕ → List ℕ → Type 0
@@ -357,11 +364,11 @@ pub record IsFramesRefused (words : List (List ℕ)) (left left_after : Option (
   pub cause : AreNoPackets left_after came due
   pub no_run : closed ≡ None
 
--- what was read is refused: as a cluster file, as a text that is to be checked, since it is too long, as a text of events, or as one of
--- packets
+-- what was read is refused: as a cluster file, as a text that is to be checked, since it is too long, as a text of events, as one of steps of
+-- a file, or as one of packets
 abbrev pub IsRefused : List (List ℕ) → Option (List ℕ) → Option (List ℕ) → Option Closed → List ℕ → Type 0
 IsRefused words left left_after closed due =
-    IsRunRefused words left left_after closed due ⊎ (IsChecked status.Refused words left left_after closed due ⊎ (IsTextTooLong words left left_after closed due ⊎ (IsLendRefused words left left_after closed due ⊎ IsFramesRefused words left left_after closed due)))
+    IsRunRefused words left left_after closed due ⊎ (IsChecked status.Refused words left left_after closed due ⊎ (IsTextTooLong words left left_after closed due ⊎ (IsMisread command.Lend answer_text words left left_after closed due ⊎ (IsMisread command.File file_text words left left_after closed due ⊎ IsFramesRefused words left left_after closed due))))
 
 -- the words are no command, and nothing was read
 pub record IsUsage (words : List (List ℕ)) (left left_after : Option (List ℕ)) (faults faults_after : ℕ) (closed : Option Closed) (due : List ℕ) : Type 0 where
@@ -417,11 +424,11 @@ LoadCauses count status.Stalled closed due = IsFileRun (printing.Summary count) 
 LoadCauses count status.Refuted closed due = IsFileRefuted (workload_text count) closed due
 LoadCauses count other closed due = ⊥
 
--- what is due for a text of events
-abbrev pub EventsCauses : Status → List ℕ → Option Closed → List ℕ → Type 0
-EventsCauses status.Answered text closed due = (answer_text text ≡ Ok due) × (closed ≡ None)
-EventsCauses status.Refused text closed due = IsBadLine text due × (closed ≡ None)
-EventsCauses other text closed due = ⊥
+-- what is due for a text of lines
+abbrev pub LinesCauses : Reading → Status → List ℕ → Option Closed → List ℕ → Type 0
+LinesCauses reads status.Answered text closed due = (reads text ≡ Ok due) × (closed ≡ None)
+LinesCauses reads status.Refused text closed due = IsBadLine reads text due × (closed ≡ None)
+LinesCauses reads other text closed due = ⊥
 
 -- what is due for a text of packets
 abbrev pub PacketsCauses : Telling → Status → List ℕ → Option Closed → List ℕ → Type 0
@@ -457,7 +464,7 @@ status_of finish.Budget = status.Budget
 status_of finish.Stalled = status.Stalled
 status_of _ = status.Refuted
 
--- what a run of a described cluster, the check of a history, an answer to events or packets, a refused file, and words that are no command may come to
+-- what a run of a described cluster, the check of a history, an answer to events, to steps of a file or to packets, a refused file, and words that are no command may come to
 abbrev pub IsOfRun : Status → Type 0
 IsOfRun status.Ended = Unit {0}
 IsOfRun status.Budget = Unit {0}
@@ -501,6 +508,7 @@ pub record Completes (state : Status) (words : List (List ℕ)) (left : Option (
   pub loads : (count : ℕ) → IsSpelled (command.Load count) words → NoFault faults faults_after → NoFault sunk sunk_after → IsOfRun state
   pub checks : (bytes : List ℕ) → IsSpelled command.Check words → left ≡ Some bytes → length bytes ≤ 67108864 → ((j : Judgement) → ComesTo bytes j → judgement_status j ≢ status.Refused) → NoFault faults faults_after → NoFault sunk sunk_after → IsOfCheck state
   pub answers : (bytes lines : List ℕ) → IsSpelled command.Lend words → left ≡ Some bytes → length bytes ≤ 1048576 → answer_text bytes ≡ Ok lines → NoFault faults faults_after → NoFault sunk sunk_after → IsOfAnswer state
+  pub plays : (bytes lines : List ℕ) → IsSpelled command.File words → left ≡ Some bytes → length bytes ≤ 1048576 → file_text bytes ≡ Ok lines → NoFault faults faults_after → NoFault sunk sunk_after → IsOfAnswer state
   pub tells : (bytes : List ℕ) → IsSpelled command.Frames words → left ≡ Some bytes → length bytes ≤ 67108864 → HoldsPackets bytes → NoFault faults faults_after → NoFault sunk sunk_after → IsOfAnswer state
   pub refuses : (print : Printing) (bytes : List ℕ) (refusal : Refusal) → AsksFor print words → left ≡ Some bytes → Refuses bytes refusal → NoFault faults faults_after → IsOfRefusal state
   pub refuses_words : (IsCommand words → ⊥) → IsOfUsage state

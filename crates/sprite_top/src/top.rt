@@ -1,11 +1,13 @@
-ghost use Rattle.std.specs.Prelude.{◌≡◌, ◌≤◌, ℕ, List, None, IfOk, length};
+ghost use Rattle.std.specs.Prelude.{codes, ◌≡◌, ◌≤◌, ℕ, List, None, IfOk, length};
 ghost use Rattle.sprite_words.specs.Words.{spelled, IsSpelled};
-ghost use Rattle.sprite_words.specs.declared.Command.TheVariants.{Check, Frames, Lend};
+ghost use Rattle.sprite_words.specs.declared.Command.TheVariants.{Check, File, Frames, Lend};
 ghost use Rattle.sprite_ids.specs.declared.running.Finish.TheVariants.{AllEnded, Budget as Spent, Stalled as Stopped};
 ghost use Rattle.frames_text.specs.Texts.{AreTold};
+ghost use Rattle.lend_text.specs.Bodies.{answer_text};
+ghost use Rattle.restart_text.specs.FileTexts.{file_text};
 ghost use Rattle.report_print.specs.Refused.{refusal_line};
-ghost use Rattle.sprite_top.specs.Judged.{TextCauses, judgement_status, verdict_status};
-ghost use Rattle.sprite_top.specs.Top.{AllWereReached, Completes, IsRunOver, RunsOver, TellsFaultsOf, TellsWireOf, AsksFor, LoadCauses, EventsCauses, PacketsCauses, told_answer, RoseForCause, IsEnded, IsChecked, IsAnswered, IsRefuted, IsRefused, IsUsage, IsReadFault, Causes, FileCauses, Wrote, Broke, status_number};
+ghost use Rattle.sprite_top.specs.Judged.{TextCauses, judgement_status, numbered_line, verdict_status};
+ghost use Rattle.sprite_top.specs.Top.{AllWereReached, Completes, IsRunOver, RunsOver, TellsFaultsOf, TellsWireOf, AsksFor, LoadCauses, LinesCauses, PacketsCauses, told_answer, RoseForCause, IsEnded, IsChecked, IsAnswered, IsRefuted, IsRefused, IsUsage, IsReadFault, Causes, FileCauses, Wrote, Broke, status_number};
 
 use crate::clusters::answer_cluster;
 use crate::judged::{judgement_line, numbered_line};
@@ -18,6 +20,7 @@ use lend_text::{LendError, lend_text};
 use link_plan::Link;
 use one_kernel::Verdict;
 use report_print::refusal_line;
+use restart_text::{RestartError, file_text};
 use sprite_bytes::{ReadEnd, Sink, Source, read_all, write_all};
 use sprite_ids::{Bytes, NoMemory};
 use sprite_words::{Command, command_of};
@@ -26,7 +29,7 @@ use std::sync::Wait;
 use std::thread::Threads;
 use workload_maker::workload;
 
-/// How many bytes a cluster file, or a text of events, may have.
+/// How many bytes a cluster file, a text of events, or one of steps of a file, may have.
 const FILE_BYTES: usize = 1_048_576;
 
 /// How many bytes a cluster file, a line `=====` and a history, or packets, may have.
@@ -34,7 +37,7 @@ const TEXT_BYTES: usize = 67_108_864;
 
 /// What is written where the words are no command.
 const USAGE_LINE: &[u8] =
-    b"usage: sprite run | run --seed N | run --stats | history | load N | check | trace | frames | lend\n";
+    b"usage: sprite run | run --seed N | run --stats | history | load N | check | trace | frames | file | lend\n";
 
 /// What is written for more bytes than the command may read.
 const TOO_LONG_LINE: &[u8] = b"refused: 1\n";
@@ -122,10 +125,11 @@ pub struct Answer {
 /// cluster file and print its output, that and the counts of its trace, its journal or its trace, and `check` judges a history, which
 /// stands behind a cluster file and a line `=====`, against the one-kernel Unix, without running a cluster; `load N` runs a workload of N
 /// processes and prints its summary; `frames` sends packets, which stand behind a cluster file and a line `=====`, in frames over the
-/// link, without running a cluster; `lend` answers a text of events of hosts that are lent. A cluster is run by a thread for each of
-/// its kernels, which tell `watch` where they are; by one thread, which tells nothing, where there is a seed. It may wait for ever.
-/// All that is due is made before its first byte is written. Want of memory may come at any point before, and then nothing is
-/// written. Where a source or a sink tells nothing of its bytes, the clauses say that some bytes were read or written so.
+/// link, without running a cluster; `file` plays a text of steps of one file whose server may stop and come back; `lend` answers a text
+/// of events of hosts that are lent. A cluster is run by a thread for each of its kernels, which tell `watch` where they are; by one
+/// thread, which tells nothing, where there is a seed. It may wait for ever. All that is due is made before its first byte is written.
+/// Want of memory may come at any point before, and then nothing is written. Where a source or a sink tells nothing of its bytes, the
+/// clauses say that some bytes were read or written so.
 #[tactic(auto, using(crate::proofs::CauseLaws::run_over, crate::proofs::CauseLaws::counted_over, crate::proofs::CauseLaws::wire_over, crate::proofs::CompleteLaws::broken_completes, crate::proofs::CompleteLaws::wanting_completes))]
 pub fn sprite<R: Threads + Wait + Sync, S: Source, K: Sink, L: Link + Send, W: Watch + Sync>(
     rt: &R,
@@ -250,6 +254,7 @@ fn answer_to<R: Threads + Wait + Sync, S: Source, L: Link + Send, W: Watch + Syn
         Some(Command::Load(count)) => answer_load(rt, alloc, count, link, watch),
         Some(Command::Check) => answer_check(alloc, source, link),
         Some(Command::Frames) => answer_frames(alloc, source, link),
+        Some(Command::File) => answer_steps(alloc, source, link),
         Some(Command::Lend) => answer_lend(alloc, source, link),
         None => (refuse(alloc, Status::Usage, USAGE_LINE), link),
     }
@@ -371,6 +376,35 @@ fn told_answer(told: FramesAnswer) -> Answer
     }
 }
 
+/// What is due for the word `file` and this source, and the link. The one error is want of memory.
+fn answer_steps<S: Source, L: Link>(
+    alloc: Global,
+    source: &mut S,
+    link: L,
+) -> (Result<Answer, NoMemory>, L)
+    ensures no_run { IfOk result.0 (λ a. a.closed ≡ None) }
+    ensures causes { (words : List (List ℕ)) → IsSpelled File words → IfOk result.0 (λ a. Causes (AreTold L.faults L.asked link result.1) a.status words (S.left source.old) (S.left source.new) (S.faults source.old) (S.faults source.new) a.closed a.due) }
+{
+    match read_all(alloc, source, FILE_BYTES) {
+        Ok(bytes) => (answer_step_lines(alloc, bytes.as_slice()), link),
+        Err(ReadEnd::TooLong) => (refuse(alloc, Status::Refused, TOO_LONG_LINE), link),
+        Err(ReadEnd::Fault { .. }) => (refuse(alloc, Status::ReadFault, FAULT_LINE), link),
+        Err(ReadEnd::NoMemory) => (Err(NoMemory), link),
+    }
+}
+
+/// What is due for a whole text of steps of a file. The one error is want of memory.
+fn answer_step_lines(alloc: Global, text: &[u8]) -> Result<Answer, NoMemory>
+    ensures no_run { IfOk result (λ a. a.closed ≡ None) }
+    ensures causes { IfOk result (λ a. LinesCauses file_text a.status text.now a.closed a.due) }
+{
+    match file_text(alloc, text) {
+        Ok(told) => Ok(answer_lines(told)),
+        Err(RestartError::Line(number)) => refuse_line(alloc, number),
+        Err(RestartError::NoMemory) => Err(NoMemory),
+    }
+}
+
 /// What is due for the word `lend` and this source, and the link. The one error is want of memory.
 fn answer_lend<S: Source, L: Link>(
     alloc: Global,
@@ -391,22 +425,32 @@ fn answer_lend<S: Source, L: Link>(
 /// What is due for a whole text of events of hosts. The one error is want of memory.
 fn answer_events(alloc: Global, text: &[u8]) -> Result<Answer, NoMemory>
     ensures no_run { IfOk result (λ a. a.closed ≡ None) }
-    ensures causes { IfOk result (λ a. EventsCauses a.status text.now a.closed a.due) }
+    ensures causes { IfOk result (λ a. LinesCauses answer_text a.status text.now a.closed a.due) }
 {
     match lend_text(alloc, text) {
-        Ok(answers) => {
-            Ok(Answer {
-                status: Status::Answered,
-                due: Bytes::of_vec(answers),
-                closed: None,
-            })
-        }
-        Err(LendError::Line(number)) => {
-            let line = numbered_line(alloc, b"refused: 15 line ", number as u64)?;
-            refuse(alloc, Status::Refused, line.as_slice())
-        }
+        Ok(told) => Ok(answer_lines(told)),
+        Err(LendError::Line(number)) => refuse_line(alloc, number),
         Err(LendError::NoMemory) => Err(NoMemory),
     }
+}
+
+/// An answer to the lines of a text.
+fn answer_lines(told: Vec<u8>) -> Answer
+    ensures { result ≡ record { status = Status.Answered; due = told.items; closed = None } }
+{
+    Answer {
+        status: Status::Answered,
+        due: Bytes::of_vec(told),
+        closed: None,
+    }
+}
+
+/// What is due for a text whose line of that number isn't of its form. The one error is want of memory.
+fn refuse_line(alloc: Global, number: usize) -> Result<Answer, NoMemory>
+    ensures { IfOk result (λ a. a ≡ record { status = Status.Refused; due = numbered_line (codes "refused: 15 line ") number; closed = None }) }
+{
+    let line = numbered_line(alloc, b"refused: 15 line ", number as u64)?;
+    refuse(alloc, Status::Refused, line.as_slice())
 }
 
 /// What is due for a whole text that is to be checked. The one error is want of memory.

@@ -9,16 +9,17 @@ only_word : (a b : List ℕ) → a ∷ [] ≡ b ∷ [] → a ≡ b
 only_word a b e = cc
 
 -- one word that is none of these
-pub no_word : (word : List ℕ) → (word ≡ codes "run" → ⊥) → (word ≡ codes "history" → ⊥) → (word ≡ codes "check" → ⊥) → (word ≡ codes "trace" → ⊥) → (word ≡ codes "frames" → ⊥) → (word ≡ codes "lend" → ⊥) → (some : Command) → IsSpelled some (word ∷ []) → ⊥
-no_word word run history check trace frames lend command.Run is = run (only_word word (codes "run") is)
-no_word word run history check trace frames lend (command.RunSeed seed) is = absurd (cc (is.words_are))
-no_word word run history check trace frames lend command.RunStats is = absurd (cc)
-no_word word run history check trace frames lend command.History is = history (only_word word (codes "history") is)
-no_word word run history check trace frames lend (command.Load count) is = absurd (cc (is.words_are))
-no_word word run history check trace frames lend command.Check is = check (only_word word (codes "check") is)
-no_word word run history check trace frames lend command.Trace is = trace (only_word word (codes "trace") is)
-no_word word run history check trace frames lend command.Frames is = frames (only_word word (codes "frames") is)
-no_word word run history check trace frames lend command.Lend is = lend (only_word word (codes "lend") is)
+pub no_word : (word : List ℕ) → (word ≡ codes "run" → ⊥) → (word ≡ codes "history" → ⊥) → (word ≡ codes "check" → ⊥) → (word ≡ codes "trace" → ⊥) → (word ≡ codes "frames" → ⊥) → (word ≡ codes "file" → ⊥) → (word ≡ codes "lend" → ⊥) → (some : Command) → IsSpelled some (word ∷ []) → ⊥
+no_word word run history check trace frames file lend command.Run is = run (only_word word (codes "run") is)
+no_word word run history check trace frames file lend (command.RunSeed seed) is = absurd (cc (is.words_are))
+no_word word run history check trace frames file lend command.RunStats is = absurd (cc)
+no_word word run history check trace frames file lend command.History is = history (only_word word (codes "history") is)
+no_word word run history check trace frames file lend (command.Load count) is = absurd (cc (is.words_are))
+no_word word run history check trace frames file lend command.Check is = check (only_word word (codes "check") is)
+no_word word run history check trace frames file lend command.Trace is = trace (only_word word (codes "trace") is)
+no_word word run history check trace frames file lend command.Frames is = frames (only_word word (codes "frames") is)
+no_word word run history check trace frames file lend command.File is = file (only_word word (codes "file") is)
+no_word word run history check trace frames file lend command.Lend is = lend (only_word word (codes "lend") is)
 
 first_word : (a b c x y z : List ℕ) → a ∷ b ∷ c ∷ [] ≡ x ∷ y ∷ z ∷ [] → a ≡ x
 first_word a b c x y z e = cc
@@ -45,6 +46,7 @@ no_pair a b stats load (command.Load count) is = load (first_of_two a b (codes "
 no_pair a b stats load command.Check is = absurd (cc)
 no_pair a b stats load command.Trace is = absurd (cc)
 no_pair a b stats load command.Frames is = absurd (cc)
+no_pair a b stats load command.File is = absurd (cc)
 no_pair a b stats load command.Lend is = absurd (cc)
 
 -- or end with no count
@@ -57,6 +59,7 @@ no_load a b stats none (command.Load count) is = none count (subst (λ (digits :
 no_load a b stats none command.Check is = absurd (cc)
 no_load a b stats none command.Trace is = absurd (cc)
 no_load a b stats none command.Frames is = absurd (cc)
+no_load a b stats none command.File is = absurd (cc)
 no_load a b stats none command.Lend is = absurd (cc)
 
 -- what spells no number spells no count
@@ -77,6 +80,7 @@ no_first a b c other (command.Load count) is = absurd (cc (is.words_are))
 no_first a b c other command.Check is = absurd (cc)
 no_first a b c other command.Trace is = absurd (cc)
 no_first a b c other command.Frames is = absurd (cc)
+no_first a b c other command.File is = absurd (cc)
 no_first a b c other command.Lend is = absurd (cc)
 
 pub no_second : (a b c : List ℕ) → (b ≡ codes "--seed" → ⊥) → (some : Command) → IsSpelled some (a ∷ b ∷ c ∷ []) → ⊥
@@ -88,6 +92,7 @@ no_second a b c other (command.Load count) is = absurd (cc (is.words_are))
 no_second a b c other command.Check is = absurd (cc)
 no_second a b c other command.Trace is = absurd (cc)
 no_second a b c other command.Frames is = absurd (cc)
+no_second a b c other command.File is = absurd (cc)
 no_second a b c other command.Lend is = absurd (cc)
 
 -- or end with no number
@@ -100,6 +105,7 @@ no_number a b c none (command.Load count) is = absurd (cc (is.words_are))
 no_number a b c none command.Check is = absurd (cc)
 no_number a b c none command.Trace is = absurd (cc)
 no_number a b c none command.Frames is = absurd (cc)
+no_number a b c none command.File is = absurd (cc)
 no_number a b c none command.Lend is = absurd (cc)
 
 -- what digits spell is no less than what stands before them

@@ -73,6 +73,7 @@ IsSpelled (command.Load count) words = IsLoad words count
 IsSpelled command.Check words = words ≡ codes "check" ∷ []
 IsSpelled command.Trace words = words ≡ codes "trace" ∷ []
 IsSpelled command.Frames words = words ≡ codes "frames" ∷ []
+IsSpelled command.File words = words ≡ codes "file" ∷ []
 IsSpelled command.Lend words = words ≡ codes "lend" ∷ []
 
 -- the command that words spell; none exactly where they spell none

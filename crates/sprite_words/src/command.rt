@@ -22,6 +22,8 @@ pub enum Command {
     Trace,
     /// `frames`: packets are sent in frames over the link of a cluster file, and what came of each is told.
     Frames,
+    /// `file`: the steps of one file whose server may stop are played, and what came of them is told.
+    File,
     /// `lend`: the events of a daemon that lends idle hosts are answered.
     Lend,
 }
@@ -58,6 +60,9 @@ fn one_word(word: &String) -> Option<Command>
     }
     if is_word(word, "frames") {
         return Some(Command::Frames);
+    }
+    if is_word(word, "file") {
+        return Some(Command::File);
     }
     if is_word(word, "lend") {
         return Some(Command::Lend);

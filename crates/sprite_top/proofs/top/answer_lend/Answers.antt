@@ -3,14 +3,15 @@ use Rattle.sprite_bytes.specs.Ends.{IsByCount}
 use Rattle.sprite_bytes.specs.declared.read_end.ReadEnd.{ReadEnd}
 use Rattle.sprite_words.specs.declared.Command.TheVariants as command
 use Rattle.sprite_top.specs.declared.top.Answer.{Answer}
-use Rattle.sprite_top.specs.Top.{EventsCauses}
+use Rattle.sprite_top.specs.Top.{LinesCauses}
+use Rattle.lend_text.specs.Bodies.{answer_text}
 use Rattle.frames_text.specs.Texts.{AreTold}
 use Rattle.sprite_top.proofs.TopLaws.{from_events, from_fault}
 use Rattle.sprite_top.proofs.top.answer_lend.Goals as goal
 
 pub returns-in-Ok-clause-causes : goal.returns-in-Ok-clause-causes
 returns-in-Ok-clause-causes g c = λ words asks.
-    from_events (AreTold g.L.Link.faults g.L.Link.asked c.args.link c.args.link) words _ _ _ _ c.in-Ok.bytes.items c.answer_events.result asks c.in-Ok.ensures.whole c.in-Ok.ensures.end c.in-Ok.ensures.short (subst (λ (came : List ℕ). IfOk c.answer_events.result (λ (a : Answer). EventsCauses a.status came a.closed a.due)) c.as_slice.ensures.value c.answer_events.ensures.causes)
+    from_events (AreTold g.L.Link.faults g.L.Link.asked c.args.link c.args.link) words _ _ _ _ c.in-Ok.bytes.items c.answer_events.result asks c.in-Ok.ensures.whole c.in-Ok.ensures.end c.in-Ok.ensures.short (subst (λ (came : List ℕ). IfOk c.answer_events.result (λ (a : Answer). LinesCauses answer_text a.status came a.closed a.due)) c.as_slice.ensures.value c.answer_events.ensures.causes)
 
 pub returns-in-Err-Fault-clause-causes : goal.returns-in-Err-Fault-clause-causes
 returns-in-Err-Fault-clause-causes g c = λ words asks.
