@@ -1,5 +1,5 @@
-//! Judges runs that are told by their journals, which lie in `runs` beside the cluster files, and prints of each its name and what it
-//! comes to. What is to come was found by hand from the rules (this project).
+//! Judges runs that are told by their journals or their traces, which lie in `runs` beside the cluster files, and prints of each its
+//! name and what it comes to. What is to come was found by hand from the rules (this project).
 
 use crate::files::case_file;
 use call_journal::Trace;
@@ -12,12 +12,13 @@ use sprite_ids::{Copying, Errno, Finish, Kernel, NoMemory, TxNo};
 use sprite_paths::Path;
 use std::alloc::Global;
 use std::io;
+use trace_text::read_trace;
 use unix_calls::{About, Entry, Event, Part, Rec, SendKind};
 
 /// How many instructions the processes of a run may do.
 const MOST_INSTRUCTIONS: u64 = 100_000;
 
-/// What a trace tells besides the entries and the returns of its calls.
+/// What a trace tells besides the entries and the returns of its calls, all of which are at the homes of their processes.
 #[derive(Clone, Copy, PartialEq, Eq)]
 enum Beside {
     Nothing,
@@ -25,6 +26,8 @@ enum Beside {
     Issues,
     /// That, and of each call that finds a server unreachable the packets that were lost.
     Losses,
+    /// All that it has: the file is a printed trace.
+    All,
 }
 
 /// The runs: a name, the files with the cluster and the journal, how it ended, and what its trace tells besides.
@@ -88,9 +91,9 @@ const CASES: [(&str, &str, &str, Finish, Beside); 20] = [
     (
         "deadlock",
         "deadlock.toml",
-        "deadlock.txt",
+        "deadlock.trace",
         Finish::Stalled,
-        Beside::Issues,
+        Beside::All,
     ),
     (
         "deadlock-begun",
@@ -123,9 +126,9 @@ const CASES: [(&str, &str, &str, Finish, Beside); 20] = [
     (
         "children",
         "children.toml",
-        "children.txt",
+        "children.trace",
         Finish::Stalled,
-        Beside::Issues,
+        Beside::All,
     ),
     (
         "children-begun",
@@ -137,9 +140,9 @@ const CASES: [(&str, &str, &str, Finish, Beside); 20] = [
     (
         "dead-device",
         "dead-device.toml",
-        "dead-device.txt",
+        "dead-device.trace",
         Finish::AllEnded,
-        Beside::Issues,
+        Beside::All,
     ),
     (
         "dead-device-begun",
@@ -219,10 +222,26 @@ fn judged(
     finish: Finish,
     beside: Beside,
 ) -> Result<String, NoMemory> {
+    if beside == Beside::All {
+        return judged_whole(alloc, cluster, journal, finish);
+    }
     let Ok(entries) = read_history(alloc, journal) else {
         return Ok(String::from_str(alloc, "no journal\n")?);
     };
     let trace = trace_of(alloc, entries.as_slice(), beside)?;
+    judged_trace(alloc, cluster, &trace, finish)
+}
+
+/// What a run with that printed trace comes to.
+fn judged_whole(
+    alloc: Global,
+    cluster: &[u8],
+    text: &[u8],
+    finish: Finish,
+) -> Result<String, NoMemory> {
+    let Ok(trace) = read_trace(alloc, text) else {
+        return Ok(String::from_str(alloc, "no trace\n")?);
+    };
     judged_trace(alloc, cluster, &trace, finish)
 }
 
