@@ -1,0 +1,4 @@
+pub mod Kept
+pub mod Watched
+pub mod Cuts
+pub mod Judged
