@@ -1,0 +1,7 @@
+pub mod Whereabouts
+pub mod Homes
+pub mod Calls
+pub mod Movers
+pub mod Evictions
+pub mod Arrivals
+pub mod Moves

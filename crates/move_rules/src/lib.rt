@@ -1,0 +1,12 @@
+//! The rule of a trace on where processes run and how they move, judged in one pass over its records (this project).
+#![tactic(auto)]
+
+mod arrivals;
+mod call_at;
+mod evictions;
+mod homes;
+mod movers;
+mod moves;
+mod whereabouts;
+
+pub use moves::processes_run_where_they_are;

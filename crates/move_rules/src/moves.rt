@@ -1,0 +1,146 @@
+ghost use Rattle.std.specs.Prelude.{◌≡◌, IfOk, OnOk};
+ghost use Rattle.unix_calls.specs.Lawful.{Lawful};
+ghost use Rattle.call_journal.specs.Moves.{processes_run_where_they_are};
+ghost use Rattle.call_journal.specs.Past.{no_past};
+ghost use Rattle.trace_tables.specs.Callers.{callers_of};
+ghost use Rattle.move_rules.specs.Moves.{KeepsMoving, TellsMoves, freezes_well, issues_well, leads_well, moves_well, thaws_well};
+ghost use Rattle.move_rules.specs.Arrivals.{named_target};
+ghost use Rattle.move_rules.specs.Whereabouts.{at_of};
+
+use crate::arrivals::{Arrivals, named_target};
+use crate::evictions::Evictions;
+use crate::homes::homes;
+use crate::movers::Movers;
+use crate::whereabouts::{At, at_of, is_placed_at, move_on};
+use indexmap::IndexMap;
+use sprite_ids::{Kernel, NoMemory, Pid};
+use std::alloc::Global;
+use trace_tables::Caller;
+use unix_calls::{Description, Entry, Event, Rec};
+
+/// Whether each process of the trace runs where it is, and moves for a cause: its own call, or an eviction (Douglis and Ousterhout
+/// 1991). `callers` tells of each record what the one-kernel Unix tells of its process. The one error is want of memory.
+pub fn processes_run_where_they_are(
+    alloc: Global,
+    c: &Description,
+    trace: &[Rec],
+    callers: &[Caller],
+) -> Result<bool, NoMemory>
+    requires lawful { Lawful c.now }
+    requires called { callers.now ≡ callers_of c.now trace.now }
+    ensures { IfOk result (λ kept. kept ≡ processes_run_where_they_are c.now trace.now) }
+{
+    let places = homes(alloc, c)?;
+    let mut judge = Moves {
+        places,
+        movers: Movers::new(alloc),
+        evictions: Evictions::new(alloc),
+        arrivals: Arrivals::new(alloc),
+    };
+    each_keeps(c, &mut judge, trace, callers)
+}
+
+/// What is kept of the records so far (this project).
+#[derive(Drop)]
+pub(crate) struct Moves {
+    /// Where the processes are, by number.
+    pub(crate) places: IndexMap<u64, At>,
+    pub(crate) movers: Movers,
+    pub(crate) evictions: Evictions,
+    pub(crate) arrivals: Arrivals,
+}
+
+impl Moves {
+    // Whether the next record keeps the rule, by what the one-kernel Unix tells of its process.
+    fn keeps(&self, c: &Description, rec: &Rec, caller: &Caller) -> bool
+        ensures { result ≡ moves_well c.now self.now rec.now.kernel rec.now.event caller.now }
+    {
+        let kernel = rec.kernel;
+        match &rec.event {
+            Event::Burst { pid, .. } => {
+                is_placed_at(&self.places, u64::from(pid.number()), kernel)
+            }
+            Event::Issue { pid, .. } => issues_well(self, c, *pid, kernel, caller),
+            Event::Freeze { pid } => freezes_well(self, c, *pid, kernel),
+            Event::Thaw { pid } => thaws_well(self, *pid, kernel),
+            Event::Enter { entry } => leads_well(self, c, entry),
+            Event::Return { pid, number, .. } => self.arrivals.returns_at(*pid, *number, kernel),
+            _ => true,
+        }
+    }
+
+    // Keeps what the next record tells. The one error is want of memory; a part may be kept then.
+    fn go_on(&mut self, c: &Description, rec: &Rec) -> Result<(), NoMemory>
+        ensures { OnOk result (KeepsMoving c.now rec.now self.old self.new) }
+    {
+        self.arrivals.go_on(c, &self.places, rec)?;
+        self.evictions.go_on(c, &self.places, &self.movers, rec)?;
+        self.movers.go_on(&rec.event)?;
+        move_on(&mut self.places, rec)
+    }
+}
+
+// Whether each record of the trace keeps the rule, from what is kept before the first.
+fn each_keeps(
+    c: &Description,
+    judge: &mut Moves,
+    trace: &[Rec],
+    callers: &[Caller],
+) -> Result<bool, NoMemory>
+    requires told { TellsMoves c.now judge.old (no_past c.now) }
+    requires called { callers.now ≡ callers_of c.now trace.now }
+    ensures { IfOk result (λ kept. kept ≡ processes_run_where_they_are c.now trace.now) }
+{
+    for (place, rec) in trace.iter().enumerate() {
+        if !judge.keeps(c, rec, &callers[place]) {
+            return Ok(false);
+        }
+        judge.go_on(c, rec)?;
+    }
+    Ok(true)
+}
+
+// Whether a process that issues a call is there, and heeded its evictions, unless it holds a master stream.
+fn issues_well(judge: &Moves, c: &Description, pid: Pid, kernel: Kernel, caller: &Caller) -> bool
+    ensures { result ≡ issues_well c.now judge.now pid kernel caller.now }
+{
+    let number = u64::from(pid.number());
+    if !is_placed_at(&judge.places, number, kernel) {
+        return false;
+    }
+    let stops = judge.movers.mover_of(number).stops;
+    caller.is_master || !judge.evictions.is_overdue(c, pid, stops, kernel)
+}
+
+// Whether a process that is frozen is so by its own call, or by an eviction that is due.
+fn freezes_well(judge: &Moves, c: &Description, pid: Pid, kernel: Kernel) -> bool
+    ensures { result ≡ freezes_well c.now judge.now pid kernel }
+{
+    if !is_placed_at(&judge.places, u64::from(pid.number()), kernel) {
+        return false;
+    }
+    judge.movers.moves_itself(pid) || judge.evictions.is_left_to_use(c, pid, kernel)
+}
+
+// Whether a process that was evicted goes on at its home.
+fn thaws_well(judge: &Moves, pid: Pid, kernel: Kernel) -> bool
+    ensures { result ≡ thaws_well judge.now pid kernel }
+{
+    kernel == pid.home() || !judge.movers.mover_of(u64::from(pid.number())).is_evicted
+}
+
+// Whether a move enters where it leads, or on the way.
+fn leads_well(judge: &Moves, c: &Description, entry: &Entry) -> bool
+    ensures { result ≡ leads_well (named_target c.now entry.now.call entry.now.reply) (at_of judge.now.places.entries entry.now.pid) }
+{
+    let Some(target) = named_target(c, entry) else {
+        return true;
+    };
+    match at_of(&judge.places, entry.pid) {
+        Some(at) => {
+            let number = u64::from(at.kernel.number());
+            (!at.is_moving && number == target) || at.is_moving
+        }
+        None => false,
+    }
+}
