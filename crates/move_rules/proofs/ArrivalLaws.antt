@@ -3,8 +3,6 @@ use Rattle.std.proofs.Common.{◌≡◌, ◌∙◌, ℕ, ◌+◌, ◌≤◌, ◌
 use Rattle.std.specs.List.{list_any}
 use Rattle.std.specs.Option.{option_map}
 use Rattle.std.proofs.lemmas.Bool.{and_parts, eq-eqb, eqb-true, ne_eqb}
-use Rattle.process_machine.specs.declared.call.Call.{Call}
-use Rattle.process_machine.specs.declared.call.Reply.{Reply}
 use Rattle.unix_calls.specs.declared.description.Description.{Description}
 use Rattle.unix_calls.specs.declared.entry.Entry.{Entry}
 use Rattle.unix_calls.specs.declared.event.Event.{Event}
@@ -20,7 +18,7 @@ use Rattle.move_rules.specs.declared.arrivals.Arrivals.{Arrivals}
 use Rattle.move_rules.specs.declared.arrivals.ThawAt.{ThawAt}
 use Rattle.move_rules.specs.declared.call_at.CallAt.{CallAt}
 use Rattle.move_rules.specs.declared.whereabouts.At.{At}
-use Rattle.move_rules.specs.Arrivals.{ArrivalsOn, Counted, DuesOn, TellsArrivals, arrival_at, arrival_behind, arrival_on, due_behind, is_astray, is_elsewhere, is_thaw, is_unthawed, strays, thaws_of, was_split, way_target}
+use Rattle.move_rules.specs.Arrivals.{ArrivalsOn, Counted, DuesOn, TellsArrivals, arrival_at, arrival_behind, arrival_on, due_behind, is_astray, is_elsewhere, is_thaw, strays, thaws_of, was_split, way_target}
 use Rattle.place_rules.specs.PastLaws.{some_more}
 use Rattle.move_rules.proofs.RecordLaws.{some_same}
 use Rattle.place_rules.specs.Pasts.{IsWhole}
@@ -49,17 +47,17 @@ way_by c at rec named own before (Some name) true m false is counts none = Stays
 way_by c at rec named own before None true m true is counts none = Stays (ap (λ b. due_behind (cond b None None) true named before) (is refl)) refl
 way_by c at rec named own before (Some name) true m true is counts none =
     Goes name
-      (ap (λ b. due_behind (cond b (Some (kernel_named c name)) None) true named before) (is refl)
-       ∙ ap (λ n. Some (arrival_behind (kernel_named c name) n before)) (counts refl (kernel_named c name)))
-      refl none
+    (ap (λ b. due_behind (cond b (Some (kernel_named c name)) None) true named before) (is refl)
+    ∙ ap (λ n. Some (arrival_behind (kernel_named c name) n before)) (counts refl (kernel_named c name)))
+    refl none
 
 -- by where the process is
 way_step : (c : Description) (places : List (ℕ × At)) (past : Past) (kernel : ℕ) (e : Event) (thaws : List (ThawAt × ℕ)) (at : CallAt) (before : Option Arrival) → TellsWhere places past.processes → WayStep c at (record { kernel = kernel; event = e }) (λ k. thaws_of thaws (record { pid = at.pid; kernel = k })) before (arrival_on c places e thaws at before) (target_on_way past at.pid at.number e)
 way_step c places past kernel (event.Enter entry) thaws at before where_is =
     way_by c at (record { kernel = kernel; event = event.Enter entry }) (λ k. thaws_of thaws (record { pid = entry.pid; kernel = k })) (λ k. thaws_of thaws (record { pid = at.pid; kernel = k })) before (move_target entry.call entry.reply) (entry.pid == at.pid && entry.number == at.number) (is_moving_at (at_of places entry.pid)) (is_moving past at.pid)
-      (λ same. ap (λ p. is_moving_at (at_of places p)) (eqb-true entry.pid at.pid (and_parts (entry.pid == at.pid) (entry.number == at.number) same).0) ∙ ap is_moving_at (where_is at.pid) ∙ moving_told (whereabouts_of past.processes at.pid))
-      (λ same k. ap (λ p. thaws_of thaws (record { pid = p; kernel = k })) (eqb-true entry.pid at.pid (and_parts (entry.pid == at.pid) (entry.number == at.number) same).0))
-      (λ k. and_false (kernel == k))
+    (λ same. ap (λ p. is_moving_at (at_of places p)) (eqb-true entry.pid at.pid (and_parts (entry.pid == at.pid) (entry.number == at.number) same).0) ∙ ap is_moving_at (where_is at.pid) ∙ moving_told (whereabouts_of past.processes at.pid))
+    (λ same k. ap (λ p. thaws_of thaws (record { pid = p; kernel = k })) (eqb-true entry.pid at.pid (and_parts (entry.pid == at.pid) (entry.number == at.number) same).0))
+    (λ k. and_false (kernel == k))
 way_step c places past kernel (event.Burst pid count) thaws at before where_is = Stays refl refl
 way_step c places past kernel _ thaws at before where_is = Stays refl refl
 
@@ -126,10 +124,10 @@ arrives_on c pid kernel (Some name) rest rec =
 all_on : (c : Description) (at : CallAt) (kernel : ℕ) (past : Past) (rec : Rec) (b : Bool) → is_at kernel (is_thaw_of at.pid) rec ≡ b → some_record c (λ earlier r rest. not (arrives_at c at.pid kernel (target_on_way earlier at.pid at.number r.event) (rest ++ rec ∷ []))) past.records ≡ cond b (some_record c (λ earlier r rest. is_elsewhere c kernel (target_on_way earlier at.pid at.number r.event)) past.records) (some_record c (λ earlier r rest. not (arrives_at c at.pid kernel (target_on_way earlier at.pid at.number r.event) rest)) past.records)
 all_on c at kernel past rec true is =
     some_same c (λ earlier r rest. not (arrives_at c at.pid kernel (target_on_way earlier at.pid at.number r.event) (rest ++ rec ∷ []))) (λ earlier r rest. is_elsewhere c kernel (target_on_way earlier at.pid at.number r.event)) _ past.records
-      (λ p x rest. arrives_on c at.pid kernel (target_on_way p at.pid at.number x.event) rest rec ∙ ap (λ b. cond b (is_elsewhere c kernel (target_on_way p at.pid at.number x.event)) (not (arrives_at c at.pid kernel (target_on_way p at.pid at.number x.event) rest))) is)
+    (λ p x rest. arrives_on c at.pid kernel (target_on_way p at.pid at.number x.event) rest rec ∙ ap (λ b. cond b (is_elsewhere c kernel (target_on_way p at.pid at.number x.event)) (not (arrives_at c at.pid kernel (target_on_way p at.pid at.number x.event) rest))) is)
 all_on c at kernel past rec false is =
     some_same c (λ earlier r rest. not (arrives_at c at.pid kernel (target_on_way earlier at.pid at.number r.event) (rest ++ rec ∷ []))) (λ earlier r rest. not (arrives_at c at.pid kernel (target_on_way earlier at.pid at.number r.event) rest)) _ past.records
-      (λ p x rest. arrives_on c at.pid kernel (target_on_way p at.pid at.number x.event) rest rec ∙ ap (λ b. cond b (is_elsewhere c kernel (target_on_way p at.pid at.number x.event)) (not (arrives_at c at.pid kernel (target_on_way p at.pid at.number x.event) rest))) is)
+    (λ p x rest. arrives_on c at.pid kernel (target_on_way p at.pid at.number x.event) rest rec ∙ ap (λ b. cond b (is_elsewhere c kernel (target_on_way p at.pid at.number x.event)) (not (arrives_at c at.pid kernel (target_on_way p at.pid at.number x.event) rest))) is)
 
 -- one more thaw there than when the move was entered
 later_thaw : (due : Arrival) (kernel : ℕ) (thaws : ℕ → ℕ) (split b : Bool) → due.thaws ≤ thaws due.target → (kernel == due.target) ≡ b → ((split || not b) || (thaws kernel + 1 == due.thaws)) ≡ (split || not b)
@@ -218,8 +216,8 @@ arrivals_on c old new places past rec whole where_is tells more = record {
   counted = λ at.
       subst (λ (o : Option Arrival). Counted o (λ k. thaws_of new.thaws.entries (record { pid = at.pid; kernel = k }))) (sym (more.dues at))
       (counted_step c at rec (λ k. thaws_of old.thaws.entries (record { pid = at.pid; kernel = k })) (λ k. thaws_of new.thaws.entries (record { pid = at.pid; kernel = k })) (arrival_at old.dues.entries at) (arrival_on c places rec.event old.thaws.entries at (arrival_at old.dues.entries at)) (target_on_way past at.pid at.number rec.event)
-        (λ k. subst (λ n. thaws_of old.thaws.entries (record { pid = at.pid; kernel = k }) ≤ n) (sym (more.thaws (record { pid = at.pid; kernel = k }))) (more_thaws (is_thaw rec.kernel rec.event (record { pid = at.pid; kernel = k })) (thaws_of old.thaws.entries (record { pid = at.pid; kernel = k }))))
-        (tells.counted at) (way_step c places past rec.kernel rec.event old.thaws.entries at (arrival_at old.dues.entries at) where_is));
+      (λ k. subst (λ n. thaws_of old.thaws.entries (record { pid = at.pid; kernel = k }) ≤ n) (sym (more.thaws (record { pid = at.pid; kernel = k }))) (more_thaws (is_thaw rec.kernel rec.event (record { pid = at.pid; kernel = k })) (thaws_of old.thaws.entries (record { pid = at.pid; kernel = k }))))
+      (tells.counted at) (way_step c places past rec.kernel rec.event old.thaws.entries at (arrival_at old.dues.entries at) where_is));
 }
 
 -- ---- what is kept of an entry
@@ -228,8 +226,8 @@ due_if : (dues : List (CallAt × Arrival)) (pid number target thaws : ℕ) (due 
 due_if dues pid number target thaws due at true is made =
     let same = and_parts (pid == at.pid) (number == at.number) is in
     ap (λ (a : Arrival). Some a)
-      (made
-       ∙ ap₂ (λ p n. arrival_behind target thaws (arrival_at dues (record { pid = p; number = n }))) (eqb-true pid at.pid same.0) (eqb-true number at.number same.1))
+    (made
+    ∙ ap₂ (λ p n. arrival_behind target thaws (arrival_at dues (record { pid = p; number = n }))) (eqb-true pid at.pid same.0) (eqb-true number at.number same.1))
 due_if dues pid number target thaws due at false is made = refl
 
 pub dues_on : (c : Description) (places : List (ℕ × At)) (e : Event) (entry : Entry) (thaws : List (ThawAt × ℕ)) (before after : List (CallAt × Arrival)) (target count : ℕ) (due : Arrival) → e ≡ event.Enter entry → way_target c places entry ≡ Some target → count ≡ thaws_of thaws (record { pid = entry.pid; kernel = target }) → due ≡ arrival_behind target count (arrival_at before (record { pid = entry.pid; number = entry.number })) → ((at : CallAt) → arrival_at after at ≡ cond (entry.pid == at.pid && entry.number == at.number) (Some due) (arrival_at before at)) → DuesOn c places e thaws before after

@@ -1,10 +1,9 @@
 -- Evictions are told record by record.
-use Rattle.std.proofs.Common.{◌≡◌, ◌∙◌, ℕ, ◌+◌, ◌<◌, ◌==◌, Bool, true, false, cond, ◌&&◌, ◌||◌, not, List, [], ◌∷◌, ◌++◌, Option, Some, None, fold, refl, sym, ap, ap₂, subst, arith}
+use Rattle.std.proofs.Common.{◌≡◌, ◌∙◌, ℕ, ◌+◌, ◌==◌, Bool, true, false, cond, ◌&&◌, ◌||◌, not, List, [], ◌∷◌, ◌++◌, Option, Some, None, fold, refl, sym, ap, ap₂, subst, arith}
 use Rattle.std.specs.Prelude.{count_by, nat_lt}
 use Rattle.std.specs.List.{list_any}
-use Rattle.std.specs.Map.{keys_of, lookup}
 use Rattle.std.specs.Option.{is_some, option_map}
-use Rattle.std.proofs.lemmas.Bool.{and_parts, eq-eqb, eqb-true, ne_eqb}
+use Rattle.std.proofs.lemmas.Bool.{eq-eqb, eqb-true, ne_eqb}
 use Rattle.std.proofs.lemmas.List.Sums.{fold-append}
 use Rattle.sprite_ids.specs.Pid.{home_of}
 use Rattle.unix_calls.specs.declared.description.Description.{Description}
@@ -12,7 +11,7 @@ use Rattle.unix_calls.specs.declared.description.EvictLine.{EvictLine}
 use Rattle.unix_calls.specs.declared.event.Event.{Event}
 use Rattle.unix_calls.specs.declared.event.Event.TheVariants as event
 use Rattle.unix_calls.specs.declared.event.Rec.{Rec}
-use Rattle.call_journal.specs.Past.{Past, holds, child_of_entry, count_from, count_records, past_from, past_with, past_of, no_past, place_of, some_record, whereabouts_of}
+use Rattle.call_journal.specs.Past.{Past, holds, child_of_entry, count_from, count_records, past_from, past_with, past_of, no_past, some_record, whereabouts_of}
 use Rattle.call_journal.specs.Calls.{or_else}
 use Rattle.call_journal.specs.Matching.{has_event, is_any_issue, is_at, is_freeze_of, is_issue_of, is_return}
 use Rattle.call_journal.specs.Moves as moves
@@ -32,7 +31,7 @@ use Rattle.move_rules.proofs.MoverLaws.{own_told}
 use Rattle.place_rules.specs.PastLaws.{some_more}
 use Rattle.move_rules.proofs.RecordLaws.{some_and, some_same}
 use Rattle.place_rules.specs.Pasts.{IsWhole}
-use Rattle.move_rules.specs.Whereabouts.{TellsWhere, at_of, is_placed_at}
+use Rattle.move_rules.specs.Whereabouts.{TellsWhere, is_placed_at}
 use Rattle.move_rules.proofs.WhereLaws.{placed_told}
 
 -- ---- counts
@@ -131,8 +130,8 @@ born_by returned rs (Some at) told = told at
 leaves_told : (c : Description) (movers : Movers) (evictions : Evictions) (places : List (ℕ × At)) (past : Past) (host pid : ℕ) → TellsWhere places past.processes → TellsMovers c movers past → TellsEvictions c movers evictions past → leaves places evictions.births.entries movers.returned.keys host pid ≡ (moves.is_placed past pid host && not (home_of pid == host) && moves.is_born (moves.birth_of pid past.records) past.records)
 leaves_told c movers evictions places past host pid where_is tells evicts =
     ap₂ (λ a b. a && not (home_of pid == host) && b)
-      (ap (λ o. is_placed_at o host) (where_is pid) ∙ placed_told (whereabouts_of past.processes pid) host)
-      (born_by movers.returned.keys past.records (birth_at evictions.births.entries pid) tells.returned ∙ ap (λ o. moves.is_born o past.records) (evicts.births pid))
+    (ap (λ o. is_placed_at o host) (where_is pid) ∙ placed_told (whereabouts_of past.processes pid) host)
+    (born_by movers.returned.keys past.records (birth_at evictions.births.entries pid) tells.returned ∙ ap (λ o. moves.is_born o past.records) (evicts.births pid))
 
 and_four : (r p h b : Bool) → (r && ((p && h) && b)) ≡ (((r && p) && h) && b)
 and_four true p h b = refl
@@ -160,8 +159,8 @@ none_due false b d e f = refl
 due_told : (c : Description) (movers : Movers) (evictions : Evictions) (places : List (ℕ × At)) (past : Past) (kernel : ℕ) (e : Event) (line : EvictLine) (pid : ℕ) → TellsWhere places past.processes → TellsMovers c movers past → TellsEvictions c movers evictions past → has_line c.evicts line.host line.after ≡ true → (is_reached c.evicts evictions.issues.entries kernel e (record { host = line.host; after = line.after; pid = pid }) && leaves places evictions.births.entries movers.returned.keys line.host pid) ≡ moves.is_due_at line past pid (record { kernel = kernel; event = e })
 due_told c movers evictions places past kernel (event.Issue p n call) line pid where_is tells evicts there =
     ap₂ (λ a b. a && b)
-      (reached_if c.evicts evictions.issues.entries kernel line.host line.after past.records (kernel == line.host) refl evicts.issues there)
-      (leaves_told c movers evictions places past line.host pid where_is tells evicts)
+    (reached_if c.evicts evictions.issues.entries kernel line.host line.after past.records (kernel == line.host) refl evicts.issues there)
+    (leaves_told c movers evictions places past line.host pid where_is tells evicts)
     ∙ and_four ((kernel == line.host && true) && moves.issues_at line.host past.records + 1 == line.after) (moves.is_placed past pid line.host) (not (home_of pid == line.host)) (moves.is_born (moves.birth_of pid past.records) past.records)
 due_told c movers evictions places past kernel e line pid where_is tells evicts there =
     none_due (kernel == line.host) (moves.issues_at line.host past.records + 1 == line.after) (moves.is_placed past pid line.host) (not (home_of pid == line.host)) (moves.is_born (moves.birth_of pid past.records) past.records)
@@ -205,8 +204,8 @@ left_record : (c : Description) (line : EvictLine) (past : Past) (pid : ℕ) (re
 left_record c line past pid rec whole =
     some_more c (λ earlier r rest. moves.is_left line earlier pid r rest) past rec whole
     ∙ ap (λ b. b || ((moves.is_due_at line past pid rec && true) && true))
-      (some_same c (λ earlier r rest. moves.is_left line earlier pid r (rest ++ rec ∷ [])) (λ earlier r rest. moves.is_left line earlier pid r rest && not (is_issue_of pid rec.event || is_freeze_of pid rec.event)) _ past.records (λ p x rest. left_more line p pid rec x rest)
-       ∙ some_and c (λ earlier r rest. moves.is_left line earlier pid r rest) (not (is_issue_of pid rec.event || is_freeze_of pid rec.event)) _ past.records)
+    (some_same c (λ earlier r rest. moves.is_left line earlier pid r (rest ++ rec ∷ [])) (λ earlier r rest. moves.is_left line earlier pid r rest && not (is_issue_of pid rec.event || is_freeze_of pid rec.event)) _ past.records (λ p x rest. left_more line p pid rec x rest)
+    ∙ some_and c (λ earlier r rest. moves.is_left line earlier pid r rest) (not (is_issue_of pid rec.event || is_freeze_of pid rec.event)) _ past.records)
 
 abbrev value_or : Option ℕ → ℕ
 value_or None = 0
@@ -249,9 +248,9 @@ evictions_on c movers later old new places past rec whole where_is tells evicts 
       let at : DueAt = record { host = line.host; after = line.after; pid = pid } in
       let stop = is_issue_of pid rec.event || is_freeze_of pid rec.event in
       let kept : due_at new.due.entries at ≡ cond (moves.is_due_at line past pid rec) (Some (cond stop (stops_of movers pid + 1) (stops_of movers pid))) (due_at old.due.entries at) =
-          more.due at ∙ ap (λ b. cond b (Some (stops_behind rec.event pid (stops_of movers pid))) (due_at old.due.entries at)) (due_told c movers old places past rec.kernel rec.event line pid where_is tells evicts there) in
+      more.due at ∙ ap (λ b. cond b (Some (stops_behind rec.event pid (stops_of movers pid))) (due_at old.due.entries at)) (due_told c movers old places past rec.kernel rec.event line pid where_is tells evicts there) in
       let stopped : stops_of later pid ≡ cond stop (stops_of movers pid + 1) (stops_of movers pid) =
-          ap (λ (m : Mover). m.stops) (moved.movers pid) ∙ stops_by (frozen_by_itself movers rec.event) rec.event pid (mover_of movers.movers.entries pid) in
+      ap (λ (m : Mover). m.stops) (moved.movers pid) ∙ stops_by (frozen_by_itself movers rec.event) rec.event pid (mover_of movers.movers.entries pid) in
       let step = left_step (some_record c (λ earlier r rest. moves.is_left line earlier pid r rest) past.records) (moves.is_due_at line past pid rec) stop (due_at old.due.entries at) (stops_of movers pid) (evicts.left line pid there) in
       subst (λ b. LeftAs b (due_at new.due.entries at) (stops_of later pid)) (sym (left_record c line past pid rec whole))
       (subst (λ o. LeftAs ((some_record c (λ earlier r rest. moves.is_left line earlier pid r rest) past.records && not stop) || ((moves.is_due_at line past pid rec && true) && true)) o (stops_of later pid)) (sym kept)
@@ -299,10 +298,10 @@ left_bool false (Some at) stops told = let short = told at refl in ne_eqb at sto
 pub overdue_told : (c : Description) (movers : Movers) (evictions : Evictions) (past : Past) (pid kernel : ℕ) → TellsEvictions c movers evictions past → list_any (is_left_in evictions.due.entries (stops_of movers pid) pid kernel) c.evicts ≡ list_any (moves.is_overdue c past pid kernel) c.evicts
 overdue_told c movers evictions past pid kernel evicts =
     any_among c.evicts c.evicts (is_left_in evictions.due.entries (stops_of movers pid) pid kernel) (moves.is_overdue c past pid kernel) (among_all c.evicts)
-      (λ line there. ap (λ b. line.host == kernel && b) (left_bool (some_record c (λ earlier r rest. moves.is_left line earlier pid r rest) past.records) (due_at evictions.due.entries (record { host = line.host; after = line.after; pid = pid })) (stops_of movers pid) (evicts.left line pid there)))
+    (λ line there. ap (λ b. line.host == kernel && b) (left_bool (some_record c (λ earlier r rest. moves.is_left line earlier pid r rest) past.records) (due_at evictions.due.entries (record { host = line.host; after = line.after; pid = pid })) (stops_of movers pid) (evicts.left line pid there)))
 
 pub unused_told : (c : Description) (movers : Movers) (evictions : Evictions) (past : Past) (pid kernel : ℕ) → TellsEvictions c movers evictions past → nat_lt (uses_of evictions.used.entries (record { pid = pid; kernel = kernel })) (count_by (due_in evictions.due.entries pid kernel) c.evicts) ≡ nat_lt (moves.used_evictions c past.records pid kernel) (moves.due_evictions c past.records pid kernel)
 unused_told c movers evictions past pid kernel evicts =
     ap₂ nat_lt (evicts.uses (record { pid = pid; kernel = kernel }))
-      (count_among c.evicts c.evicts (due_in evictions.due.entries pid kernel) (moves.is_line_due c past.records pid kernel) 0 (among_all c.evicts)
-        (λ line there. ap (λ b. line.host == kernel && b) (evicts.due line pid there)))
+    (count_among c.evicts c.evicts (due_in evictions.due.entries pid kernel) (moves.is_line_due c past.records pid kernel) 0 (among_all c.evicts)
+    (λ line there. ap (λ b. line.host == kernel && b) (evicts.due line pid there)))

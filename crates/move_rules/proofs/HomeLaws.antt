@@ -1,5 +1,5 @@
 -- Processes that are put at their homes one after another.
-use Rattle.std.proofs.Common.{◌≡◌, ◌∙◌, ℕ, ◌==◌, Bool, true, false, cond, List, [], ◌∷◌, Option, Some, None, refl, sym, ap, ap₂}
+use Rattle.std.proofs.Common.{◌≡◌, ◌∙◌, ℕ, ◌==◌, Bool, true, false, cond, List, [], ◌∷◌, Option, Some, None, refl, sym, ap}
 use Rattle.std.specs.Option.{option_map}
 use Rattle.sprite_ids.specs.Pid.{home_of}
 use Rattle.unix_calls.specs.declared.state.Process.{Process}

@@ -1,7 +1,7 @@
 -- All processes that leave a kernel by an eviction are marked.
 use Rattle.std.proofs.Common.{◌≡◌, ◌∙◌, ℕ, ◌+◌, ◌==◌, Bool, true, false, cond, ◌&&◌, ◌||◌, not, List, [], ◌∷◌, Option, Some, None, refl, sym, ap, ap₂}
 use Rattle.std.specs.List.{list_any}
-use Rattle.std.specs.Map.{keys_of, lookup}
+use Rattle.std.specs.Map.{keys_of}
 use Rattle.std.proofs.lemmas.Bool.{eq-eqb, eqb-true}
 use Rattle.sprite_ids.specs.Pid.{home_of}
 use Rattle.process_machine.specs.declared.call.Call.{Call}
@@ -88,10 +88,10 @@ pub due_marked : (c : Description) (issues : List (ℕ × ℕ)) (kernel p number
 due_marked c issues kernel p number call places births movers at before has =
     marked_by (leaves places births movers.returned.keys kernel) (marked_stops (record { host = kernel; after = issues_of issues kernel + 1; issuer = p }) movers) kernel (issues_of issues kernel + 1) (keys_of places) at before
     ∙ ap (λ b. cond b (Some (marked_stops (record { host = kernel; after = issues_of issues kernel + 1; issuer = p }) movers at.pid)) before)
-        (and_three (kernel == at.host && issues_of issues kernel + 1 == at.after) (list_any (λ k. k == at.pid) (keys_of places)) (leaves places births movers.returned.keys kernel at.pid)
-          (kept_by at.pid places (λ o. is_placed_at o kernel && not (home_of at.pid == kernel) && is_born_by movers.returned.keys (birth_at births at.pid)) refl))
+    (and_three (kernel == at.host && issues_of issues kernel + 1 == at.after) (list_any (λ k. k == at.pid) (keys_of places)) (leaves places births movers.returned.keys kernel at.pid)
+    (kept_by at.pid places (λ o. is_placed_at o kernel && not (home_of at.pid == kernel) && is_born_by movers.returned.keys (birth_at births at.pid)) refl))
     ∙ due_if c.evicts (issues_of issues kernel + 1) at.host kernel at.after places births movers.returned.keys at.pid (marked_stops (record { host = kernel; after = issues_of issues kernel + 1; issuer = p }) movers at.pid) (stops_behind (event.Issue p number call) at.pid (stops_of movers at.pid)) before (kernel == at.host) (issues_of issues kernel + 1 == at.after) refl has
-        (ap (λ b. cond b (stops_of movers at.pid + 1) (stops_of movers at.pid)) (or_false (p == at.pid)))
+    (ap (λ b. cond b (stops_of movers at.pid + 1) (stops_of movers at.pid)) (or_false (p == at.pid)))
   where
     and_three : (hit any leaving : Bool) → (any && leaving) ≡ leaving → (hit && any && leaving) ≡ (hit && leaving)
     and_three true any leaving same = same
@@ -105,8 +105,8 @@ none_due false d e = refl
 pub none_marked_due : (c : Description) (issues : List (ℕ × ℕ)) (kernel p number : ℕ) (call : Call) (places : List (ℕ × At)) (births : List (ℕ × CallAt)) (movers : Movers) (at : DueAt) (before : Option ℕ) → has_line c.evicts kernel (issues_of issues kernel + 1) ≡ false → before ≡ cond (is_reached c.evicts issues kernel (event.Issue p number call) at && leaves places births movers.returned.keys at.host at.pid) (Some (stops_behind (event.Issue p number call) at.pid (stops_of movers at.pid))) before
 none_marked_due c issues kernel p number call places births movers at before has =
     sym (ap (λ b. cond b (Some (stops_behind (event.Issue p number call) at.pid (stops_of movers at.pid))) before)
-      (ap (λ h. ((kernel == at.host && issues_of issues kernel + 1 == at.after) && h) && leaves places births movers.returned.keys at.host at.pid) has
-       ∙ none_due (kernel == at.host) (issues_of issues kernel + 1 == at.after) (leaves places births movers.returned.keys at.host at.pid)))
+    (ap (λ h. ((kernel == at.host && issues_of issues kernel + 1 == at.after) && h) && leaves places births movers.returned.keys at.host at.pid) has
+    ∙ none_due (kernel == at.host) (issues_of issues kernel + 1 == at.after) (leaves places births movers.returned.keys at.host at.pid)))
 
 -- ---- what is kept
 

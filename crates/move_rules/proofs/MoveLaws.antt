@@ -1,6 +1,5 @@
 -- Where processes run and move is judged by what is kept, and that is told record by record.
-use Rattle.std.proofs.Common.{◌≡◌, ◌∙◌, ℕ, ◌==◌, Bool, true, false, cond, ◌&&◌, ◌||◌, not, List, [], Option, Some, None, refl, sym, ap, ap₂, subst, true≢false}
-use Rattle.std.specs.List.{list_any}
+use Rattle.std.proofs.Common.{◌≡◌, ◌∙◌, ℕ, ◌==◌, Bool, false, ◌&&◌, ◌||◌, not, List, [], Option, Some, None, refl, sym, ap, ap₂, subst, true≢false}
 use Rattle.std.specs.Option.{is_some, option_map}
 use Rattle.sprite_ids.specs.Pid.{home_of}
 use Rattle.unix_calls.specs.Boot.{boot_of}
@@ -8,15 +7,13 @@ use Rattle.unix_calls.specs.declared.description.Description.{Description}
 use Rattle.unix_calls.specs.declared.event.Event.{Event}
 use Rattle.unix_calls.specs.declared.event.Event.TheVariants as event
 use Rattle.unix_calls.specs.declared.event.Rec.{Rec}
-use Rattle.call_journal.specs.Past.{Past, at_homes, is_moving, no_past, past_with, whereabouts_of}
+use Rattle.call_journal.specs.Past.{Past, at_homes, no_past, past_with, whereabouts_of}
 use Rattle.call_journal.specs.Calls.{move_target}
 use Rattle.call_journal.specs.Moves as rule
-use Rattle.trace_tables.specs.declared.Caller.{Caller}
 use Rattle.trace_tables.specs.Callers.{caller_at}
 use Rattle.move_rules.specs.declared.call_at.CallAt.{CallAt}
 use Rattle.move_rules.specs.declared.arrivals.Arrival.{Arrival}
 use Rattle.move_rules.specs.declared.arrivals.Arrivals.{Arrivals}
-use Rattle.move_rules.specs.declared.arrivals.ThawAt.{ThawAt}
 use Rattle.move_rules.specs.declared.evictions.DueAt.{DueAt}
 use Rattle.move_rules.specs.declared.evictions.Evictions.{Evictions}
 use Rattle.move_rules.specs.declared.evictions.UsedAt.{UsedAt}
@@ -45,8 +42,8 @@ leads_told : (c : Description) (places : List (ℕ × At)) (past : Past) (pid : 
 leads_told c places past pid None where_is = refl
 leads_told c places past pid (Some name) where_is =
     ap₂ (λ a b. a || b)
-      (ap (λ o. is_placed_at o (rule.kernel_named c name)) (where_is pid) ∙ placed_told (whereabouts_of past.processes pid) (rule.kernel_named c name))
-      (ap is_moving_at (where_is pid) ∙ moving_told (whereabouts_of past.processes pid))
+    (ap (λ o. is_placed_at o (rule.kernel_named c name)) (where_is pid) ∙ placed_told (whereabouts_of past.processes pid) (rule.kernel_named c name))
+    (ap is_moving_at (where_is pid) ∙ moving_told (whereabouts_of past.processes pid))
 
 told_by : (c : Description) (judge : Moves) (past : Past) (kernel : ℕ) (e : Event) → TellsMoves c judge past → moves_well c judge kernel e (caller_at c past e) ≡ rule.runs_well c past kernel e
 told_by c judge past kernel (event.Burst pid count) tells = there_told c judge past pid kernel tells
@@ -54,7 +51,7 @@ told_by c judge past kernel (event.Issue pid number call) tells =
     ap₂ (λ a b. a && (rule.is_master past.unix pid || not b)) (there_told c judge past pid kernel tells) (overdue_told c judge.movers judge.evictions past pid kernel tells.evictions)
 told_by c judge past kernel (event.Freeze pid) tells =
     ap₂ (λ a b. a && b) (there_told c judge past pid kernel tells)
-      (ap₂ (λ a b. a || b) (own_told c judge.movers past pid tells.movers) (unused_told c judge.movers judge.evictions past pid kernel tells.evictions))
+    (ap₂ (λ a b. a || b) (own_told c judge.movers past pid tells.movers) (unused_told c judge.movers judge.evictions past pid kernel tells.evictions))
 told_by c judge past kernel (event.Thaw pid) tells = ap (λ b. kernel == home_of pid || not b) (tells.movers.evicted pid)
 told_by c judge past kernel (event.Enter entry) tells = leads_told c judge.places.entries past entry.pid (move_target entry.call entry.reply) tells.places
 told_by c judge past kernel (event.Return pid number reply) tells = ap not (tells.arrivals.astray (record { pid = pid; number = number }) kernel)

@@ -20,7 +20,7 @@ use Rattle.move_rules.specs.declared.movers.Mover.{Mover}
 use Rattle.move_rules.specs.declared.movers.Movers.{Movers}
 use Rattle.move_rules.specs.Calls.{has_call}
 use Rattle.move_rules.specs.Movers.{MoversOn, TellsMovers, asked_at, asked_behind, frozen_by_itself, is_move_asked, mover_behind, mover_of, moves_itself}
-use Rattle.place_rules.specs.PastLaws.{some_more, whole_on}
+use Rattle.place_rules.specs.PastLaws.{some_more}
 use Rattle.move_rules.proofs.RecordLaws.{some_and, some_same}
 use Rattle.place_rules.specs.Pasts.{IsWhole}
 
@@ -117,8 +117,8 @@ last_more : (c : Description) (past : Past) (pid : ℕ) (rec : Rec) → IsWhole 
 last_more c past pid rec whole =
     some_more c (λ earlier r rest. moves.is_last_eviction earlier pid r rest) past rec whole
     ∙ ap (λ b. b || (is_freeze_of pid rec.event && not (moves.is_own_move past pid) && true))
-      (some_same c (λ earlier r rest. moves.is_last_eviction earlier pid r (rest ++ rec ∷ [])) (λ earlier r rest. moves.is_last_eviction earlier pid r rest && not (is_freeze_of pid rec.event)) _ past.records (λ p x rest. last_on p pid rec x rest)
-       ∙ some_and c (λ earlier r rest. moves.is_last_eviction earlier pid r rest) (not (is_freeze_of pid rec.event)) _ past.records)
+    (some_same c (λ earlier r rest. moves.is_last_eviction earlier pid r (rest ++ rec ∷ [])) (λ earlier r rest. moves.is_last_eviction earlier pid r rest && not (is_freeze_of pid rec.event)) _ past.records (λ p x rest. last_on p pid rec x rest)
+    ∙ some_and c (λ earlier r rest. moves.is_last_eviction earlier pid r rest) (not (is_freeze_of pid rec.event)) _ past.records)
 
 evicted_bools : (b own before : Bool) → cond b (not own) before ≡ ((before && not b) || (b && not own && true))
 evicted_bools true true true = refl

@@ -1,5 +1,5 @@
 -- Processes put at their homes.
-use Rattle.std.specs.Prelude.{◌≡◌, ℕ, ◌==◌, false, if◌then◌else◌, List, Option, Some, None}
+use Rattle.std.specs.Prelude.{◌≡◌, ℕ, ◌==◌, false, if◌then◌else◌, List, Some}
 use Rattle.sprite_ids.specs.Pid.{home_of}
 use Rattle.call_journal.specs.Calls.{or_else}
 use Rattle.move_rules.specs.declared.whereabouts.At.{At}

@@ -3,7 +3,6 @@ use Rattle.std.specs.Prelude.{ℕ, ◌==◌, Bool, true, ◌&&◌, ◌||◌, not
 use Rattle.std.specs.List.{list_any}
 use Rattle.sprite_ids.specs.Pid.{home_of}
 use Rattle.unix_calls.specs.declared.description.Description.{Description}
-use Rattle.unix_calls.specs.declared.entry.Entry.{Entry}
 use Rattle.unix_calls.specs.declared.event.Event.{Event}
 use Rattle.unix_calls.specs.declared.event.Event.TheVariants as event
 use Rattle.unix_calls.specs.declared.event.Rec.{Rec}
@@ -32,7 +31,7 @@ abbrev pub freezes_well : Description → Moves → ℕ → ℕ → Bool
 freezes_well c judge pid kernel =
     is_there judge pid kernel
     && (moves_itself judge.movers pid
-        || nat_lt (uses_of judge.evictions.used.entries (record { pid = pid; kernel = kernel })) (count_by (due_in judge.evictions.due.entries pid kernel) c.evicts))
+    || nat_lt (uses_of judge.evictions.used.entries (record { pid = pid; kernel = kernel })) (count_by (due_in judge.evictions.due.entries pid kernel) c.evicts))
 
 -- one that was evicted goes on at its home
 abbrev pub thaws_well : Moves → ℕ → ℕ → Bool

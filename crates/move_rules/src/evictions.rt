@@ -313,11 +313,7 @@ fn is_born(births: &IndexMap<u64, CallAt>, returned: &IndexSet<CallAt>, pid: u64
 }
 
 // Keeps that a process is evicted.
-fn keep_used(
-    used: &mut IndexMap<UsedAt, u64>,
-    movers: &Movers,
-    rec: &Rec,
-) -> Result<(), NoMemory>
+fn keep_used(used: &mut IndexMap<UsedAt, u64>, movers: &Movers, rec: &Rec) -> Result<(), NoMemory>
     ensures { OnOk result (UsesOn movers.now rec.now used.old.entries used.new.entries) }
 {
     let Event::Freeze { pid } = &rec.event else {

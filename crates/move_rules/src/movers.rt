@@ -117,11 +117,7 @@ fn is_move_asked(asked: &IndexMap<CallAt, bool>, at: &CallAt) -> bool
 }
 
 // Keeps what an event tells of its process; `own`: the one that is frozen is so by its own call.
-fn keep_mover(
-    movers: &mut IndexMap<u64, Mover>,
-    own: bool,
-    event: &Event,
-) -> Result<(), NoMemory>
+fn keep_mover(movers: &mut IndexMap<u64, Mover>, own: bool, event: &Event) -> Result<(), NoMemory>
     ensures { OnOk result ((pid : ℕ) → mover_of movers.new.entries pid ≡ mover_behind own event.now pid (mover_of movers.old.entries pid)) }
 {
     match event {

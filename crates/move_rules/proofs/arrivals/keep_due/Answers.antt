@@ -1,4 +1,4 @@
-use Rattle.std.proofs.Common.{◌≡◌, ◌∙◌, sym}
+use Rattle.std.proofs.Common.{◌∙◌, sym}
 use Rattle.move_rules.proofs.ArrivalLaws.{dues_on}
 use Rattle.move_rules.proofs.arrivals.keep_due.Goals as goal
 

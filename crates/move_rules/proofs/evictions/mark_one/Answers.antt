@@ -1,4 +1,4 @@
-use Rattle.std.proofs.Common.{◌≡◌, ◌∙◌, sym}
+use Rattle.std.proofs.Common.{◌∙◌, sym}
 use Rattle.move_rules.proofs.MarkLaws.{marks_one}
 use Rattle.move_rules.proofs.evictions.mark_one.Goals as goal
 

@@ -1,4 +1,4 @@
-use Rattle.std.proofs.Common.{◌≡◌, ◌∙◌, ap, sym}
+use Rattle.std.proofs.Common.{◌∙◌, ap, sym}
 use Rattle.move_rules.specs.Evictions.{has_line}
 use Rattle.move_rules.proofs.MarkLaws.{marks_due}
 use Rattle.move_rules.proofs.evictions.Evictions.keep_due.Goals as goal
