@@ -1,0 +1,15 @@
+pub mod Lists
+pub mod Parts
+pub mod Blocks
+pub mod BlockLaws
+pub mod Stamps
+pub mod StampLaws
+pub mod Callbacks
+pub mod CallbackLaws
+pub mod Streams
+pub mod StreamLaws
+pub mod Prefixes
+pub mod PrefixLaws
+pub mod Moves
+pub mod MoveLaws
+pub mod Whole
