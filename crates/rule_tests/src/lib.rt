@@ -12,6 +12,8 @@ mod forms;
 #[cfg(test)]
 mod places;
 #[cfg(test)]
+mod sends;
+#[cfg(test)]
 mod sharing;
 #[cfg(test)]
 mod tests;
