@@ -1,9 +1,0 @@
-use Rattle.std.proofs.Common.{◌≡◌}
-use Rattle.turn_gate.specs.Steps.{Later}
-use Rattle.example_turn_gate.proofs.write_lines.Given as goal
-
-abbrev pub invariant-loop-line : goal.invariant-loop-line
-invariant-loop-line g l = record {
-  table : l.seat.token.table_id ≡ l.fn.seat.token.table_id;
-  later : Later l.fn.seat.token.me.0 l.seat.token.me.0;
-}
