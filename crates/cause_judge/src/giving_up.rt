@@ -6,9 +6,10 @@ ghost use Rattle.call_journal.specs.Unreachable.{gave_up, is_given_up, lost_eigh
 ghost use Rattle.cause_judge.specs.Causes.{ends_tries};
 
 use crate::matching::{is_about, is_expire, is_last_expire, is_loss, is_reply_from};
-use crate::serving::{begins_domain, server_of};
+use crate::serving::server_of;
 use sprite_ids::{Kernel, TxNo};
 use unix_calls::{Description, Entry, Event, Rec, SendKind};
+use unix_world::begins_domain;
 
 /// Whether an event of the kernel is a send for the sake of the entry's call that was given up in the records behind it.
 pub(crate) fn is_given_up(

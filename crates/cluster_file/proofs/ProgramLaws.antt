@@ -18,7 +18,8 @@ use Rattle.program_text.specs.declared.step.Jump.TheVariants.{Always, Equal, Dif
 use Rattle.program_text.specs.declared.step.Step.{Step}
 use Rattle.program_text.specs.declared.step.Step.TheVariants.{Plain, ToLabel}
 use Rattle.program_text.specs.declared.reading.Reading.{Reading}
-use Rattle.program_text.specs.Words.{same, lines_of, words_of, past_word, number_of}
+use Rattle.text_lines.specs.Lines.{lines_of, number_of}
+use Rattle.program_text.specs.Words.{same, words_of, past_word}
 use Rattle.program_text.specs.Operands.{register_of, operands_of}
 use Rattle.program_text.specs.Calls.{process_calls, stream_calls, name_calls, among, call_in}
 use Rattle.program_text.specs.Labels.{label_in, defines}

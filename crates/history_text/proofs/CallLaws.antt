@@ -6,7 +6,8 @@ use Rattle.process_machine.specs.declared.call.Call.{Call}
 use Rattle.process_machine.specs.declared.call.Call.TheVariants as call
 use Rattle.process_machine.specs.declared.call.Reply.{Reply}
 use Rattle.process_machine.specs.declared.call.Reply.TheVariants.{Value, Error}
-use Rattle.history_text.specs.Formats.{IsFormat, ◌then◌, found, made, ends_word}
+use Rattle.field_reader.specs.Reads.{found, made, ends_word}
+use Rattle.history_text.specs.Formats.{IsFormat, ◌then◌}
 use Rattle.history_text.specs.Numbers.{number64}
 use Rattle.history_text.specs.Texts.{text}
 use Rattle.history_text.specs.Calls.{call_shape, call_rows, call_format, reply_shape, reply_rows, reply_format}

@@ -6,7 +6,8 @@ use Rattle.process_machine.specs.declared.call.Call.{Call}
 use Rattle.process_machine.specs.declared.call.Reply.{Reply}
 use Rattle.unix_calls.specs.declared.entry.Part.{Part}
 use Rattle.unix_calls.specs.declared.entry.Part.TheVariants as part
-use Rattle.history_text.specs.Formats.{IsFormat, found, made, ends_word}
+use Rattle.field_reader.specs.Reads.{found, made, ends_word}
+use Rattle.history_text.specs.Formats.{IsFormat}
 use Rattle.history_text.specs.Entries.{answered, asked, Told, told_shape, told_rows, told, entry, entry_line}
 use Rattle.history_text.proofs.FormatLaws.{EndsWords, parted_is, then_is, followed_is, made_of_is, named_is, name_again, IsRow, row_is, bare_row_is}
 use Rattle.history_text.proofs.NumberLaws.{number32_is, pid_is}

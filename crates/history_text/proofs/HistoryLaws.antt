@@ -8,10 +8,12 @@ use Rattle.std.proofs.lemmas.List.{append-nil, length-append}
 use Rattle.std.proofs.lemmas.List.Concat.{flat_map-append}
 use Rattle.sprite_ids.proofs.ListLaws.{each_push}
 use Rattle.unix_calls.specs.declared.entry.Entry.{Entry}
-use Rattle.history_text.specs.Formats.{found, same}
+use Rattle.field_reader.specs.Reads.{found}
+use Rattle.history_text.specs.Formats.{same}
 use Rattle.history_text.specs.Entries.{entry, entry_line}
 use Rattle.history_text.specs.Histories.{HasLine, line_of, history_of, is_end, IsHistory, IsFirstBad}
-use Rattle.history_text.proofs.FormatLaws.{some_pair, followed_again}
+use Rattle.field_reader.specs.ReadLaws.{some_pair}
+use Rattle.history_text.proofs.FormatLaws.{followed_again}
 use Rattle.history_text.proofs.EntryLaws.{line_ends, entry_is, line_is}
 
 -- a line is read wherever it stands

@@ -15,7 +15,8 @@ use Rattle.unix_calls.specs.declared.entry.Entry.{Entry}
 use Rattle.unix_calls.specs.declared.entry.Part.{Part}
 use Rattle.unix_calls.specs.declared.entry.Part.TheVariants as part
 use Rattle.unix_calls.specs.Output.{hexadecimal}
-use Rattle.history_text.specs.Formats.{Format, ◌then◌, parted, followed, in_word}
+use Rattle.field_reader.specs.Reads.{in_word}
+use Rattle.history_text.specs.Formats.{Format, ◌then◌, parted, followed}
 use Rattle.history_text.specs.Numbers.{number64, number32, pid, errno}
 use Rattle.history_text.specs.Texts.{is_plain, quoted_byte, text}
 use Rattle.history_text.specs.Calls.{call_shape, call_format, reply_shape, reply_format}
@@ -25,14 +26,14 @@ use Rattle.history_text.specs.Laws.{no_break, IsOneLine}
 use Rattle.history_text.proofs.NumberLaws.{digits_in_word, errno_small, pid_small}
 use Rattle.history_text.proofs.TextLaws.{plain_low}
 
-abbrev Unbroken : List ℕ → Type 0
+abbrev pub Unbroken : List ℕ → Type 0
 Unbroken bytes = list_all no_break bytes ≡ true
 
 -- what is printed has no byte 10
-record IsUnbroken {A : Type 0} (f : Format A) : Type 0 where
+pub record IsUnbroken {A : Type 0} (f : Format A) : Type 0 where
   pub holds : (x : A) → f.Fits x → Unbroken (f.printed x)
 
-join : (xs ys : List ℕ) → Unbroken xs → Unbroken ys → Unbroken (xs ++ ys)
+pub join : (xs ys : List ℕ) → Unbroken xs → Unbroken ys → Unbroken (xs ++ ys)
 join xs ys one two = list_all-append no_break xs ys ∙ and_from (list_all no_break xs) (list_all no_break ys) one two
 
 high : (b : ℕ) → 11 ≤ b → no_break b ≡ true
@@ -51,22 +52,22 @@ word_byte b goes =
       | inr other ↦ ap not other
     ]
 
-words_unbroken : (w : List ℕ) → list_all in_word w ≡ true → Unbroken w
+pub words_unbroken : (w : List ℕ) → list_all in_word w ≡ true → Unbroken w
 words_unbroken [] all = refl
 words_unbroken (b ∷ w) all =
     let both = and_parts (in_word b) (list_all in_word w) all in
     and_from (no_break b) (list_all no_break w) (word_byte b both.0) (words_unbroken w both.1)
 
-decimal_unbroken : (n : ℕ) → n < 2 ^ 64 → Unbroken (decimal n)
+pub decimal_unbroken : (n : ℕ) → n < 2 ^ 64 → Unbroken (decimal n)
 decimal_unbroken n lt = words_unbroken (decimal n) (digits_in_word (decimal n) (decimal_is_IsNumeral n lt).0.1)
 
 number64_unbroken : IsUnbroken number64
 number64_unbroken = record { holds = decimal_unbroken }
 
-number32_unbroken : IsUnbroken number32
+pub number32_unbroken : IsUnbroken number32
 number32_unbroken = record { holds = λ n lt. decimal_unbroken n (omega (arith, lt)) }
 
-pid_unbroken : IsUnbroken pid
+pub pid_unbroken : IsUnbroken pid
 pid_unbroken = record { holds = λ n is. decimal_unbroken n (pid_small n is) }
 
 errno_unbroken : IsUnbroken errno
@@ -95,23 +96,23 @@ bytes_unbroken : (bytes : List ℕ) → Unbroken (flat_map quoted_byte bytes)
 bytes_unbroken [] = refl
 bytes_unbroken (b ∷ bytes) = join (quoted_byte b) (flat_map quoted_byte bytes) (byte_unbroken b) (bytes_unbroken bytes)
 
-text_unbroken : IsUnbroken text
+pub text_unbroken : IsUnbroken text
 text_unbroken = record { holds = λ bytes small. join (flat_map quoted_byte bytes) (34 ∷ []) (bytes_unbroken bytes) refl }
 
 -- ---- values one behind another
 
-parted_unbroken : {A B : Type 0} (sign : List ℕ) {f : Format A} {g : Format B} → Unbroken sign → IsUnbroken f → IsUnbroken g → IsUnbroken (parted sign f g)
+pub parted_unbroken : {A B : Type 0} (sign : List ℕ) {f : Format A} {g : Format B} → Unbroken sign → IsUnbroken f → IsUnbroken g → IsUnbroken (parted sign f g)
 parted_unbroken sign {f = f} {g = g} plain one two = record {
   holds = λ p fits. join (f.printed p.0) (sign ++ g.printed p.1) (one.holds p.0 fits.0) (join sign (g.printed p.1) plain (two.holds p.1 fits.1));
 }
 
-then_unbroken : {A B : Type 0} {f : Format A} {g : Format B} → IsUnbroken f → IsUnbroken g → IsUnbroken (f then g)
+pub then_unbroken : {A B : Type 0} {f : Format A} {g : Format B} → IsUnbroken f → IsUnbroken g → IsUnbroken (f then g)
 then_unbroken one two = parted_unbroken (32 ∷ []) refl one two
 
 followed_unbroken : {A : Type 0} (sign : List ℕ) {f : Format A} → Unbroken sign → IsUnbroken f → IsUnbroken (followed f sign)
 followed_unbroken sign {f = f} plain one = record { holds = λ x fits. join (f.printed x) sign (one.holds x fits) plain }
 
-form_unbroken : {A : Type 0} (name : List ℕ) {f : Format A} (x : A) → Unbroken name → IsUnbroken f → f.Fits x → Unbroken (name ++ 32 ∷ f.printed x)
+pub form_unbroken : {A : Type 0} (name : List ℕ) {f : Format A} (x : A) → Unbroken name → IsUnbroken f → f.Fits x → Unbroken (name ++ 32 ∷ f.printed x)
 form_unbroken name {f = f} x plain one fits = join name (32 ∷ f.printed x) plain (one.holds x fits)
 
 -- ---- calls and replies
@@ -169,14 +170,14 @@ call_unbroken (call.Rexec x y) fits = form_unbroken (codes "rexec") (x, y) refl 
 call_unbroken (call.Refused x) fits = form_unbroken (codes "refused") x refl errno_unbroken fits
 call_unbroken call.BadStep fits = refl
 
-calls_unbroken : IsUnbroken call_format
+pub calls_unbroken : IsUnbroken call_format
 calls_unbroken = record { holds = call_unbroken }
 
 reply_unbroken : (r : Reply) → (reply_shape r).Fits → Unbroken (reply_shape r).printed
 reply_unbroken (Value x y z) fits = form_unbroken (codes "ok") (x, (y, z)) refl numbers_text_unbroken fits
 reply_unbroken (Error x) fits = form_unbroken (codes "err") x refl errno_unbroken fits
 
-replies_unbroken : IsUnbroken reply_format
+pub replies_unbroken : IsUnbroken reply_format
 replies_unbroken = record { holds = reply_unbroken }
 
 answered_unbroken : IsUnbroken answered
@@ -207,5 +208,8 @@ all_told_unbroken = record { holds = λ t fits. told_unbroken t.0 t.1.0 t.1.1 fi
 parts_unbroken : IsUnbroken (pid then number32 then told)
 parts_unbroken = then_unbroken pid_unbroken (then_unbroken number32_unbroken all_told_unbroken)
 
+pub entry_unbroken : IsUnbroken entry
+entry_unbroken = record { holds = λ e fits. parts_unbroken.holds (e.pid, (e.number, (e.part, (e.call, e.reply)))) fits }
+
 pub one_line : (e : Entry) → HasLine e → IsOneLine (line_of e)
-one_line e has = record { front = entry.printed e; parts = refl; unbroken = parts_unbroken.holds (e.pid, (e.number, (e.part, (e.call, e.reply)))) has }
+one_line e has = record { front = entry.printed e; parts = refl; unbroken = entry_unbroken.holds e has }

@@ -1,6 +1,6 @@
 -- Numbers are read as they were printed.
 use Rattle.std.proofs.Common.{◌≡◌, ℕ, ◌^◌, ◌<◌, ◌≤◌, ◌+◌, ◌*◌, ◌-◌, ◌==◌, nat_eq, nat_le, Bool, true, false, cond, ltb, ◌&&◌, ◌||◌, inl, inr, List, [], ◌∷◌, length, get_or, Option, Some, None, refl, sym, ap, subst, ◌∙◌, arith}
-use Rattle.std.specs.List.{find, list_all}
+use Rattle.std.specs.List.{list_all}
 use Rattle.std.specs.Char.{digit_value, is_ascii_digit, is_ascii_alphanumeric}
 use Rattle.std.specs.Int.{is_in_range}
 use Rattle.std.specs.Fmt.{decimal}
@@ -10,12 +10,15 @@ use Rattle.std.proofs.lemmas.Str.{digit_value_digit}
 use Rattle.std.proofs.lemmas.Str.Parse.{IsNumeralModel, numerals_by_value, tells_digits, digit_from_value}
 use Rattle.std.proofs.lemmas.Fmt.{decimal_is_IsNumeral, decimal-digits_value, decimal_digit, first_decimal}
 use Rattle.sprite_ids.proofs.ListLaws.{some_is}
-use Rattle.sprite_ids.specs.Pid.{IsPid, home_of, birth_of}
+use Rattle.sprite_ids.specs.Pid.{IsPid}
 use Rattle.sprite_ids.specs.Errno.{errno_number}
 use Rattle.sprite_ids.specs.declared.errno.Errno.{Errno}
 use Rattle.sprite_ids.specs.declared.errno.Errno.TheVariants.{NoEntry, Exists, NotDir, IsDir, NotEmpty, BadFd, BadMode, TooBig, TooMany, Invalid, XDev, Busy, NoChild, NoProcess, Interrupted, NoServer, Unreachable, BadHost, BadName, BadAddress}
-use Rattle.history_text.specs.Formats.{IsFormat, in_word}
-use Rattle.history_text.specs.Numbers.{number_from, number_of, number64, number32, number8, is_pid, pid, errnos, errno}
+use Rattle.field_reader.specs.Reads.{in_word}
+use Rattle.field_reader.specs.NameLaws.{pid_passes, pid_tells, errno_back}
+use Rattle.history_text.specs.Formats.{IsFormat}
+use Rattle.field_reader.specs.Names.{errnos}
+use Rattle.history_text.specs.Numbers.{number_from, number_of, number64, number32, number8, pid, errno}
 use Rattle.history_text.proofs.FormatLaws.{word_is, chosen_by_is, within_is, find_holds}
 
 -- ---- digits
@@ -137,21 +140,6 @@ number8_is = within_is number64_is (λ n lt. lt-ltb n (2 ^ 8) lt) (λ n fits e. 
 
 -- ---- processes
 
-pid_passes : (n : ℕ) → IsPid n → is_pid n ≡ true
-pid_passes n is =
-    and_from (nat_le 1 (home_of n) && nat_le (home_of n) 16 && nat_le 1 (birth_of n)) (nat_le (birth_of n) 200)
-    (and_from (nat_le 1 (home_of n) && nat_le (home_of n) 16) (nat_le 1 (birth_of n))
-    (and_from (nat_le 1 (home_of n)) (nat_le (home_of n) 16) (le-leb 1 (home_of n) is.home_from) (le-leb (home_of n) 16 is.home_to))
-    (le-leb 1 (birth_of n) is.birth_from))
-    (le-leb (birth_of n) 200 is.birth_to)
-
-pid_tells : (n : ℕ) → is_pid n ≡ true → IsPid n
-pid_tells n e =
-    let c = and_parts (nat_le 1 (home_of n) && nat_le (home_of n) 16 && nat_le 1 (birth_of n)) (nat_le (birth_of n) 200) e in
-    let b = and_parts (nat_le 1 (home_of n) && nat_le (home_of n) 16) (nat_le 1 (birth_of n)) c.0 in
-    let a = and_parts (nat_le 1 (home_of n)) (nat_le (home_of n) 16) b.0 in
-    record { home_from = leb-true 1 (home_of n) a.0; home_to = leb-true (home_of n) 16 a.1; birth_from = leb-true 1 (birth_of n) b.1; birth_to = leb-true (birth_of n) 200 c.1 }
-
 pub pid_small : (n : ℕ) → IsPid n → n < 2 ^ 64
 pid_small n is = omega (arith, is.home_to, is.birth_to)
 
@@ -159,28 +147,6 @@ pub pid_is : IsFormat pid
 pid_is = within_is number32_is pid_passes (λ n fits e. pid_tells n e) (λ n is. omega (arith, is.home_to, is.birth_to))
 
 -- ---- errors
-
-errno_back : (e : Errno) → find (λ f. nat_eq (errno_number f) (errno_number e)) errnos ≡ Some e
-errno_back NoEntry = refl
-errno_back Exists = refl
-errno_back NotDir = refl
-errno_back IsDir = refl
-errno_back NotEmpty = refl
-errno_back BadFd = refl
-errno_back BadMode = refl
-errno_back TooBig = refl
-errno_back TooMany = refl
-errno_back Invalid = refl
-errno_back XDev = refl
-errno_back Busy = refl
-errno_back NoChild = refl
-errno_back NoProcess = refl
-errno_back Interrupted = refl
-errno_back NoServer = refl
-errno_back Unreachable = refl
-errno_back BadHost = refl
-errno_back BadName = refl
-errno_back BadAddress = refl
 
 pub errno_small : (e : Errno) → errno_number e < 2 ^ 8
 errno_small NoEntry = omega arith

@@ -6,9 +6,11 @@ use Rattle.sprite_ids.proofs.ListLaws.{some_is}
 use Rattle.unix_calls.specs.Output.{hexadecimal}
 use Rattle.history_text.specs.declared.quoted.Escape.{Escape}
 use Rattle.history_text.specs.declared.quoted.Escape.TheVariants.{Outside, Begun, High}
-use Rattle.history_text.specs.Formats.{Reads, Took, IsFormat, found, sign_read, behind_sign}
+use Rattle.field_reader.specs.Reads.{Reads, found, sign_read}
+use Rattle.history_text.specs.Formats.{Took, IsFormat, behind_sign}
 use Rattle.history_text.specs.Texts.{is_plain, quoted_byte, digit_of, not_plain, byte_of, with_byte, inside, text}
-use Rattle.history_text.proofs.FormatLaws.{some_pair, after_found, sign_found}
+use Rattle.field_reader.specs.ReadLaws.{some_pair}
+use Rattle.history_text.proofs.FormatLaws.{after_found, sign_found}
 
 -- ---- digits
 

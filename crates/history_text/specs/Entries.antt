@@ -5,8 +5,8 @@ use Rattle.process_machine.specs.declared.call.Reply.{Reply}
 use Rattle.unix_calls.specs.declared.entry.Entry.{Entry}
 use Rattle.unix_calls.specs.declared.entry.Part.{Part}
 use Rattle.unix_calls.specs.declared.entry.Part.TheVariants as part
-use Rattle.history_text.specs.declared.field_end.FieldEnd.{FieldEnd}
-use Rattle.history_text.specs.declared.field_end.FieldEnd.TheVariants.{NotPrinted, NoMemory}
+use Rattle.field_reader.specs.declared.field_end.FieldEnd.{FieldEnd}
+use Rattle.field_reader.specs.declared.field_end.FieldEnd.TheVariants.{NotSpelled, NoMemory}
 use Rattle.history_text.specs.Formats.{Format, parted, ◌then◌, followed, made_of, Shape, bare, form, Row, bare_row, row, named}
 use Rattle.history_text.specs.Numbers.{number32, pid}
 use Rattle.history_text.specs.Calls.{call_format, reply_format}
@@ -64,7 +64,7 @@ is_together e = belong e.part e.call e.reply
 
 -- why a part was not put
 abbrev pub TellsApart : Part → Option Call → Option Reply → FieldEnd → Type 0
-TellsApart part call reply NotPrinted = belong part call reply ≡ false
+TellsApart part call reply NotSpelled = belong part call reply ≡ false
 TellsApart part call reply NoMemory = Unit {0}
 
 -- the line of an entry

@@ -1,33 +1,14 @@
 -- How values are printed one behind another on a line, and read again.
-use Rattle.std.specs.Prelude.{◌≡◌, ℕ, ◌==◌, ◌||◌, Bool, true, not, if◌then◌else◌, List, [], ◌∷◌, ◌++◌, take, drop, length, Option, Some, None, Result, Ok, Err, nat_eq}
-use Rattle.std.specs.Char.{is_ascii_alphanumeric}
-use Rattle.std.specs.List.{position_or_len, list_all, starts_with}
+use Rattle.std.specs.Prelude.{◌≡◌, ℕ, Bool, true, if◌then◌else◌, List, [], ◌∷◌, ◌++◌, Option, Some, None, nat_eq}
+use Rattle.std.specs.List.{list_all}
 use Rattle.std.specs.Cmp.Lexicographic.{pointwise}
-use Rattle.history_text.specs.declared.field_end.FieldEnd.{FieldEnd}
-use Rattle.history_text.specs.declared.field_end.FieldEnd.TheVariants.{NotPrinted, NoMemory}
-
--- a value that stands at the front of bytes, and the bytes behind it; None where none stands there
-abbrev pub Reads : Type 0 → Type 0
-Reads A = Option (A × List ℕ)
-
--- that value, and that rest
-abbrev pub found : {A : Type 0} → A → List ℕ → Reads A
-found x rest = Some (x, rest)
+use Rattle.field_reader.specs.Reads.{Reads, then_read, made, chosen, passed, sign_read, in_word, ends_word, word_of, past_word}
 
 -- the one way to print the values of a type: which values are printed, how, and the reading
 pub record Format (A : Type 0) : Type 1 where
   pub Fits : A → Type 0
   pub printed : A → List ℕ
   pub read : List ℕ → Reads A
-
--- the bytes of words: letters, digits and `_`
-abbrev pub in_word : ℕ → Bool
-in_word b = is_ascii_alphanumeric b || b == 95
-
--- whether a word that goes before these bytes ends there
-abbrev pub ends_word : List ℕ → Bool
-ends_word [] = true
-ends_word (b ∷ bs) = not (in_word b)
 
 -- the bytes are the value's print and the rest
 pub record Took {A : Type 0} (format : Format A) (bytes : List ℕ) (value : A) (rest : List ℕ) : Type 0 where
@@ -39,36 +20,7 @@ pub record IsFormat {A : Type 0} (format : Format A) : Type 0 where
   pub again : (value : A) (rest : List ℕ) → format.Fits value → ends_word rest ≡ true → format.read (format.printed value ++ rest) ≡ Some (value, rest)
   pub takes : (bytes : List ℕ) (value : A) (rest : List ℕ) → format.read bytes ≡ Some (value, rest) → Took format bytes value rest
 
--- the first value beside what is read behind it
-abbrev pub beside : {A B : Type 0} → A → Reads B → Reads (A × B)
-beside x None = None
-beside x (Some (y, rest)) = Some ((x, y), rest)
-
--- one value, and then the other
-abbrev pub then_read : {A B : Type 0} → Reads A → (List ℕ → Reads B) → Reads (A × B)
-then_read None next = None
-then_read (Some (x, rest)) next = beside x (next rest)
-
--- the value that is made of what was read
-abbrev pub made : {A B : Type 0} → (A → B) → Reads A → Reads B
-made f None = None
-made f (Some (x, rest)) = Some (f x, rest)
-
--- the value, where there is one, before the rest
-abbrev pub placed : {A : Type 0} → Option A → List ℕ → Reads A
-placed None rest = None
-placed (Some x) rest = Some (x, rest)
-
--- the value that is chosen by what was read, where one is
-abbrev pub chosen : {A B : Type 0} → (A → Option B) → Reads A → Reads B
-chosen f None = None
-chosen f (Some (x, rest)) = placed (f x) rest
-
 -- ---- signs between values
-
--- what stands behind a sign at the front
-abbrev pub sign_read : List ℕ → List ℕ → Reads (Unit {0})
-sign_read sign bytes = if starts_with nat_eq bytes sign then Some (tt, drop (length sign) bytes) else None
 
 -- what is read behind a sign
 abbrev pub after_sign : {A : Type 0} → Reads (Unit {0}) → (List ℕ → Reads A) → Reads A
@@ -125,26 +77,11 @@ chosen_by f choose parts Is = record {
   read = λ bytes. chosen choose (f.read bytes);
 }
 
--- the value where it passes the test
-abbrev pub passed : {A : Type 0} → (A → Bool) → A → Option A
-passed test x = if test x then Some x else None
-
 -- the values that pass a test
 abbrev pub within : {A : Type 0} → Format A → (A → Bool) → (A → Type 0) → Format A
 within f test Is = chosen_by f (passed test) (λ x. x) Is
 
 -- ---- words
-
--- where the word at the front ends
-abbrev pub word_end : List ℕ → ℕ
-word_end bytes = position_or_len (λ b. not (in_word b)) bytes
-
--- the word at the front, and what stands behind it
-abbrev pub word_of : List ℕ → List ℕ
-word_of bytes = take (word_end bytes) bytes
-
-abbrev pub past_word : List ℕ → List ℕ
-past_word bytes = drop (word_end bytes) bytes
 
 abbrev pub word : Format (List ℕ)
 word = record {
@@ -195,15 +132,3 @@ named shape rows = record {
   printed = λ x. (shape x).printed;
   read = λ bytes. row_read rows (word_of bytes) (past_word bytes);
 }
-
--- ---- what a function does that reads from the front
-
--- the end that the reading has
-abbrev pub Fails : {A : Type 0} → FieldEnd → Reads A → Type 0
-Fails NotPrinted reads = reads ≡ None
-Fails NoMemory reads = Unit {0}
-
--- the value that was read, and the bytes that are left; or no value, unless memory ran out
-abbrev pub Takes : {A : Type 0} → Reads A → Result A FieldEnd → List ℕ → Type 0
-Takes reads (Ok x) rest = reads ≡ Some (x, rest)
-Takes reads (Err end) rest = Fails end reads

@@ -1,12 +1,12 @@
 -- How numbers are printed: in decimal, with no zero before the other digits.
-use Rattle.std.specs.Prelude.{ℕ, ◌==◌, ◌&&◌, ◌+◌, ◌*◌, ◌-◌, ◌^◌, ◌<◌, Bool, List, [], ◌∷◌, Option, Some, None, if◌then◌else◌, nat_lt, nat_le}
+use Rattle.std.specs.Prelude.{ℕ, ◌==◌, ◌&&◌, ◌+◌, ◌*◌, ◌-◌, ◌^◌, ◌<◌, List, [], ◌∷◌, Option, Some, None, if◌then◌else◌, nat_lt}
 use Rattle.std.specs.Char.{is_ascii_digit}
 use Rattle.std.specs.Fmt.{decimal}
 use Rattle.std.specs.List.{find}
-use Rattle.sprite_ids.specs.Pid.{IsPid, home_of, birth_of}
+use Rattle.sprite_ids.specs.Pid.{IsPid}
 use Rattle.sprite_ids.specs.Errno.{errno_number}
 use Rattle.sprite_ids.specs.declared.errno.Errno.{Errno}
-use Rattle.sprite_ids.specs.declared.errno.Errno.TheVariants.{NoEntry, Exists, NotDir, IsDir, NotEmpty, BadFd, BadMode, TooBig, TooMany, Invalid, XDev, Busy, NoChild, NoProcess, Interrupted, NoServer, Unreachable, BadHost, BadName, BadAddress}
+use Rattle.field_reader.specs.Names.{is_pid, errnos}
 use Rattle.history_text.specs.Formats.{Format, word, chosen_by, within}
 
 -- the number that decimal digits write behind those of n; none where a byte is no digit, or from 2^64 on
@@ -32,17 +32,10 @@ number8 = within number64 (λ n. nat_lt n (2 ^ 8)) (λ n. n < 2 ^ 8)
 
 -- ---- processes
 
--- whether it is the number of a process
-abbrev pub is_pid : ℕ → Bool
-is_pid n = nat_le 1 (home_of n) && nat_le (home_of n) 16 && nat_le 1 (birth_of n) && nat_le (birth_of n) 200
-
 abbrev pub pid : Format ℕ
 pid = within number32 is_pid IsPid
 
 -- ---- errors
-
-abbrev pub errnos : List Errno
-errnos = NoEntry ∷ Exists ∷ NotDir ∷ IsDir ∷ NotEmpty ∷ BadFd ∷ BadMode ∷ TooBig ∷ TooMany ∷ Invalid ∷ XDev ∷ Busy ∷ NoChild ∷ NoProcess ∷ Interrupted ∷ NoServer ∷ Unreachable ∷ BadHost ∷ BadName ∷ BadAddress ∷ []
 
 -- an error, as its number
 abbrev pub errno : Format Errno

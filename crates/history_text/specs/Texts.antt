@@ -4,7 +4,8 @@ use Rattle.std.specs.List.{flat_map, AllByRecursion}
 use Rattle.unix_calls.specs.Output.{hexadecimal}
 use Rattle.history_text.specs.declared.quoted.Escape.{Escape}
 use Rattle.history_text.specs.declared.quoted.Escape.TheVariants.{Outside, Begun, High}
-use Rattle.history_text.specs.Formats.{Reads, Format, behind_sign}
+use Rattle.field_reader.specs.Reads.{Reads}
+use Rattle.history_text.specs.Formats.{Format, behind_sign}
 
 -- bytes 32 to 126 but the quote and the backslash print as they are
 abbrev pub is_plain : ℕ → Bool

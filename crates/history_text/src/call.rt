@@ -1,9 +1,9 @@
-ghost use Rattle.history_text.specs.Formats.{Takes, row_read};
+ghost use Rattle.field_reader.specs.Reads.{Takes};
+ghost use Rattle.history_text.specs.Formats.{row_read};
 ghost use Rattle.history_text.specs.Calls.{call_format, stream_rows, path_rows, other_rows};
 
 use crate::field::{Field, put_form, put_pair, put_triple, spaced};
-use crate::field_end::FieldEnd;
-use crate::reader::Reader;
+use field_reader::{FieldEnd, Reader};
 use process_machine::Call;
 use sprite_ids::{Bytes, Errno, NoMemory};
 use std::alloc::Global;
@@ -191,6 +191,6 @@ fn read_other_call(alloc: Global, name: &[u8], from: &mut Reader) -> Result<Call
     } else if name == b"bad".as_slice() {
         Ok(Call::BadStep)
     } else {
-        Err(FieldEnd::NotPrinted)
+        Err(FieldEnd::NotSpelled)
     }
 }

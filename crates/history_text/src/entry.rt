@@ -1,12 +1,12 @@
 ghost use Rattle.std.specs.Prelude.{codes, ◌≡◌, ◌++◌, OnOk, IfErr};
-ghost use Rattle.history_text.specs.Formats.{Takes, followed, form};
+ghost use Rattle.field_reader.specs.Reads.{Takes};
+ghost use Rattle.history_text.specs.Formats.{followed, form};
 ghost use Rattle.history_text.specs.Puts.{Puts};
 ghost use Rattle.history_text.specs.Calls.{call_format};
 ghost use Rattle.history_text.specs.Entries.{TellsApart, asked, answered, told, told_shape, entry, entry_line, line_shape};
 
 use crate::field::{Field, put_form};
-use crate::field_end::FieldEnd;
-use crate::reader::Reader;
+use field_reader::{FieldEnd, Reader};
 use process_machine::{Call, Reply};
 use sprite_ids::{NoMemory, Pid};
 use std::alloc::Global;
@@ -15,7 +15,7 @@ use unix_calls::{Entry, Part};
 /// What an entry tells beside its process and its number.
 type Told = (Part, (Option<Call>, Option<Reply>));
 
-/// Puts an entry's line at the end, with its byte 10. NotPrinted comes exactly where the entry has no line. After an
+/// Puts an entry's line at the end, with its byte 10. NotSpelled comes exactly where the entry has no line. After an
 /// error a part of the line may be there.
 pub fn put_line(alloc: Global, out: &mut Vec<u8>, entry: &Entry) -> Result<(), FieldEnd>
     ensures puts { Puts (line_shape entry.now) result out.old.items out.new.items }
@@ -28,7 +28,7 @@ pub fn put_line(alloc: Global, out: &mut Vec<u8>, entry: &Entry) -> Result<(), F
     Ok(())
 }
 
-/// Puts what an entry tells beside its process and its number. NotPrinted comes exactly where these parts don't belong
+/// Puts what an entry tells beside its process and its number. NotSpelled comes exactly where these parts don't belong
 /// together. After an error a part of the print may be there.
 pub fn put_told(
     alloc: Global,
@@ -49,7 +49,7 @@ pub fn put_told(
             put_answered(alloc, out, b"done", call, reply)?;
         }
         (Part::Death, None, None) => out.extend_from_slice(b"death")?,
-        _ => return Err(FieldEnd::NotPrinted),
+        _ => return Err(FieldEnd::NotSpelled),
     }
     Ok(())
 }
@@ -80,7 +80,7 @@ fn put_asked(alloc: Global, out: &mut Vec<u8>, call: &Call) -> Result<(), NoMemo
     Ok(())
 }
 
-/// Reads the entry whose line stands at the front. NotPrinted comes exactly where no entry's line stands there.
+/// Reads the entry whose line stands at the front. NotSpelled comes exactly where no entry's line stands there.
 pub fn read_line(alloc: Global, from: &mut Reader) -> Result<Entry, FieldEnd>
     ensures { Takes (entry_line.read from.old) result from.new }
 {
@@ -89,8 +89,9 @@ pub fn read_line(alloc: Global, from: &mut Reader) -> Result<Entry, FieldEnd>
     Ok(entry)
 }
 
-/// Reads the entry that is printed at the front, without its byte 10.
-fn read_entry(alloc: Global, from: &mut Reader) -> Result<Entry, FieldEnd>
+/// Reads the entry that is printed at the front, without its byte 10. NotSpelled comes exactly where none is printed there;
+/// some bytes may be read then.
+pub fn read_entry(alloc: Global, from: &mut Reader) -> Result<Entry, FieldEnd>
     ensures { Takes (entry.read from.old) result from.new }
 {
     let pid = Pid::read_from(alloc, from)?;
@@ -127,7 +128,7 @@ fn read_told(alloc: Global, from: &mut Reader) -> Result<Told, FieldEnd>
     } else if name == b"death".as_slice() {
         Ok((Part::Death, (None, None)))
     } else {
-        Err(FieldEnd::NotPrinted)
+        Err(FieldEnd::NotSpelled)
     }
 }
 

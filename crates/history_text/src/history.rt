@@ -3,9 +3,8 @@ ghost use Rattle.std.specs.List.{AllByRecursion};
 ghost use Rattle.history_text.specs.Histories.{HasLine, history_of, IsHistory, TellsBad, TellsUnprinted, is_end};
 
 use crate::entry::{put_line, read_line};
-use crate::field_end::FieldEnd;
 use crate::history_error::HistoryError;
-use crate::reader::Reader;
+use field_reader::{FieldEnd, Reader};
 use std::alloc::Global;
 use unix_calls::Entry;
 
@@ -27,7 +26,7 @@ pub fn print_history(alloc: Global, entries: &[Entry]) -> Result<Vec<u8>, Histor
     for (place, entry) in entries.iter().enumerate() {
         match put_line(alloc, &mut out, entry) {
             Ok(()) => {}
-            Err(FieldEnd::NotPrinted) => return Err(HistoryError::Line(place + 1)),
+            Err(FieldEnd::NotSpelled) => return Err(HistoryError::Line(place + 1)),
             Err(FieldEnd::NoMemory) => return Err(HistoryError::NoMemory),
         }
     }
@@ -49,7 +48,7 @@ pub fn read_history(alloc: Global, text: &[u8]) -> Result<Vec<Entry>, HistoryErr
     while !is_end(from.rest()) {
         match read_line(alloc, &mut from) {
             Ok(entry) => entries.push(entry)?,
-            Err(FieldEnd::NotPrinted) => return Err(HistoryError::Line(entries.len() + 1)),
+            Err(FieldEnd::NotSpelled) => return Err(HistoryError::Line(entries.len() + 1)),
             Err(FieldEnd::NoMemory) => return Err(HistoryError::NoMemory),
         }
     }

@@ -4,22 +4,18 @@
 mod call;
 mod entry;
 mod field;
-mod field_end;
 mod history;
 mod history_error;
 mod laws;
 mod number;
 mod quoted;
-mod reader;
 mod reply;
 
-pub use entry::put_told;
+pub use entry::{put_told, read_entry};
 pub use field::Field;
-pub use field_end::FieldEnd;
 pub use history::{print_history, read_history};
 pub use history_error::HistoryError;
 pub use laws::{
     entry_is_one_line, history_has_no_bad_line, legal_is_together, printed_is_history,
     text_has_one_bad_line, text_is_one_history,
 };
-pub use reader::Reader;

@@ -1,12 +1,9 @@
 ghost use Rattle.std.specs.Prelude.{◌≡◌, ◌==◌};
-ghost use Rattle.std.specs.Fmt.{decimal};
-ghost use Rattle.history_text.specs.Formats.{passed};
-ghost use Rattle.history_text.specs.Numbers.{number_from, number_of, number64, number32, number8, is_pid, pid, errno};
+ghost use Rattle.history_text.specs.Numbers.{number_from, number_of, number64, number32, number8, pid, errno};
 
 use crate::field::Field;
-use crate::field_end::FieldEnd;
-use crate::reader::Reader;
-use sprite_ids::{Errno, Kernel, NoMemory, Pid};
+use field_reader::{FieldEnd, Reader, pid_of};
+use sprite_ids::{Errno, NoMemory, Pid};
 use std::alloc::Global;
 
 /// The number that the digits write in decimal; None exactly where a byte is no digit, or from 2^64 on.
@@ -47,7 +44,7 @@ impl Field for u64 {
     }
 
     fn read_from(_alloc: Global, from: &mut Reader) -> Result<u64, FieldEnd> {
-        number_of(from.word()).ok_or(FieldEnd::NotPrinted)
+        number_of(from.word()).ok_or(FieldEnd::NotSpelled)
     }
 }
 
@@ -60,7 +57,7 @@ impl Field for u32 {
 
     fn read_from(alloc: Global, from: &mut Reader) -> Result<u32, FieldEnd> {
         let number = u64::read_from(alloc, from)?;
-        u32::try_from(number).ok().ok_or(FieldEnd::NotPrinted)
+        u32::try_from(number).ok().ok_or(FieldEnd::NotSpelled)
     }
 }
 
@@ -73,7 +70,7 @@ impl Field for u8 {
 
     fn read_from(alloc: Global, from: &mut Reader) -> Result<u8, FieldEnd> {
         let number = u64::read_from(alloc, from)?;
-        u8::try_from(number).ok().ok_or(FieldEnd::NotPrinted)
+        u8::try_from(number).ok().ok_or(FieldEnd::NotSpelled)
     }
 }
 
@@ -86,16 +83,8 @@ impl Field for Pid {
 
     fn read_from(alloc: Global, from: &mut Reader) -> Result<Pid, FieldEnd> {
         let number = u32::read_from(alloc, from)?;
-        pid_of(number).ok_or(FieldEnd::NotPrinted)
+        pid_of(number).ok_or(FieldEnd::NotSpelled)
     }
-}
-
-// The process of that number.
-fn pid_of(number: u32) -> Option<Pid>
-    ensures { result ≡ passed is_pid number }
-{
-    let home = u8::try_from(number / 1000).ok()?;
-    Pid::new(Kernel::new(home)?, number % 1000)
 }
 
 impl Field for Errno {
@@ -107,6 +96,6 @@ impl Field for Errno {
 
     fn read_from(alloc: Global, from: &mut Reader) -> Result<Errno, FieldEnd> {
         let number = u8::read_from(alloc, from)?;
-        Errno::new(number).ok_or(FieldEnd::NotPrinted)
+        Errno::new(number).ok_or(FieldEnd::NotSpelled)
     }
 }

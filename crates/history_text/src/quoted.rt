@@ -6,8 +6,7 @@ ghost use Rattle.history_text.specs.Texts.{is_plain, quoted_byte, digit_of, byte
 ghost use Rattle.history_text.specs.declared.quoted.Escape.TheVariants.{Outside};
 
 use crate::field::Field;
-use crate::field_end::FieldEnd;
-use crate::reader::Reader;
+use field_reader::{FieldEnd, Reader};
 use sprite_ids::{Bytes, NoMemory};
 use std::alloc::Global;
 
@@ -135,7 +134,7 @@ impl Field for Bytes {
     fn read_from(alloc: Global, from: &mut Reader) -> Result<Bytes, FieldEnd> {
         from.sign(b"\"")?;
         match inside(alloc, from.rest())? {
-            None => Err(FieldEnd::NotPrinted),
+            None => Err(FieldEnd::NotSpelled),
             Some((text, rest)) => {
                 from.go_on(rest);
                 Ok(text)

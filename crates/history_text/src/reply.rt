@@ -1,8 +1,7 @@
 ghost use Rattle.history_text.specs.Calls.{reply_format};
 
 use crate::field::{Field, put_form, put_triple, spaced};
-use crate::field_end::FieldEnd;
-use crate::reader::Reader;
+use field_reader::{FieldEnd, Reader};
 use process_machine::Reply;
 use sprite_ids::{Bytes, Errno, NoMemory};
 use std::alloc::Global;
@@ -33,7 +32,7 @@ impl Field for Reply {
         } else if name == b"err".as_slice() {
             Ok(Reply::Error(spaced::<Errno>(alloc, from)?))
         } else {
-            Err(FieldEnd::NotPrinted)
+            Err(FieldEnd::NotSpelled)
         }
     }
 }

@@ -4,7 +4,7 @@ use Rattle.std.specs.Option.{option_and_then}
 use Rattle.program_text.specs.declared.assembly.AsmEnd.{AsmEnd}
 use Rattle.program_text.specs.declared.assembly.AsmEnd.TheVariants as end
 use Rattle.program_text.specs.declared.reading.Reading.{Reading}
-use Rattle.program_text.specs.Words.{lines_of}
+use Rattle.text_lines.specs.Lines.{lines_of}
 use Rattle.program_text.specs.Labels.{defines}
 use Rattle.program_text.specs.Lines.{line_of}
 use Rattle.program_text.specs.Readings.{judged, unread, with_line}

@@ -15,7 +15,8 @@ use Rattle.program_text.specs.declared.step.Step.TheVariants.{Plain, ToLabel}
 use Rattle.program_text.specs.declared.step.Jump.{Jump}
 use Rattle.program_text.specs.declared.step.Jump.TheVariants.{Always, Equal, Different, Less}
 use Rattle.program_text.specs.declared.reading.Reading.{Reading}
-use Rattle.program_text.specs.Words.{same, lines_of}
+use Rattle.text_lines.specs.Lines.{lines_of}
+use Rattle.program_text.specs.Words.{same}
 use Rattle.program_text.specs.Labels.{defines}
 use Rattle.program_text.specs.Lines.{line_of}
 use Rattle.program_text.specs.Readings.{place_of, bytes_of, with_label, with_pages, with_text, with_step, with_line, judged, unread}

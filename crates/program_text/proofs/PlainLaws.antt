@@ -8,7 +8,8 @@ use Rattle.program_text.specs.declared.line.Line.TheVariants.{Blank, Label, Page
 use Rattle.program_text.specs.declared.step.Jump.TheVariants.{Always}
 use Rattle.program_text.specs.declared.step.Step.{Step}
 use Rattle.program_text.specs.declared.step.Step.TheVariants.{Plain, ToLabel}
-use Rattle.program_text.specs.Words.{same, words_of, past_word, number_of}
+use Rattle.text_lines.specs.Lines.{number_of}
+use Rattle.program_text.specs.Words.{same, words_of, past_word}
 use Rattle.program_text.specs.Operands.{register_of, operands_of}
 use Rattle.program_text.specs.Calls.{call_in}
 use Rattle.program_text.specs.Labels.{label_in}

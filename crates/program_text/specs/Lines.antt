@@ -4,7 +4,8 @@ use Rattle.std.specs.Option.{option_map, option_and_then}
 use Rattle.process_machine.specs.declared.program.Text.{Text}
 use Rattle.program_text.specs.declared.line.Line.{Line}
 use Rattle.program_text.specs.declared.line.Line.TheVariants.{Blank, Label, Pages, Data, Code}
-use Rattle.program_text.specs.Words.{same, words_of, skip_spaces, past_word, number_of}
+use Rattle.text_lines.specs.Lines.{number_of}
+use Rattle.program_text.specs.Words.{same, words_of, skip_spaces, past_word}
 use Rattle.program_text.specs.Quoted.{literal}
 use Rattle.program_text.specs.Labels.{label_in}
 use Rattle.program_text.specs.Steps.{step_of}

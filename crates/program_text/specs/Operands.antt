@@ -3,7 +3,7 @@ use Rattle.std.specs.Prelude.{ℕ, zero, suc, List, [], ◌∷◌, ◌==◌, ◌
 use Rattle.std.specs.Option.{option_map, option_and_then}
 use Rattle.process_machine.specs.declared.instruction.Operand.{Operand}
 use Rattle.process_machine.specs.declared.instruction.Operand.TheVariants.{Register, Number}
-use Rattle.program_text.specs.Words.{number_of}
+use Rattle.text_lines.specs.Lines.{number_of}
 
 -- the register that a word names: an `r` and a digit from 0 to 7
 abbrev pub register_of : List ℕ → Option ℕ

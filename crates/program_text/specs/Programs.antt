@@ -11,7 +11,7 @@ use Rattle.program_text.specs.declared.step.Jump.TheVariants.{Always, Equal, Dif
 use Rattle.program_text.specs.declared.step.Step.{Step}
 use Rattle.program_text.specs.declared.step.Step.TheVariants.{Plain, ToLabel}
 use Rattle.program_text.specs.declared.reading.Reading.{Reading}
-use Rattle.program_text.specs.Words.{lines_of}
+use Rattle.text_lines.specs.Lines.{lines_of}
 use Rattle.program_text.specs.Labels.{defines}
 use Rattle.program_text.specs.Readings.{place_of, judged, unread}
 

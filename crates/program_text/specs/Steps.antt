@@ -8,7 +8,8 @@ use Rattle.program_text.specs.declared.step.Jump.{Jump}
 use Rattle.program_text.specs.declared.step.Jump.TheVariants.{Always, Equal, Different, Less}
 use Rattle.program_text.specs.declared.step.Step.{Step}
 use Rattle.program_text.specs.declared.step.Step.TheVariants.{Plain, ToLabel}
-use Rattle.program_text.specs.Words.{same, number_of}
+use Rattle.text_lines.specs.Lines.{number_of}
+use Rattle.program_text.specs.Words.{same}
 use Rattle.program_text.specs.Operands.{register_of, operands_of}
 use Rattle.program_text.specs.Calls.{call_in}
 

@@ -2,7 +2,7 @@ ghost use Rattle.std.specs.Prelude.{◌≡◌, ◌≤◌, IfOk, IfErr, Ok, Some,
 ghost use Rattle.program_text.specs.Facts.{IsWithinLimits, TellsFirst};
 ghost use Rattle.program_text.specs.Names.{has};
 ghost use Rattle.program_text.specs.Readings.{judged, unread};
-ghost use Rattle.program_text.specs.Words.{lines_of};
+ghost use Rattle.text_lines.specs.Lines.{lines_of};
 ghost use Rattle.program_text.specs.Programs.{line_number, aimed, jump_to, verdict, program_of, program_by, IsBadAt};
 
 use super::label::defined_in;
@@ -10,10 +10,10 @@ use super::line::read_line;
 use super::names::{Names, Places};
 use super::reading::{Reading, add_line};
 use super::step::{Jump, Step};
-use super::words::first_line;
 use process_machine::{Code, Instruction, PageCount, Program};
 use sprite_ids::{Items, NoMemory};
 use std::alloc::Global;
+use text_lines::first_line;
 use thiserror::Error;
 
 /// Why a text gave no program.

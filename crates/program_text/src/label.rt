@@ -1,14 +1,16 @@
 ghost use Rattle.std.specs.Prelude.{◌≡◌, ◌||◌, List, ℕ, IfOk, OnOk};
 ghost use Rattle.std.specs.Option.{option_copied};
-ghost use Rattle.program_text.specs.Words.{lines_of, words_of};
+ghost use Rattle.text_lines.specs.Lines.{lines_of};
+ghost use Rattle.program_text.specs.Words.{words_of};
 ghost use Rattle.program_text.specs.Labels.{is_letter, is_label_byte, is_label, label_in, label_of, is_named, defines};
 ghost use Rattle.program_text.specs.Names.{has};
 
 use super::names::{Name, Names};
 use super::operand::register;
-use super::words::{first_line, is_blank, next_word, place_of};
+use super::words::{is_blank, next_word};
 use sprite_ids::NoMemory;
 use std::alloc::Global;
+use text_lines::{first_line, place_of};
 
 /// How many bytes a label may have.
 const LABEL_BYTES: usize = 16;

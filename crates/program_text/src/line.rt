@@ -6,10 +6,11 @@ use super::label::label_in;
 use super::names::Name;
 use super::quoted::quoted;
 use super::step::{Step, read_step};
-use super::words::{is_blank, next_word, number, skip_spaces};
+use super::words::{is_blank, next_word, skip_spaces};
 use process_machine::{PageCount, Text};
 use sprite_ids::{Bytes, NoMemory};
 use std::alloc::Global;
+use text_lines::number;
 
 /// A line of a program.
 #[derive(Debug, Drop)]

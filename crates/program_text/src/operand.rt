@@ -2,8 +2,9 @@ ghost use Rattle.std.specs.Prelude.{◌≡◌};
 ghost use Rattle.program_text.specs.Words.{words_of};
 ghost use Rattle.program_text.specs.Operands.{register_of, operand_of, operands_of};
 
-use super::words::{is_blank, next_word, number};
+use super::words::{is_blank, next_word};
 use process_machine::{Operand, Register};
+use text_lines::number;
 
 /// The register that the word names, `r0` to `r7`; None exactly where it names none.
 pub fn register(word: &[u8]) -> Option<Register>

@@ -5,10 +5,11 @@ ghost use Rattle.program_text.specs.Steps.{sys_of, step_of, jump_of, of_register
 use super::calls::call_in;
 use super::names::Name;
 use super::operand::{operands, register};
-use super::words::{is_blank, next_word, number};
+use super::words::{is_blank, next_word};
 use process_machine::{Instruction, Register};
 use sprite_ids::NoMemory;
 use std::alloc::Global;
+use text_lines::number;
 
 /// When a jump goes to its label.
 #[derive(Clone, Copy, Debug, PartialEq, Eq)]

@@ -6,7 +6,7 @@ use Rattle.sprite_ids.specs.declared.StreamNo.{StreamNo}
 use Rattle.sprite_ids.specs.declared.Mode.{Mode}
 use Rattle.sprite_ids.specs.declared.Mode.TheVariants.{Read, Write, Both}
 use Rattle.text_lines.specs.Lines.{number_of}
-use Rattle.history_text.specs.Formats.{Reads}
+use Rattle.field_reader.specs.Reads.{Reads}
 use Rattle.history_text.specs.Texts.{text}
 use Rattle.file_views.specs.declared.FileStep.{FileStep}
 use Rattle.file_views.specs.declared.FileStep.TheVariants as act

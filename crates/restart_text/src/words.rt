@@ -1,7 +1,8 @@
 ghost use Rattle.std.specs.Prelude.{◌≡◌, ◌≤◌, IfOk, IfSome};
 ghost use Rattle.restart_text.specs.FileLines.{word_of, rest_of, behind_two, number_in, quoted, stream_by, stream_of, stream_in, process};
 
-use history_text::{Field, FieldEnd, Reader};
+use field_reader::{FieldEnd, Reader};
+use history_text::Field;
 use sprite_ids::{Bytes, Kernel, NoMemory, Pid, StreamNo};
 use std::alloc::Global;
 use text_lines::{number, place_of};
@@ -107,7 +108,7 @@ pub(crate) fn quoted(alloc: Global, line: &[u8]) -> Result<Option<Bytes>, NoMemo
                 Ok(None)
             }
         }
-        Err(FieldEnd::NotPrinted) => Ok(None),
+        Err(FieldEnd::NotSpelled) => Ok(None),
         Err(FieldEnd::NoMemory) => Err(NoMemory),
     }
 }

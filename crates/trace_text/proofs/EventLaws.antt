@@ -4,7 +4,8 @@ use Rattle.std.specs.Prelude.{codes}
 use Rattle.std.specs.List.{AllByRecursion}
 use Rattle.unix_calls.specs.declared.event.Event.{Event}
 use Rattle.unix_calls.specs.declared.event.Event.TheVariants as event
-use Rattle.history_text.specs.Formats.{IsFormat, ◌then◌, found, made, ends_word}
+use Rattle.field_reader.specs.Reads.{found, made, ends_word}
+use Rattle.history_text.specs.Formats.{IsFormat, ◌then◌}
 use Rattle.history_text.specs.Numbers.{number32, pid}
 use Rattle.history_text.specs.Calls.{call_format, reply_format}
 use Rattle.history_text.proofs.FormatLaws.{then_is, followed_is, made_of_is, named_is, IsRow, row_is}

@@ -3,7 +3,7 @@ use Rattle.std.proofs.Common.{◌≡◌, ℕ, ◌^◌, ◌<◌, ◌==◌, nat_le
 use Rattle.std.specs.Prelude.{codes}
 use Rattle.std.specs.List.{list_all, AllByRecursion}
 use Rattle.std.specs.Fmt.{decimal}
-use Rattle.std.specs.Cmp.Lexicographic.{bytes_decides, same_text}
+use Rattle.std.specs.Cmp.Lexicographic.{same_text}
 use Rattle.std.proofs.lemmas.Bool.{cases_Bool, cond-true, cond-false, and_parts, and_from, le-leb, leb-true, lt-ltb, ltb-true, eqb-true}
 use Rattle.std.proofs.lemmas.Fmt.{decimal_is_IsNumeral}
 use Rattle.sprite_ids.specs.declared.names.Mode.{Mode}
@@ -12,8 +12,8 @@ use Rattle.sprite_ids.specs.declared.caching.CacheMode.{CacheMode}
 use Rattle.sprite_ids.specs.declared.caching.CacheMode.TheVariants as cache
 use Rattle.sprite_ids.specs.declared.caching.CallKind.{CallKind}
 use Rattle.sprite_ids.specs.declared.caching.CallKind.TheVariants as callback
-use Rattle.sprite_paths.specs.Path.{is_printed, is_path_text, limited, walked, start_of, text_of, clean_path, IsPath}
-use Rattle.sprite_paths.proofs.PathLaws.{clean_again, cleaned_path}
+use Rattle.sprite_paths.specs.Path.{is_printed, is_path_text, limited, walked, start_of, text_of, IsPath}
+use Rattle.sprite_paths.proofs.PathLaws.{clean_again}
 use Rattle.link_plan.specs.declared.plan.Fate.{Fate}
 use Rattle.link_plan.specs.declared.plan.Fate.TheVariants as fate
 use Rattle.unix_calls.specs.declared.event.About.{About}
@@ -21,11 +21,14 @@ use Rattle.unix_calls.specs.declared.event.DropCause.{DropCause}
 use Rattle.unix_calls.specs.declared.event.DropCause.TheVariants as cause
 use Rattle.unix_calls.specs.declared.event.SendKind.{SendKind}
 use Rattle.unix_calls.specs.declared.event.SendKind.TheVariants as kind
-use Rattle.history_text.specs.Formats.{Took, IsFormat, found, made, ◌then◌, in_word, ends_word, same}
-use Rattle.history_text.proofs.FormatLaws.{EndsWords, some_pair, made_found, parted_is, then_is, made_of_is, chosen_by_is, passed_is, within_is, find_holds, word_is, name_again, IsRow, row_is, bare_row_is, named_is}
+use Rattle.field_reader.specs.Reads.{found, made, in_word, ends_word}
+use Rattle.history_text.specs.Formats.{Took, IsFormat, ◌then◌, same}
+use Rattle.field_reader.specs.ReadLaws.{some_pair, made_found}
+use Rattle.history_text.proofs.FormatLaws.{EndsWords, parted_is, then_is, made_of_is, chosen_by_is, within_is, find_holds, word_is, name_again, IsRow, row_is, bare_row_is, named_is}
 use Rattle.history_text.proofs.NumberLaws.{number64_is, number32_is, number8_is, pid_is, pid_small, digits_in_word}
 use Rattle.history_text.proofs.TextLaws.{text_is}
-use Rattle.trace_text.specs.Fields.{kernel, number16, block, transaction, numbered, file, stream, as_cleaned, path_of, prefix_format, about, about_fits, about_printed, about_read, about_if_any, of_word, worded, truth_word, truths, truth, fate_word, fates, fate_format, cache_word, cache_modes, cache_format, mode_word, modes, mode_format, callback_word, callbacks, callback_format, cause_word, causes, cause_format, kind_shape, kind_rows, kind_format}
+use Rattle.field_reader.specs.PathLaws.{path_back, path_forth}
+use Rattle.trace_text.specs.Fields.{kernel, number16, block, transaction, numbered, file, stream, prefix_format, about, about_fits, about_printed, about_read, about_if_any, of_word, worded, truth_word, truths, truth, fate_word, fates, fate_format, cache_word, cache_modes, cache_format, mode_word, modes, mode_format, callback_word, callbacks, callback_format, cause_word, causes, cause_format, kind_shape, kind_rows, kind_format}
 
 -- ---- numbers
 
@@ -59,25 +62,6 @@ pub stream_is : IsFormat stream
 stream_is = made_of_is numbered_is (λ p. record { kernel = p.0; number = p.1 }) (λ s. (s.kernel, s.number)) (λ s. refl) (λ p. refl)
 
 -- ---- prefixes
-
-root_is : IsPath []
-root_is = record { names = tt; short_parts = tt; few_parts = omega arith; short_text = omega arith }
-
-cleaned_forth : (bytes : List ℕ) (o : Option (List (List ℕ))) (path : List (List ℕ)) → as_cleaned bytes o ≡ Some path → (o ≡ Some path) × (bytes ≡ text_of path)
-cleaned_forth bytes None path e = absurd cc
-cleaned_forth bytes (Some parts) path e =
-    let is = passed_is (same (text_of parts) bytes) parts path e in
-    (ap Some is.1, sym (same_text (text_of parts) bytes (sym is.0)) ∙ ap text_of is.1)
-
-path_back : (path : List (List ℕ)) → IsPath path → path_of (text_of path) ≡ Some path
-path_back path is =
-    ap (as_cleaned (text_of path)) (clean_again [] path is)
-    ∙ cond-true (same (text_of path) (text_of path)) (Some path) None ((bytes_decides (text_of path) (text_of path)).1 refl)
-
-path_forth : (bytes : List ℕ) (path : List (List ℕ)) → path_of bytes ≡ Some path → (bytes ≡ text_of path) × IsPath path
-path_forth bytes path e =
-    let is = cleaned_forth bytes (clean_path [] bytes) path e in
-    (is.1, cleaned_path [] bytes path root_is is.0)
 
 test_passed : {A : Type 0} (b : Bool) (o : Option A) (x : A) → cond b o None ≡ Some x → b ≡ true
 test_passed true o x e = refl

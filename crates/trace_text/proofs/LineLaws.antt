@@ -1,135 +1,24 @@
 -- A record's line has byte 10 at its end alone.
-use Rattle.std.proofs.Common.{◌≡◌, ℕ, ◌^◌, ◌<◌, ◌==◌, true, not, inl, inr, List, [], ◌∷◌, ◌++◌, Option, Some, None, refl, sym, ap, subst, ◌∙◌, arith}
+use Rattle.std.proofs.Common.{◌≡◌, ℕ, true, List, Option, Some, None, refl, arith}
 use Rattle.std.specs.Prelude.{codes}
 use Rattle.std.specs.List.{list_all}
-use Rattle.std.specs.Fmt.{decimal}
-use Rattle.std.proofs.lemmas.Bool.{cases_Bool, and_parts, and_from, eqb-true}
-use Rattle.std.proofs.lemmas.List.Folds.{list_all-append}
-use Rattle.std.proofs.lemmas.Fmt.{decimal_is_IsNumeral}
-use Rattle.sprite_ids.specs.Pid.{IsPid}
 use Rattle.sprite_paths.specs.Path.{text_of}
-use Rattle.process_machine.specs.declared.call.Call.{Call}
-use Rattle.process_machine.specs.declared.call.Call.TheVariants.{Print, Tick}
-use Rattle.process_machine.specs.declared.call.Reply.{Reply}
-use Rattle.unix_calls.specs.declared.entry.Entry.{Entry}
-use Rattle.unix_calls.specs.declared.entry.Part.TheVariants as part
 use Rattle.unix_calls.specs.declared.event.About.{About}
 use Rattle.unix_calls.specs.declared.event.Event.{Event}
 use Rattle.unix_calls.specs.declared.event.Event.TheVariants as event
 use Rattle.unix_calls.specs.declared.event.Rec.{Rec}
 use Rattle.unix_calls.specs.declared.event.SendKind.{SendKind}
 use Rattle.unix_calls.specs.declared.event.SendKind.TheVariants as kind
-use Rattle.history_text.specs.Formats.{Format, ◌then◌, parted, in_word}
+use Rattle.field_reader.specs.Reads.{in_word}
+use Rattle.history_text.specs.Formats.{◌then◌, parted}
 use Rattle.history_text.specs.Numbers.{number32, pid}
-use Rattle.history_text.specs.Texts.{text}
 use Rattle.history_text.specs.Calls.{call_format, reply_format}
-use Rattle.history_text.specs.Entries.{told_shape, entry}
-use Rattle.history_text.specs.Laws.{no_break, IsOneLine}
-use Rattle.history_text.proofs.NumberLaws.{digits_in_word, pid_small}
-use Rattle.history_text.proofs.LineLaws as history
+use Rattle.history_text.specs.Laws.{IsOneLine}
+use Rattle.history_text.proofs.LineLaws.{Unbroken, IsUnbroken, words_unbroken, decimal_unbroken, number32_unbroken, pid_unbroken, text_unbroken, parted_unbroken, then_unbroken, form_unbroken, calls_unbroken, replies_unbroken, entry_unbroken}
 use Rattle.trace_text.specs.Fields.{kernel, block, transaction, numbered, file, stream, prefix_format, about_fits, about_printed, about_if_any, worded, truth_word, truths, truth, fate_word, fate_format, cache_word, cache_modes, cache_format, mode_word, modes, mode_format, callback_word, callbacks, callback_format, cause_word, causes, cause_format, kind_shape, kind_format}
 use Rattle.trace_text.specs.Events.{event_shape, event_format}
 use Rattle.trace_text.specs.Traces.{HasLine, line_of, record_format}
 use Rattle.trace_text.proofs.FieldLaws.{text_small, truth_in_word, fate_in_word, cache_in_word, mode_in_word, callback_in_word, cause_in_word}
-
-abbrev Unbroken : List ℕ → Type 0
-Unbroken bytes = list_all no_break bytes ≡ true
-
--- what is printed has no byte 10
-record IsUnbroken {A : Type 0} (f : Format A) : Type 0 where
-  pub holds : (x : A) → f.Fits x → Unbroken (f.printed x)
-
-join : (xs ys : List ℕ) → Unbroken xs → Unbroken ys → Unbroken (xs ++ ys)
-join xs ys one two = list_all-append no_break xs ys ∙ and_from (list_all no_break xs) (list_all no_break ys) one two
-
-left : (xs ys : List ℕ) → Unbroken (xs ++ ys) → Unbroken xs
-left xs ys all = (and_parts (list_all no_break xs) (list_all no_break ys) (sym (list_all-append no_break xs ys) ∙ all)).0
-
-right : (xs ys : List ℕ) → Unbroken (xs ++ ys) → Unbroken ys
-right xs ys all = (and_parts (list_all no_break xs) (list_all no_break ys) (sym (list_all-append no_break xs ys) ∙ all)).1
-
-parted_unbroken : {A B : Type 0} (sign : List ℕ) {f : Format A} {g : Format B} → Unbroken sign → IsUnbroken f → IsUnbroken g → IsUnbroken (parted sign f g)
-parted_unbroken sign {f = f} {g = g} plain one two = record {
-  holds = λ p fits. join (f.printed p.0) (sign ++ g.printed p.1) (one.holds p.0 fits.0) (join sign (g.printed p.1) plain (two.holds p.1 fits.1));
-}
-
-then_unbroken : {A B : Type 0} {f : Format A} {g : Format B} → IsUnbroken f → IsUnbroken g → IsUnbroken (f then g)
-then_unbroken one two = parted_unbroken (32 ∷ []) refl one two
-
-form_unbroken : {A : Type 0} (name : List ℕ) {f : Format A} (x : A) → Unbroken name → IsUnbroken f → f.Fits x → Unbroken (name ++ 32 ∷ f.printed x)
-form_unbroken name {f = f} x plain one fits = join name (32 ∷ f.printed x) plain (one.holds x fits)
-
--- ---- words and numbers
-
-word_byte : (b : ℕ) → in_word b ≡ true → no_break b ≡ true
-word_byte b goes =
-    elim (cases_Bool (b == 10)) [
-      | inl is ↦ let e : in_word 10 ≡ true = subst (λ c. in_word c ≡ true) (eqb-true b 10 is) goes in absurd cc
-      | inr other ↦ ap not other
-    ]
-
-words_unbroken : (w : List ℕ) → list_all in_word w ≡ true → Unbroken w
-words_unbroken [] all = refl
-words_unbroken (b ∷ w) all =
-    let both = and_parts (in_word b) (list_all in_word w) all in
-    and_from (no_break b) (list_all no_break w) (word_byte b both.0) (words_unbroken w both.1)
-
-decimal_unbroken : (n : ℕ) → n < 2 ^ 64 → Unbroken (decimal n)
-decimal_unbroken n lt = words_unbroken (decimal n) (digits_in_word (decimal n) (decimal_is_IsNumeral n lt).0.1)
-
-number32_unbroken : IsUnbroken number32
-number32_unbroken = record { holds = λ n lt. decimal_unbroken n (omega (arith, lt)) }
-
-pid_unbroken : IsUnbroken pid
-pid_unbroken = record { holds = λ n is. decimal_unbroken n (pid_small n is) }
-
--- ---- entries, and the calls, replies and texts in them
-
--- what stands before the byte 10 of a line that is another such line
-front_unbroken : (xs ys : List ℕ) → xs ++ 10 ∷ [] ≡ ys ++ 10 ∷ [] → Unbroken ys → Unbroken xs
-front_unbroken [] ys is all = refl
-front_unbroken (x ∷ []) [] is all = absurd cc
-front_unbroken (x ∷ z ∷ xs) [] is all = absurd cc
-front_unbroken (x ∷ xs) (y ∷ ys) is all =
-    let first : x ≡ y = cc is in
-    let rest : xs ++ 10 ∷ [] ≡ ys ++ 10 ∷ [] = cc is in
-    let both = and_parts (no_break y) (list_all no_break ys) all in
-    and_from (no_break x) (list_all no_break xs) (ap no_break first ∙ both.0) (front_unbroken xs ys rest both.1)
-
-entry_holds : (e : Entry) → entry.Fits e → Unbroken (entry.printed e)
-entry_holds e fits = let line = history.one_line e fits in front_unbroken (entry.printed e) line.front line.parts line.unbroken
-
-entry_unbroken : IsUnbroken entry
-entry_unbroken = record { holds = entry_holds }
-
-first_is : IsPid 1001
-first_is = record { home_from = omega arith; home_to = omega arith; birth_from = omega arith; birth_to = omega arith }
-
--- what an entry of the first process tells
-told_holds : (e : Entry) → e.pid ≡ 1001 → e.number ≡ 1 → (told_shape e.part e.call e.reply).Fits → Unbroken (told_shape e.part e.call e.reply).printed
-told_holds e is one fits =
-    let told = (told_shape e.part e.call e.reply).printed in
-    let all = entry_holds e (subst IsPid (sym is) first_is, (omega (arith, one), fits)) in
-    right (32 ∷ []) told (right (decimal e.number) (32 ∷ told) (right (32 ∷ []) (decimal e.number ++ 32 ∷ told) (right (decimal e.pid) (32 ∷ decimal e.number ++ 32 ∷ told) all)))
-
-call_holds : (c : Call) → call_format.Fits c → Unbroken (call_format.printed c)
-call_holds c fits =
-    let asked = told_holds (record { pid = 1001; number = 1; part = part.Ask; call = Some c; reply = None }) refl refl fits in
-    left (call_format.printed c) (codes " -> -") (right (codes "ask ") (call_format.printed c ++ codes " -> -") asked)
-
-calls_unbroken : IsUnbroken call_format
-calls_unbroken = record { holds = call_holds }
-
-reply_holds : (r : Reply) → reply_format.Fits r → Unbroken (reply_format.printed r)
-reply_holds r fits =
-    let answered = told_holds (record { pid = 1001; number = 1; part = part.Whole; call = Some Tick; reply = Some r }) refl refl (tt, fits) in
-    right (codes "whole tick -> ") (reply_format.printed r) answered
-
-replies_unbroken : IsUnbroken reply_format
-replies_unbroken = record { holds = reply_holds }
-
-text_unbroken : IsUnbroken text
-text_unbroken = record { holds = λ bytes small. right (codes "print ") (text.printed bytes) (call_holds (Print bytes) small) }
 
 -- ---- numbers and names
 

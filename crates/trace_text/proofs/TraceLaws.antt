@@ -8,10 +8,12 @@ use Rattle.std.proofs.lemmas.List.{append-nil, length-append}
 use Rattle.std.proofs.lemmas.List.Concat.{flat_map-append}
 use Rattle.sprite_ids.proofs.ListLaws.{each_push}
 use Rattle.unix_calls.specs.declared.event.Rec.{Rec}
-use Rattle.history_text.specs.Formats.{found, same}
+use Rattle.field_reader.specs.Reads.{found}
+use Rattle.history_text.specs.Formats.{same}
 use Rattle.history_text.specs.Histories.{is_end}
 use Rattle.trace_text.specs.Traces.{record_format, record_line, HasLine, line_of, trace_of, IsTrace, IsFirstBad}
-use Rattle.history_text.proofs.FormatLaws.{some_pair, followed_again}
+use Rattle.field_reader.specs.ReadLaws.{some_pair}
+use Rattle.history_text.proofs.FormatLaws.{followed_again}
 use Rattle.history_text.proofs.EntryLaws.{line_ends}
 use Rattle.trace_text.proofs.EventLaws.{record_is, line_is}
 

@@ -1,5 +1,5 @@
 -- How the fields of a trace's lines are printed, and read again.
-use Rattle.std.specs.Prelude.{codes, ◌≡◌, ℕ, ◌==◌, ◌≤◌, ◌<◌, ◌^◌, nat_le, nat_lt, Bool, true, false, ◌&&◌, if◌then◌else◌, List, [], ◌∷◌, Option, Some, None, Result, Ok, Err}
+use Rattle.std.specs.Prelude.{codes, ◌≡◌, ℕ, ◌==◌, ◌≤◌, ◌<◌, ◌^◌, nat_le, nat_lt, Bool, true, false, ◌&&◌, if◌then◌else◌, List, [], ◌∷◌, Option, Some, None}
 use Rattle.std.specs.List.{find}
 use Rattle.sprite_ids.specs.declared.names.BlockNo.{BlockNo}
 use Rattle.sprite_ids.specs.declared.names.TxNo.{TxNo}
@@ -11,7 +11,7 @@ use Rattle.sprite_ids.specs.declared.caching.CacheMode.{CacheMode}
 use Rattle.sprite_ids.specs.declared.caching.CacheMode.TheVariants as cache
 use Rattle.sprite_ids.specs.declared.caching.CallKind.{CallKind}
 use Rattle.sprite_ids.specs.declared.caching.CallKind.TheVariants as callback
-use Rattle.sprite_paths.specs.Path.{text_of, clean_path, IsPath}
+use Rattle.sprite_paths.specs.Path.{text_of, IsPath}
 use Rattle.link_plan.specs.declared.plan.Fate.{Fate}
 use Rattle.link_plan.specs.declared.plan.Fate.TheVariants as fate
 use Rattle.unix_calls.specs.declared.event.About.{About}
@@ -19,11 +19,11 @@ use Rattle.unix_calls.specs.declared.event.DropCause.{DropCause}
 use Rattle.unix_calls.specs.declared.event.DropCause.TheVariants as cause
 use Rattle.unix_calls.specs.declared.event.SendKind.{SendKind}
 use Rattle.unix_calls.specs.declared.event.SendKind.TheVariants as kind
-use Rattle.history_text.specs.declared.field_end.FieldEnd.{FieldEnd}
-use Rattle.history_text.specs.declared.field_end.FieldEnd.TheVariants.{NotPrinted, NoMemory}
-use Rattle.history_text.specs.Formats.{Reads, found, Format, made, parted, ◌then◌, made_of, chosen_by, within, word, same, Shape, bare, form, Row, bare_row, row, named}
+use Rattle.field_reader.specs.Reads.{Reads, found, made}
+use Rattle.history_text.specs.Formats.{Format, parted, ◌then◌, made_of, chosen_by, within, word, same, Shape, bare, form, Row, bare_row, row, named}
 use Rattle.history_text.specs.Numbers.{number64, number32, number8, pid}
 use Rattle.history_text.specs.Texts.{text}
+use Rattle.field_reader.specs.Paths.{path_of}
 
 -- ---- numbers
 
@@ -55,25 +55,6 @@ file = made_of numbered (λ p. record { server = p.0; number = p.1 }) (λ f. (f.
 
 abbrev pub stream : Format StreamNo
 stream = made_of numbered (λ p. record { kernel = p.0; number = p.1 }) (λ s. (s.kernel, s.number))
-
--- the path, where the bytes are its cleaned text
-abbrev pub as_cleaned : List ℕ → Option (List (List ℕ)) → Option (List (List ℕ))
-as_cleaned bytes None = None
-as_cleaned bytes (Some parts) = if same (text_of parts) bytes then Some parts else None
-
--- the path of which these are the cleaned text
-abbrev pub path_of : List ℕ → Option (List (List ℕ))
-path_of bytes = as_cleaned bytes (clean_path [] bytes)
-
--- why none was chosen
-abbrev pub Lacks : {A : Type 0} → FieldEnd → Option A → Type 0
-Lacks NotPrinted choice = choice ≡ None
-Lacks NoMemory choice = Unit {0}
-
--- the value that was chosen; or none, unless memory ran out
-abbrev pub Gives : {A : Type 0} → Option A → Result A FieldEnd → Type 0
-Gives choice (Ok x) = choice ≡ Some x
-Gives choice (Err end) = Lacks end choice
 
 -- a prefix is its text, in quotes as a text of a history
 abbrev pub prefix_format : Format (List (List ℕ))

@@ -1,9 +1,10 @@
 ghost use Rattle.std.specs.Prelude.{◌≡◌, ◌++◌, OnOk};
-ghost use Rattle.history_text.specs.Formats.{Takes, row_read};
+ghost use Rattle.field_reader.specs.Reads.{Takes};
+ghost use Rattle.history_text.specs.Formats.{row_read};
 ghost use Rattle.trace_text.specs.Events.{cache_rows, event_format, event_shape, packet_rows, stream_rows};
 
 use crate::field::{put_four, put_one, put_three, put_two, spaced};
-use history_text::{FieldEnd, Reader};
+use field_reader::{FieldEnd, Reader};
 use link_plan::Fate;
 use process_machine::{Call, Reply};
 use sprite_ids::{
@@ -77,7 +78,7 @@ pub(crate) fn put_event(alloc: Global, out: &mut Vec<u8>, event: &Event) -> Resu
     }
 }
 
-/// Reads the event that is printed at the front. NotPrinted comes exactly where none is printed there; some bytes may be read
+/// Reads the event that is printed at the front. NotSpelled comes exactly where none is printed there; some bytes may be read
 /// then.
 pub(crate) fn read_event(alloc: Global, from: &mut Reader) -> Result<Event, FieldEnd>
     ensures { Takes (event_format.read from.old) result from.new }
@@ -219,6 +220,6 @@ fn read_stream_event(alloc: Global, name: &[u8], from: &mut Reader) -> Result<Ev
             pid: spaced::<Pid>(alloc, from)?,
         })
     } else {
-        Err(FieldEnd::NotPrinted)
+        Err(FieldEnd::NotSpelled)
     }
 }

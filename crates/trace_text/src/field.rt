@@ -1,7 +1,8 @@
 ghost use Rattle.std.specs.Prelude.{◌≡◌, ◌∷◌, ◌++◌, [], OnOk};
-ghost use Rattle.history_text.specs.Formats.{Format, ◌then◌, Takes, behind_sign, form};
+ghost use Rattle.field_reader.specs.Reads.{Takes};
+ghost use Rattle.history_text.specs.Formats.{Format, ◌then◌, behind_sign, form};
 
-use history_text::{FieldEnd, Reader};
+use field_reader::{FieldEnd, Reader};
 use sprite_ids::NoMemory;
 use std::alloc::Global;
 
@@ -14,7 +15,7 @@ pub(crate) trait TraceField: Sized {
     fn put_field(&self, alloc: Global, out: &mut Vec<u8>) -> Result<(), NoMemory>
         ensures { OnOk result (out.new.items ≡ out.old.items ++ format.printed self.now) };
 
-    /// The value that is printed at the front of the bytes that are left, which is read then. NotPrinted comes exactly
+    /// The value that is printed at the front of the bytes that are left, which is read then. NotSpelled comes exactly
     /// where no value is printed there; some bytes may be read then.
     fn read_field(alloc: Global, from: &mut Reader) -> Result<Self, FieldEnd>
         ensures { Takes (format.read from.old) result from.new };

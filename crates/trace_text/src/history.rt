@@ -1,17 +1,14 @@
 ghost use Rattle.std.specs.Prelude.{◌≡◌, IfOk};
-ghost use Rattle.history_text.specs.Formats.{Takes, followed};
 ghost use Rattle.history_text.specs.Calls.{call_format, reply_format};
-ghost use Rattle.history_text.specs.Entries.{answered, entry, told, told_shape};
+ghost use Rattle.history_text.specs.Entries.{entry, told_shape};
 
 use crate::field::TraceField;
-use history_text::{Field, FieldEnd, Reader, put_told};
+use field_reader::{FieldEnd, Reader};
+use history_text::{Field, put_told, read_entry};
 use process_machine::{Call, Reply};
-use sprite_ids::{NoMemory, Pid};
+use sprite_ids::NoMemory;
 use std::alloc::Global;
-use unix_calls::{Entry, Part};
-
-/// What an entry tells beside its process and its number.
-type Told = (Part, (Option<Call>, Option<Reply>));
+use unix_calls::Entry;
 
 impl TraceField for Call {
     ghost format = { call_format };
@@ -50,18 +47,7 @@ impl TraceField for Entry {
     }
 
     fn read_field(alloc: Global, from: &mut Reader) -> Result<Entry, FieldEnd> {
-        let pid = Pid::read_from(alloc, from)?;
-        from.sign(b" ")?;
-        let number = u32::read_from(alloc, from)?;
-        from.sign(b" ")?;
-        let (part, (call, reply)) = read_told(alloc, from)?;
-        Ok(Entry {
-            pid,
-            number,
-            part,
-            call,
-            reply,
-        })
+        read_entry(alloc, from)
     }
 }
 
@@ -73,49 +59,7 @@ fn told(alloc: Global, entry: &Entry) -> Result<Vec<u8>, NoMemory>
     let mut told = Vec::new(alloc);
     match put_told(alloc, &mut told, entry.part, &entry.call, &entry.reply) {
         Ok(()) => Ok(told),
-        Err(FieldEnd::NotPrinted) => Ok(Vec::new(alloc)),
+        Err(FieldEnd::NotSpelled) => Ok(Vec::new(alloc)),
         Err(FieldEnd::NoMemory) => Err(NoMemory),
     }
-}
-
-// Reads what an entry tells beside its process and its number.
-fn read_told(alloc: Global, from: &mut Reader) -> Result<Told, FieldEnd>
-    ensures { Takes (told.read from.old) result from.new }
-{
-    let name = from.word();
-    if name == b"whole".as_slice() {
-        from.sign(b" ")?;
-        let (call, reply) = read_answered(alloc, from)?;
-        Ok((Part::Whole, (Some(call), Some(reply))))
-    } else if name == b"ask".as_slice() {
-        from.sign(b" ")?;
-        let call = read_call_before(alloc, from, b" -> -")?;
-        Ok((Part::Ask, (Some(call), None)))
-    } else if name == b"done".as_slice() {
-        from.sign(b" ")?;
-        let (call, reply) = read_answered(alloc, from)?;
-        Ok((Part::Done, (Some(call), Some(reply))))
-    } else if name == b"death".as_slice() {
-        Ok((Part::Death, (None, None)))
-    } else {
-        Err(FieldEnd::NotPrinted)
-    }
-}
-
-// Reads a call and its reply.
-fn read_answered(alloc: Global, from: &mut Reader) -> Result<(Call, Reply), FieldEnd>
-    ensures { Takes (answered.read from.old) result from.new }
-{
-    let call = read_call_before(alloc, from, b" -> ")?;
-    let reply = Reply::read_from(alloc, from)?;
-    Ok((call, reply))
-}
-
-// Reads a call and the sign that stands behind it.
-fn read_call_before(alloc: Global, from: &mut Reader, sign: &[u8]) -> Result<Call, FieldEnd>
-    ensures { Takes ((followed call_format sign.now).read from.old) result from.new }
-{
-    let call = Call::read_from(alloc, from)?;
-    from.sign(sign)?;
-    Ok(call)
 }

@@ -1,12 +1,12 @@
-ghost use Rattle.std.specs.Prelude.{◌≡◌, ◌++◌, [], OnOk};
-ghost use Rattle.sprite_paths.specs.Path.{clean_path};
-ghost use Rattle.history_text.specs.Formats.{Takes};
-ghost use Rattle.trace_text.specs.Fields.{Gives, file, numbered, path_of, prefix_format, stream};
+ghost use Rattle.std.specs.Prelude.{◌≡◌, ◌++◌, OnOk};
+ghost use Rattle.field_reader.specs.Reads.{Takes};
+ghost use Rattle.trace_text.specs.Fields.{file, numbered, prefix_format, stream};
 
 use crate::field::TraceField;
-use history_text::{Field, FieldEnd, Reader};
+use field_reader::{FieldEnd, Reader, path_of};
+use history_text::Field;
 use sprite_ids::{Bytes, FileId, Kernel, NoMemory, StreamNo};
-use sprite_paths::{Path, PathEnd};
+use sprite_paths::Path;
 use std::alloc::Global;
 
 // Puts what a kernel numbers at the end.
@@ -70,28 +70,5 @@ impl TraceField for Path {
     fn read_field(alloc: Global, from: &mut Reader) -> Result<Path, FieldEnd> {
         let text = Bytes::read_from(alloc, from)?;
         path_of(alloc, text.as_slice())
-    }
-}
-
-// The path of which that is the cleaned text.
-fn path_of(alloc: Global, text: &[u8]) -> Result<Path, FieldEnd>
-    ensures { Gives (path_of text.now) result }
-{
-    let path = cleaned(alloc, text)?;
-    if path.text(alloc)?.as_slice() == text {
-        Ok(path)
-    } else {
-        Err(FieldEnd::NotPrinted)
-    }
-}
-
-// The path that the text leads to from the root.
-fn cleaned(alloc: Global, text: &[u8]) -> Result<Path, FieldEnd>
-    ensures { Gives (clean_path [] text.now) result }
-{
-    match Path::clean(alloc, &Path::root(alloc), text) {
-        Ok(path) => Ok(path),
-        Err(PathEnd::BadName) => Err(FieldEnd::NotPrinted),
-        Err(PathEnd::NoMemory) => Err(FieldEnd::NoMemory),
     }
 }

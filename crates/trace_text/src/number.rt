@@ -2,7 +2,8 @@ ghost use Rattle.history_text.specs.Numbers.{number32, pid};
 ghost use Rattle.trace_text.specs.Fields.{block, kernel, transaction};
 
 use crate::field::TraceField;
-use history_text::{Field, FieldEnd, Reader};
+use field_reader::{FieldEnd, Reader};
+use history_text::Field;
 use sprite_ids::{BlockNo, Kernel, NoMemory, Pid, TxNo};
 use std::alloc::Global;
 
@@ -39,7 +40,7 @@ impl TraceField for Kernel {
 
     fn read_field(alloc: Global, from: &mut Reader) -> Result<Kernel, FieldEnd> {
         let number = u8::read_from(alloc, from)?;
-        Kernel::new(number).ok_or(FieldEnd::NotPrinted)
+        Kernel::new(number).ok_or(FieldEnd::NotSpelled)
     }
 }
 
@@ -52,7 +53,7 @@ impl TraceField for BlockNo {
 
     fn read_field(alloc: Global, from: &mut Reader) -> Result<BlockNo, FieldEnd> {
         let number = u64::read_from(alloc, from)?;
-        let number = u16::try_from(number).ok().ok_or(FieldEnd::NotPrinted)?;
+        let number = u16::try_from(number).ok().ok_or(FieldEnd::NotSpelled)?;
         Ok(BlockNo(number))
     }
 }

@@ -1,7 +1,7 @@
 ghost use Rattle.trace_text.specs.Fields.{about, about_if_any, kind_format};
 
 use crate::field::{TraceField, put_one, put_two, spaced};
-use history_text::{FieldEnd, Reader};
+use field_reader::{FieldEnd, Reader};
 use sprite_ids::{BlockNo, FileId, NoMemory, Pid};
 use sprite_paths::Path;
 use std::alloc::Global;
@@ -77,7 +77,7 @@ impl TraceField for SendKind {
         } else if name == b"other".as_slice() {
             Ok(SendKind::Other)
         } else {
-            Err(FieldEnd::NotPrinted)
+            Err(FieldEnd::NotSpelled)
         }
     }
 }

@@ -1,5 +1,5 @@
 ghost use Rattle.std.specs.Prelude.{◌≡◌, ◌++◌, IfOk, IfErr, OnOk};
-ghost use Rattle.history_text.specs.Formats.{Takes};
+ghost use Rattle.field_reader.specs.Reads.{Takes};
 ghost use Rattle.history_text.specs.Histories.{is_end};
 ghost use Rattle.trace_text.specs.Traces.{IsTrace, TellsBad, line_of, record_line, trace_of};
 
@@ -7,7 +7,7 @@ use crate::event::{put_event, read_event};
 use crate::field::TraceField;
 use crate::trace_error::TraceError;
 use call_journal::Trace;
-use history_text::{FieldEnd, Reader};
+use field_reader::{FieldEnd, Reader};
 use sprite_ids::{Kernel, NoMemory};
 use std::alloc::Global;
 use unix_calls::Rec;
@@ -47,7 +47,7 @@ pub fn read_trace(alloc: Global, text: &[u8]) -> Result<Trace, TraceError>
     while !is_end(from.rest()) {
         match read_line(alloc, &mut from) {
             Ok(rec) => trace.push(rec)?,
-            Err(FieldEnd::NotPrinted) => return Err(TraceError::Line(trace.records().len() + 1)),
+            Err(FieldEnd::NotSpelled) => return Err(TraceError::Line(trace.records().len() + 1)),
             Err(FieldEnd::NoMemory) => return Err(TraceError::NoMemory),
         }
     }

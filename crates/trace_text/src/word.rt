@@ -2,7 +2,7 @@ ghost use Rattle.std.specs.Prelude.{◌≡◌};
 ghost use Rattle.trace_text.specs.Fields.{of_word, truth_word, truths, truth, fate_word, fates, is_fault, fate_format, cache_word, cache_modes, cache_format, mode_word, modes, mode_format, callback_word, callbacks, callback_format, cause_word, causes, cause_format};
 
 use crate::field::TraceField;
-use history_text::{FieldEnd, Reader};
+use field_reader::{FieldEnd, Reader};
 use link_plan::Fate;
 use sprite_ids::{CacheMode, CallKind, Mode, NoMemory};
 use std::alloc::Global;
@@ -17,7 +17,7 @@ impl TraceField for bool {
     }
 
     fn read_field(_alloc: Global, from: &mut Reader) -> Result<bool, FieldEnd> {
-        truth_of(from.word()).ok_or(FieldEnd::NotPrinted)
+        truth_of(from.word()).ok_or(FieldEnd::NotSpelled)
     }
 }
 
@@ -48,11 +48,11 @@ impl TraceField for Fate {
     }
 
     fn read_field(_alloc: Global, from: &mut Reader) -> Result<Fate, FieldEnd> {
-        let fate = fate_of(from.word()).ok_or(FieldEnd::NotPrinted)?;
+        let fate = fate_of(from.word()).ok_or(FieldEnd::NotSpelled)?;
         if is_fault(fate) {
             Ok(fate)
         } else {
-            Err(FieldEnd::NotPrinted)
+            Err(FieldEnd::NotSpelled)
         }
     }
 }
@@ -96,7 +96,7 @@ impl TraceField for CacheMode {
     }
 
     fn read_field(_alloc: Global, from: &mut Reader) -> Result<CacheMode, FieldEnd> {
-        cache_mode_of(from.word()).ok_or(FieldEnd::NotPrinted)
+        cache_mode_of(from.word()).ok_or(FieldEnd::NotSpelled)
     }
 }
 
@@ -127,7 +127,7 @@ impl TraceField for Mode {
     }
 
     fn read_field(_alloc: Global, from: &mut Reader) -> Result<Mode, FieldEnd> {
-        mode_of(from.word()).ok_or(FieldEnd::NotPrinted)
+        mode_of(from.word()).ok_or(FieldEnd::NotSpelled)
     }
 }
 
@@ -157,7 +157,7 @@ impl TraceField for CallKind {
     }
 
     fn read_field(_alloc: Global, from: &mut Reader) -> Result<CallKind, FieldEnd> {
-        callback_of(from.word()).ok_or(FieldEnd::NotPrinted)
+        callback_of(from.word()).ok_or(FieldEnd::NotSpelled)
     }
 }
 
@@ -186,7 +186,7 @@ impl TraceField for DropCause {
     }
 
     fn read_field(_alloc: Global, from: &mut Reader) -> Result<DropCause, FieldEnd> {
-        cause_of(from.word()).ok_or(FieldEnd::NotPrinted)
+        cause_of(from.word()).ok_or(FieldEnd::NotSpelled)
     }
 }
 

@@ -1,7 +1,6 @@
 ghost use Rattle.std.specs.Prelude.{◌≡◌, ◌<◌, IfOk, []};
 ghost use Rattle.sprite_paths.specs.Path.{clean_path};
 ghost use Rattle.unix_calls.specs.Lawful.{Lawful};
-ghost use Rattle.unix_calls.specs.Domains.{begins_domain, roots_of};
 ghost use Rattle.unix_calls.specs.NameCalls.{at_path, chdir, chdir_refusal, list, mkdir, new_refusal, rename, rename_refusal, rmdir, rmdir_refusal, stat, unlink, unlink_refusal};
 ghost use Rattle.unix_run.specs.Names.{lists, place_refusal};
 ghost use Rattle.unix_world.specs.Worlds.{bare, unix_of};
@@ -14,7 +13,7 @@ use sprite_ids::{Errno, NoMemory};
 use sprite_paths::{Path, PathEnd};
 use std::alloc::Global;
 use unix_calls::{Description, Node, Process};
-use unix_world::{NameTree, World, above};
+use unix_world::{NameTree, World, above, begins_domain};
 
 /// The path of a text, from the process's cwd; none where the text is no path.
 pub(crate) fn path_of(alloc: Global, p: &Process, text: &[u8]) -> Result<Option<Path>, NoMemory>
@@ -146,30 +145,6 @@ fn directory_refusal(world: &World, path: &Path) -> Option<Errno>
         Some(Node::Directory) => None,
         Some(_) => Some(Errno::NotDir),
     }
-}
-
-// Whether a domain begins at that path.
-fn begins_domain(c: &Description, path: &Path) -> bool
-    ensures { result ≡ begins_domain (roots_of c.now.kernels) path.now }
-{
-    for line in c.kernels.as_slice() {
-        if is_among(line.serves.as_slice(), path) {
-            return true;
-        }
-    }
-    false
-}
-
-// Whether the path is one of these.
-fn is_among(paths: &[Path], path: &Path) -> bool
-    ensures { result ≡ begins_domain paths.now path.now }
-{
-    for other in paths {
-        if path.parts() == other.parts() {
-            return true;
-        }
-    }
-    false
 }
 
 /// `unlink path len`: the name goes; a file's streams keep it. BadName, walk, NoEntry, IsDir.

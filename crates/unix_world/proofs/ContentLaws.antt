@@ -1,35 +1,38 @@
 -- A file's bytes that grow and are then written over are those after a write.
 use Rattle.std.proofs.Common.{◌≡◌, ◌+◌, ◌-◌, ℕ, zero, suc, List, [], ◌∷◌, ◌++◌, length, take, drop, replicate, refl, sym, ap, ap₂, ◌∙◌, arith}
 use Rattle.std.proofs.lemmas.List.{append-nil, take-replicate, drop-replicate}
-use Rattle.std.proofs.Math.Seq.{drop-nil}
 use Rattle.unix_calls.specs.StreamCalls.{written}
 use Rattle.unix_world.specs.Contents.{grown, over}
 
+-- the first ones of two lists are those of the one, and then those of the other
+take_both : (n : ℕ) (xs ys : List ℕ) → take n (xs ++ ys) ≡ take n xs ++ take (n - length xs) ys
+take_both zero xs ys = let none : 0 - length xs ≡ 0 = omega arith in ap (λ k. take k ys) (sym none)
+take_both (suc n) [] ys = let all : suc n ≡ suc n - 0 = omega arith in ap (λ k. take k ys) all
+take_both (suc n) (x ∷ xs) ys =
+    let left : n - length xs ≡ suc n - length (x ∷ xs) = omega arith in
+    ap (λ l. x ∷ l) (take_both n xs ys) ∙ ap (λ k. x ∷ take n xs ++ take k ys) left
+
+-- and so are those behind them
+drop_both : (n : ℕ) (xs ys : List ℕ) → drop n (xs ++ ys) ≡ drop n xs ++ drop (n - length xs) ys
+drop_both zero xs ys = let none : 0 - length xs ≡ 0 = omega arith in ap (λ k. xs ++ drop k ys) (sym none)
+drop_both (suc n) [] ys = let all : suc n ≡ suc n - 0 = omega arith in ap (λ k. drop k ys) all
+drop_both (suc n) (x ∷ xs) ys =
+    let left : n - length xs ≡ suc n - length (x ∷ xs) = omega arith in
+    drop_both n xs ys ∙ ap (λ k. drop n xs ++ drop k ys) left
+
 -- the bytes before the place, with zeros where there were none
-before_grown : (old : List ℕ) (from n : ℕ) → take from (old ++ replicate (from + n - length old) 0) ≡ take from old ++ replicate (from - length old) 0
-before_grown [] zero n = refl
-before_grown [] (suc f) n =
-    let all : suc f ≡ suc f - 0 = omega arith in
-    take-replicate (suc f) (suc f + n - 0) 0 (omega arith) ∙ ap (λ k. replicate k 0) all
-before_grown (o ∷ os) zero n =
-    let none : 0 - length (o ∷ os) ≡ 0 = omega arith in
-    ap (λ k. replicate k 0) (sym none)
-before_grown (o ∷ os) (suc f) n =
-    let left : suc f + n - length (o ∷ os) ≡ f + n - length os = omega arith in
-    let hole : suc f - length (o ∷ os) ≡ f - length os = omega arith in
-    ap (λ k. take (suc f) (o ∷ os ++ replicate k 0)) left ∙ (ap (λ l. o ∷ l) (before_grown os f n) ∙ ap (λ k. o ∷ take f os ++ replicate k 0) (sym hole))
+before_grown : (old : List ℕ) (from n : ℕ) → take from (grown old (from + n)) ≡ take from old ++ replicate (from - length old) 0
+before_grown old from n =
+    take_both from old (replicate (from + n - length old) 0)
+    ∙ ap (λ l. take from old ++ l) (take-replicate (from - length old) (from + n - length old) 0 (omega arith))
 
 -- the bytes behind it
-behind_grown : (old : List ℕ) (end : ℕ) → drop end (old ++ replicate (end - length old) 0) ≡ drop end old
-behind_grown [] end =
-    let none : end - 0 - end ≡ 0 = omega arith in
-    drop-replicate end (end - 0) 0 ∙ (ap (λ k. replicate k 0) none ∙ sym (drop-nil end))
-behind_grown (o ∷ os) zero =
-    let none : 0 - length (o ∷ os) ≡ 0 = omega arith in
-    ap (λ k. o ∷ os ++ replicate k 0) none ∙ append-nil (o ∷ os)
-behind_grown (o ∷ os) (suc e) =
-    let left : suc e - length (o ∷ os) ≡ e - length os = omega arith in
-    ap (λ k. drop e (os ++ replicate k 0)) left ∙ behind_grown os e
+behind_grown : (old : List ℕ) (end : ℕ) → drop end (grown old end) ≡ drop end old
+behind_grown old end =
+    let none : end - length old - (end - length old) ≡ 0 = omega arith in
+    drop_both end old (replicate (end - length old) 0)
+    ∙ ap (λ l. drop end old ++ l) (drop-replicate (end - length old) (end - length old) 0 ∙ ap (λ k. replicate k 0) none)
+    ∙ append-nil (drop end old)
 
 pub over_grown : (old : List ℕ) (from : ℕ) (new : List ℕ) → (new ≡ [] → ⊥) → over (grown old (from + length new)) from new ≡ written old from new
 over_grown old from [] some = absurd (some refl)

@@ -159,7 +159,7 @@ ranked_as one two a b same (Equal e) = Equal e
 ranked_as one two a b same (Before h) = Before (sym (same a b) ∙ h)
 ranked_as one two a b same (Behind h) = Behind (sym (same b a) ∙ h)
 
-text_order : IsOrder text_before (pointwise nat_eq)
+pub text_order : IsOrder text_before (pointwise nat_eq)
 text_order =
     record {
       ranked = λ a b. ranked_as (rows nat_lt nat_eq number_order) text_before a b text_rows (rows_ranked nat_lt nat_eq number_order a b);

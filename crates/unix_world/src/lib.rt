@@ -4,6 +4,7 @@
 
 mod booting;
 mod devices;
+mod domains;
 mod files;
 mod lookups;
 mod processes;
@@ -14,6 +15,7 @@ mod world;
 
 pub use booting::boot;
 pub use devices::Devices;
+pub use domains::begins_domain;
 pub use files::Files;
 pub use lookups::{free_descriptor, holds_a_master, holds_master_of, stream_of};
 pub use processes::{find, find_number, next_pid, put};

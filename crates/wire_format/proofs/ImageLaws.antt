@@ -7,7 +7,7 @@ use Rattle.std.proofs.lemmas.List.{append-nil}
 use Rattle.std.proofs.lemmas.List.Concat.{flat_map-append, flat_map-cons}
 use Rattle.process_machine.specs.Machine.{Machine, ArePages}
 use Rattle.process_machine.specs.Memory.{page_of}
-use Rattle.wire_format.specs.Codec.{passed}
+use Rattle.field_reader.specs.Reads.{passed}
 use Rattle.wire_format.specs.Objects.{are_pages}
 use Rattle.wire_format.specs.ObjectLaws.{pages_test, pages_told}
 

@@ -1,9 +1,10 @@
 -- Reading items one behind another, as a loop does.
 use Rattle.std.proofs.Common.{◌≡◌, ℕ, suc, ◌-◌, ◌+◌, ◌≤◌, ◌<◌, List, [], ◌∷◌, ◌++◌, Some, None, refl, sym, ap, ◌∙◌, append_assoc, arith}
 use Rattle.std.proofs.lemmas.List.{append-nil}
-use Rattle.wire_format.specs.declared.field_end.FieldEnd.{FieldEnd}
-use Rattle.wire_format.specs.declared.field_end.FieldEnd.TheVariants.{NotSpelled, NoMemory}
-use Rattle.wire_format.specs.Codec.{Reads, Fails, found, beside, then_read, made, items_read}
+use Rattle.field_reader.specs.declared.field_end.FieldEnd.{FieldEnd}
+use Rattle.field_reader.specs.declared.field_end.FieldEnd.TheVariants.{NotSpelled, NoMemory}
+use Rattle.field_reader.specs.Reads.{Reads, Fails, found, beside, then_read, made}
+use Rattle.wire_format.specs.Codec.{items_read}
 
 -- what was read before, and what is still read
 abbrev pub with_front : {A : Type 0} → List A → Reads (List A) → Reads (List A)

@@ -1,17 +1,8 @@
 -- How values are spelled one behind another, and read again.
-use Rattle.std.specs.Prelude.{◌≡◌, ℕ, zero, suc, ◌<◌, ◌^◌, nat_lt, ◌==◌, Bool, if◌then◌else◌, List, [], ◌∷◌, ◌++◌, length, take, drop, slice_index, Option, Some, None, Result, Ok, Err}
+use Rattle.std.specs.Prelude.{◌≡◌, ℕ, zero, suc, ◌<◌, ◌^◌, nat_lt, ◌==◌, Bool, if◌then◌else◌, List, [], ◌∷◌, ◌++◌, length, take, drop, slice_index, Option, Some, None}
 use Rattle.std.specs.List.{find, flat_map, AllByRecursion}
 use Rattle.std.specs.Int.{Width, w16, w32, w64, byte_len, to_le_bytes, from_le_bytes}
-use Rattle.wire_format.specs.declared.field_end.FieldEnd.{FieldEnd}
-use Rattle.wire_format.specs.declared.field_end.FieldEnd.TheVariants.{NotSpelled, NoMemory}
-
--- a value that stands at the front of bytes, and the bytes behind it; None where none stands there
-abbrev pub Reads : Type 0 → Type 0
-Reads A = Option (A × List ℕ)
-
--- that value, and that rest
-abbrev pub found : {A : Type 0} → A → List ℕ → Reads A
-found x rest = Some (x, rest)
+use Rattle.field_reader.specs.Reads.{Reads, then_read, made, chosen, passed}
 
 -- the one way to spell the values of a type: which values have a spelling, that spelling, and the reading
 pub record Codec (A : Type 0) : Type 1 where
@@ -32,31 +23,6 @@ pub record Took {A : Type 0} (codec : Codec A) (bytes : List ℕ) (value : A) (r
 pub record IsCodec {A : Type 0} (codec : Codec A) : Type 0 where
   pub again : (value : A) (rest : List ℕ) → codec.Fits value → codec.read (codec.spelled value ++ rest) ≡ Some (value, rest)
   pub takes : (bytes : List ℕ) (value : A) (rest : List ℕ) → AreBytes bytes → codec.read bytes ≡ Some (value, rest) → Took codec bytes value rest
-
--- the first value beside what is read behind it
-abbrev pub beside : {A B : Type 0} → A → Reads B → Reads (A × B)
-beside x None = None
-beside x (Some (y, rest)) = Some ((x, y), rest)
-
--- one value, and then the other
-abbrev pub then_read : {A B : Type 0} → Reads A → (List ℕ → Reads B) → Reads (A × B)
-then_read None next = None
-then_read (Some (x, rest)) next = beside x (next rest)
-
--- the value that is made of what was read
-abbrev pub made : {A B : Type 0} → (A → B) → Reads A → Reads B
-made f None = None
-made f (Some (x, rest)) = Some (f x, rest)
-
--- the value, where there is one, before the rest
-abbrev pub placed : {A : Type 0} → Option A → List ℕ → Reads A
-placed None rest = None
-placed (Some x) rest = Some (x, rest)
-
--- the value that is chosen by what was read, where one is
-abbrev pub chosen : {A B : Type 0} → (A → Option B) → Reads A → Reads B
-chosen f None = None
-chosen f (Some (x, rest)) = placed (f x) rest
 
 -- a value, and another behind it
 infixr 10 ◌before◌
@@ -111,10 +77,6 @@ abbrev pub number64 : Codec ℕ
 number64 = record { Fits = λ n. n < 2 ^ 64; spelled = number_spelled w64; read = number_read w64 }
 
 -- ---- values that some others give
-
--- the value where it passes the test
-abbrev pub passed : {A : Type 0} → (A → Bool) → A → Option A
-passed test x = if test x then Some x else None
 
 -- the values that pass a test
 abbrev pub within : {A : Type 0} → Codec A → (A → Bool) → (A → Type 0) → Codec A
@@ -211,24 +173,3 @@ text = record {
   spelled = λ bytes. number_spelled w32 (length bytes) ++ bytes;
   read = λ bytes. counted (number_read w32 bytes) bytes_read;
 }
-
--- ---- what a function does that reads from the front
-
--- the end that the reading has
-abbrev pub Fails : {A : Type 0} → FieldEnd → Reads A → Type 0
-Fails NotSpelled reads = reads ≡ None
-Fails NoMemory reads = Unit {0}
-
--- the value that was read, and the bytes that are left; or no value, unless memory ran out
-abbrev pub Takes : {A : Type 0} → Reads A → Result A FieldEnd → List ℕ → Type 0
-Takes reads (Ok x) rest = reads ≡ Some (x, rest)
-Takes reads (Err end) rest = Fails end reads
-
--- the value that is chosen, or none, unless memory ran out
-abbrev pub Lacks : {A : Type 0} → FieldEnd → Option A → Type 0
-Lacks NotSpelled choice = choice ≡ None
-Lacks NoMemory choice = Unit {0}
-
-abbrev pub Gives : {A : Type 0} → Option A → Result A FieldEnd → Type 0
-Gives choice (Ok x) = choice ≡ Some x
-Gives choice (Err end) = Lacks end choice

@@ -5,8 +5,10 @@ use Rattle.std.specs.Int.{w32}
 use Rattle.std.proofs.lemmas.Bool.{ltb-false, le-ltb}
 use Rattle.std.proofs.lemmas.List.{take_at, drop_at, take-append-drop, length-append, length-take}
 use Rattle.std.proofs.lemmas.List.Concat.{flat_map-cons}
-use Rattle.wire_format.specs.Codec.{Codec, AreBytes, Took, IsCodec, found, beside, then_read, made, counted, items_read, bytes_read, number_spelled, number_read, number32, listed, repeated, text}
-use Rattle.wire_format.specs.CodecLaws.{counted_found, bytes_left, some_pair, made_found, then_found}
+use Rattle.field_reader.specs.Reads.{found, beside, then_read, made}
+use Rattle.wire_format.specs.Codec.{Codec, AreBytes, Took, IsCodec, counted, items_read, bytes_read, number_spelled, number_read, number32, listed, repeated, text}
+use Rattle.field_reader.specs.ReadLaws.{some_pair, made_found, then_found}
+use Rattle.wire_format.specs.CodecLaws.{counted_found, bytes_left}
 use Rattle.wire_format.specs.NumberLaws.{number32_is, guard_passed}
 
 -- ---- items

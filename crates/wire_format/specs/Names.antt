@@ -1,12 +1,12 @@
 -- How numbers in ranges, names and choices of a few are spelled.
-use Rattle.std.specs.Prelude.{ℕ, ◌≤◌, ◌<◌, nat_le, nat_lt, Bool, true, false, ◌&&◌, List, [], ◌∷◌}
-use Rattle.sprite_ids.specs.Pid.{IsPid, home_of, birth_of}
+use Rattle.std.specs.Prelude.{ℕ, ◌≤◌, ◌<◌, nat_le, nat_lt, Bool, true, false, ◌&&◌, [], ◌∷◌}
+use Rattle.sprite_ids.specs.Pid.{IsPid}
 use Rattle.sprite_ids.specs.Errno.{errno_number}
 use Rattle.sprite_ids.specs.declared.errno.Errno.{Errno}
-use Rattle.sprite_ids.specs.declared.errno.Errno.TheVariants.{NoEntry, Exists, NotDir, IsDir, NotEmpty, BadFd, BadMode, TooBig, TooMany, Invalid, XDev, Busy, NoChild, NoProcess, Interrupted, NoServer, Unreachable, BadHost, BadName, BadAddress}
 use Rattle.sprite_ids.specs.declared.FileId.{FileId}
 use Rattle.sprite_ids.specs.declared.DeviceId.{DeviceId}
 use Rattle.sprite_ids.specs.declared.StreamNo.{StreamNo}
+use Rattle.field_reader.specs.Names.{is_pid, errnos}
 use Rattle.wire_format.specs.Codec.{Codec, byte, number32, ◌before◌, made_of, within, numbered}
 
 -- ---- numbers in ranges
@@ -20,10 +20,6 @@ is_kernel n = nat_le 1 n && nat_le n 16
 
 abbrev pub kernel : Codec ℕ
 kernel = within byte is_kernel IsKernel
-
--- the number of a process
-abbrev pub is_pid : ℕ → Bool
-is_pid n = nat_le 1 (home_of n) && nat_le (home_of n) 16 && nat_le 1 (birth_of n) && nat_le (birth_of n) 200
 
 abbrev pub pid : Codec ℕ
 pid = within number32 is_pid IsPid
@@ -54,9 +50,6 @@ truth_number true = 1
 
 abbrev pub truth : Codec Bool
 truth = numbered truth_number (false ∷ true ∷ [])
-
-abbrev pub errnos : List Errno
-errnos = NoEntry ∷ Exists ∷ NotDir ∷ IsDir ∷ NotEmpty ∷ BadFd ∷ BadMode ∷ TooBig ∷ TooMany ∷ Invalid ∷ XDev ∷ Busy ∷ NoChild ∷ NoProcess ∷ Interrupted ∷ NoServer ∷ Unreachable ∷ BadHost ∷ BadName ∷ BadAddress ∷ []
 
 abbrev pub errno : Codec Errno
 errno = numbered errno_number errnos

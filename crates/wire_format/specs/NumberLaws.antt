@@ -4,8 +4,9 @@ use Rattle.std.specs.Int.{Width, w16, w32, w64, byte_len, to_le_bytes, from_le_b
 use Rattle.std.proofs.lemmas.Bool.{cases_lt, ltb-false, le-ltb}
 use Rattle.std.proofs.lemmas.List.{take_at, drop_at, take-append-drop, length-append, length-take, get_or-take, get_or_past}
 use Rattle.std.proofs.lemmas.Nat.{le_bytes_2, le_bytes_4, le_bytes_8, from_le_bytes-to_le_bytes_2, from_le_bytes-to_le_bytes_4, from_le_bytes-to_le_bytes_8}
-use Rattle.wire_format.specs.Codec.{Codec, AreBytes, Took, IsCodec, found}
-use Rattle.wire_format.specs.CodecLaws.{some_pair}
+use Rattle.field_reader.specs.Reads.{found}
+use Rattle.wire_format.specs.Codec.{Codec, AreBytes, Took, IsCodec}
+use Rattle.field_reader.specs.ReadLaws.{some_pair}
 use Rattle.wire_format.specs.Codec.{byte, number_spelled, number_read, number16, number32, number64}
 
 byte_takes : (bytes : List ℕ) (n : ℕ) (rest : List ℕ) → AreBytes bytes → byte.read bytes ≡ Some (n, rest) → Took byte bytes n rest

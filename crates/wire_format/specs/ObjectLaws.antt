@@ -1,25 +1,24 @@
 -- Paths, images, grants, streams and calls are read as they were spelled.
-use Rattle.std.proofs.Common.{◌≡◌, ℕ, true, nat_eq, nat_le, ◌&&◌, List, [], ◌∷◌, ◌++◌, length, Option, Some, None, refl, sym, ap, ◌∙◌, arith}
+use Rattle.std.proofs.Common.{◌≡◌, ℕ, true, nat_le, ◌&&◌, List, [], ◌∷◌, ◌++◌, length, Option, Some, None, refl, ap, arith}
 use Rattle.std.specs.List.{AllByRecursion, list_all}
-use Rattle.std.specs.Cmp.Lexicographic.{pointwise, bytes_decides, same_text}
-use Rattle.std.proofs.lemmas.Bool.{cond-true, and_parts, and_from, le-leb, leb-true, eqb-true, eq-eqb}
+use Rattle.std.proofs.lemmas.Bool.{and_parts, and_from, le-leb, leb-true, eqb-true, eq-eqb}
 use Rattle.std.proofs.lemmas.List.Elements.{All-from_recursion, recursion_from_All}
 use Rattle.sprite_ids.proofs.ListLaws.{each_weaken}
-use Rattle.sprite_paths.specs.Path.{text_of, clean_path, IsPath}
-use Rattle.sprite_paths.proofs.PathLaws.{clean_again, cleaned_path}
 use Rattle.process_machine.specs.Machine.{IsPage, ArePages}
 use Rattle.packet_bodies.specs.declared.Target.{Target}
 use Rattle.packet_bodies.specs.declared.HomeCall.{HomeCall}
 use Rattle.packet_bodies.specs.declared.Target.TheVariants.{File, Device}
 use Rattle.packet_bodies.specs.declared.HomeCall.TheVariants.{Print, Exit, Getppid, Host, Tick, Fork, Wait, Kill}
-use Rattle.wire_format.specs.Codec.{IsCodec, found, made, text, optional, row}
-use Rattle.wire_format.specs.CodecLaws.{before_is, made_of_is, chosen_by_is, passed_is, within_is, nothing_is, IsRow, row_is, tagged_is, optional_is}
+use Rattle.field_reader.specs.Reads.{found, made}
+use Rattle.field_reader.specs.PathLaws.{path_back, path_forth}
+use Rattle.wire_format.specs.Codec.{IsCodec, text, optional, row}
+use Rattle.wire_format.specs.CodecLaws.{before_is, made_of_is, chosen_by_is, within_is, nothing_is, IsRow, row_is, tagged_is, optional_is}
 use Rattle.wire_format.specs.NumberLaws.{byte_is, number16_is, number32_is, number64_is}
 use Rattle.wire_format.specs.ListLaws.{listed_is, repeated_is, text_is}
 use Rattle.wire_format.specs.Names.{file, device}
 use Rattle.wire_format.specs.NameLaws.{pid_is, file_is, device_is, stream_is, truth_is}
 use Rattle.wire_format.specs.ChoiceLaws.{carried_mode_is, caching_is}
-use Rattle.wire_format.specs.Objects.{block, transaction, as_cleaned, path_of, path, is_page, are_pages, machine_parts, image, grant, flushed, target_shape, target, carried_stream, home_call_shape, home_call_rows, home_call}
+use Rattle.wire_format.specs.Objects.{block, transaction, path, is_page, are_pages, machine_parts, image, grant, flushed, target_shape, target, carried_stream, home_call_shape, home_call_rows, home_call}
 
 -- ---- names
 
@@ -30,25 +29,6 @@ pub transaction_is : IsCodec transaction
 transaction_is = made_of_is number32_is (λ n. record { 0 = n }) (λ tx. tx.0) (λ tx. refl) (λ n. refl)
 
 -- ---- paths
-
-root_is : IsPath []
-root_is = record { names = tt; short_parts = tt; few_parts = omega arith; short_text = omega arith }
-
-cleaned_forth : (bytes : List ℕ) (o : Option (List (List ℕ))) (path : List (List ℕ)) → as_cleaned bytes o ≡ Some path → (o ≡ Some path) × (bytes ≡ text_of path)
-cleaned_forth bytes None path e = absurd cc
-cleaned_forth bytes (Some parts) path e =
-    let is = passed_is (pointwise nat_eq (text_of parts) bytes) parts path e in
-    (ap Some is.1, sym (same_text (text_of parts) bytes (sym is.0)) ∙ ap text_of is.1)
-
-path_back : (path : List (List ℕ)) → IsPath path → path_of (text_of path) ≡ Some path
-path_back path is =
-    ap (as_cleaned (text_of path)) (clean_again [] path is)
-    ∙ cond-true (pointwise nat_eq (text_of path) (text_of path)) (Some path) None ((bytes_decides (text_of path) (text_of path)).1 refl)
-
-path_forth : (bytes : List ℕ) (path : List (List ℕ)) → path_of bytes ≡ Some path → (bytes ≡ text_of path) × IsPath path
-path_forth bytes path e =
-    let is = cleaned_forth bytes (clean_path [] bytes) path e in
-    (is.1, cleaned_path [] bytes path root_is is.0)
 
 pub path_is : IsCodec path
 path_is = chosen_by_is text_is (record {

@@ -1,8 +1,7 @@
 -- How paths, images, grants, streams and calls are spelled.
-use Rattle.std.specs.Prelude.{◌≡◌, ℕ, ◌<◌, ◌^◌, ◌==◌, nat_eq, nat_le, Bool, true, ◌&&◌, if◌then◌else◌, List, [], ◌∷◌, length, Option, Some, None}
+use Rattle.std.specs.Prelude.{◌≡◌, ℕ, ◌<◌, ◌^◌, ◌==◌, nat_le, Bool, true, ◌&&◌, List, [], ◌∷◌, length, Option, Some, None}
 use Rattle.std.specs.List.{AllByRecursion, list_all}
-use Rattle.std.specs.Cmp.Lexicographic.{pointwise}
-use Rattle.sprite_paths.specs.Path.{text_of, clean_path, IsPath}
+use Rattle.sprite_paths.specs.Path.{text_of, IsPath}
 use Rattle.process_machine.specs.Machine.{Machine, ArePages}
 use Rattle.sprite_ids.specs.declared.BlockNo.{BlockNo}
 use Rattle.sprite_ids.specs.declared.TxNo.{TxNo}
@@ -13,6 +12,7 @@ use Rattle.packet_bodies.specs.declared.CarriedStream.{CarriedStream}
 use Rattle.packet_bodies.specs.declared.HomeCall.{HomeCall}
 use Rattle.packet_bodies.specs.declared.Target.TheVariants.{File, Device}
 use Rattle.packet_bodies.specs.declared.HomeCall.TheVariants.{Print, Exit, Getppid, Host, Tick, Fork, Wait, Kill}
+use Rattle.field_reader.specs.Paths.{path_of}
 use Rattle.wire_format.specs.Codec.{Codec, byte, number16, number32, number64, text, optional, listed, repeated, nothing, Shape, form, Row, row, tagged, ◌before◌, made_of, chosen_by, within}
 use Rattle.wire_format.specs.Names.{pid, file, device, stream, truth}
 use Rattle.wire_format.specs.Choices.{carried_mode, caching}
@@ -26,15 +26,6 @@ abbrev pub transaction : Codec TxNo
 transaction = made_of number32 (λ n. record { 0 = n }) (λ tx. tx.0)
 
 -- ---- paths
-
--- the path, where the bytes are its cleaned text
-abbrev pub as_cleaned : List ℕ → Option (List (List ℕ)) → Option (List (List ℕ))
-as_cleaned bytes None = None
-as_cleaned bytes (Some parts) = if pointwise nat_eq (text_of parts) bytes then Some parts else None
-
--- the path of which these are the cleaned text
-abbrev pub path_of : List ℕ → Option (List (List ℕ))
-path_of bytes = as_cleaned bytes (clean_path [] bytes)
 
 abbrev pub path : Codec (List (List ℕ))
 path = chosen_by text path_of text_of IsPath

@@ -6,9 +6,11 @@ use Rattle.std.proofs.lemmas.Bool.{eqb-true}
 use Rattle.sprite_ids.specs.declared.TxNo.{TxNo}
 use Rattle.packet_bodies.specs.declared.Body.{Body}
 use Rattle.packet_bodies.specs.declared.Body.TheVariants.{Request, Reply}
+use Rattle.field_reader.specs.ReadLaws.{passed_is}
 use Rattle.wire_format.specs.declared.packet.Packet.{Packet}
-use Rattle.wire_format.specs.Codec.{Reads, IsCodec, AreBytes, found, made}
-use Rattle.wire_format.specs.CodecLaws.{before_is, IsRow, row_is, tagged_is, passed_is}
+use Rattle.field_reader.specs.Reads.{Reads, found, made}
+use Rattle.wire_format.specs.Codec.{IsCodec, AreBytes}
+use Rattle.wire_format.specs.CodecLaws.{before_is, IsRow, row_is, tagged_is}
 use Rattle.wire_format.specs.NameLaws.{kernel_is}
 use Rattle.wire_format.specs.ObjectLaws.{transaction_is}
 use Rattle.wire_format.specs.RequestLaws.{request_is}

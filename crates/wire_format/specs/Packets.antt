@@ -4,7 +4,8 @@ use Rattle.sprite_ids.specs.declared.TxNo.{TxNo}
 use Rattle.packet_bodies.specs.declared.Body.{Body}
 use Rattle.packet_bodies.specs.declared.Body.TheVariants.{Request, Reply}
 use Rattle.wire_format.specs.declared.packet.Packet.{Packet}
-use Rattle.wire_format.specs.Codec.{Reads, Codec, Shape, form, Row, row, tagged, ◌before◌}
+use Rattle.field_reader.specs.Reads.{Reads}
+use Rattle.wire_format.specs.Codec.{Codec, Shape, form, Row, row, tagged, ◌before◌}
 use Rattle.wire_format.specs.Names.{kernel}
 use Rattle.wire_format.specs.Objects.{transaction}
 use Rattle.wire_format.specs.Requests.{request}

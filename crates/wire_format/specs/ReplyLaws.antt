@@ -3,7 +3,8 @@ use Rattle.std.proofs.Common.{◌≡◌, ℕ, List, ◌++◌, refl, ap}
 use Rattle.std.specs.List.{AllByRecursion}
 use Rattle.packet_bodies.specs.declared.ReplyBody.{ReplyBody}
 use Rattle.packet_bodies.specs.declared.ReplyBody.TheVariants as replies
-use Rattle.wire_format.specs.Codec.{IsCodec, found, made}
+use Rattle.field_reader.specs.Reads.{found, made}
+use Rattle.wire_format.specs.Codec.{IsCodec}
 use Rattle.wire_format.specs.CodecLaws.{before_is, made_of_is, nothing_is, IsRow, row_is, tagged_is, optional_is}
 use Rattle.wire_format.specs.NumberLaws.{number32_is, number64_is}
 use Rattle.wire_format.specs.ListLaws.{text_is}

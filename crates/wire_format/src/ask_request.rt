@@ -2,8 +2,7 @@ ghost use Rattle.wire_format.specs.Requests.{ask_request};
 ghost use Rattle.wire_format.specs.RequestLaws.{ask_request_is};
 
 use crate::field::Field;
-use crate::field_end::FieldEnd;
-use crate::reader::Reader;
+use field_reader::{FieldEnd, Reader};
 use packet_bodies::{AskRequest, Descriptor};
 use sprite_ids::{AskKind, Bytes, DeviceId, NoMemory, Pid};
 use std::alloc::Global;

@@ -2,8 +2,7 @@ ghost use Rattle.wire_format.specs.Choices.{call_kind};
 ghost use Rattle.wire_format.specs.ChoiceLaws.{call_kind_is};
 
 use crate::field::Field;
-use crate::field_end::FieldEnd;
-use crate::reader::Reader;
+use field_reader::{FieldEnd, Reader};
 use sprite_ids::{CallKind, NoMemory};
 use std::alloc::Global;
 

@@ -2,8 +2,7 @@ ghost use Rattle.wire_format.specs.Objects.{carried_stream};
 ghost use Rattle.wire_format.specs.ObjectLaws.{carried_stream_is};
 
 use crate::field::Field;
-use crate::field_end::FieldEnd;
-use crate::reader::Reader;
+use field_reader::{FieldEnd, Reader};
 use packet_bodies::{CarriedMode, CarriedStream, Target};
 use sprite_ids::{Grant, NoMemory, StreamNo};
 use std::alloc::Global;

@@ -2,8 +2,7 @@ ghost use Rattle.wire_format.specs.Requests.{close_request};
 ghost use Rattle.wire_format.specs.RequestLaws.{close_request_is};
 
 use crate::field::Field;
-use crate::field_end::FieldEnd;
-use crate::reader::Reader;
+use field_reader::{FieldEnd, Reader};
 use packet_bodies::{CloseRequest, Target};
 use sprite_ids::{NoMemory, StreamNo};
 use std::alloc::Global;

@@ -2,8 +2,7 @@ ghost use Rattle.wire_format.specs.Requests.{fetch_request};
 ghost use Rattle.wire_format.specs.RequestLaws.{fetch_request_is};
 
 use crate::field::Field;
-use crate::field_end::FieldEnd;
-use crate::reader::Reader;
+use field_reader::{FieldEnd, Reader};
 use packet_bodies::FetchRequest;
 use sprite_ids::{BlockNo, FileId, NoMemory};
 use std::alloc::Global;

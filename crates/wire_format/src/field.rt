@@ -1,8 +1,8 @@
 ghost use Rattle.std.specs.Prelude.{◌≡◌, ◌∷◌, ◌++◌, OnOk};
-ghost use Rattle.wire_format.specs.Codec.{Codec, IsCodec, Takes};
+ghost use Rattle.field_reader.specs.Reads.{Takes};
+ghost use Rattle.wire_format.specs.Codec.{Codec, IsCodec};
 
-use crate::field_end::FieldEnd;
-use crate::reader::Reader;
+use field_reader::{FieldEnd, Reader};
 use sprite_ids::NoMemory;
 use std::alloc::Global;
 

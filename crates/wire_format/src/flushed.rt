@@ -2,8 +2,7 @@ ghost use Rattle.wire_format.specs.Objects.{flushed};
 ghost use Rattle.wire_format.specs.ObjectLaws.{flushed_is};
 
 use crate::field::Field;
-use crate::field_end::FieldEnd;
-use crate::reader::Reader;
+use field_reader::{FieldEnd, Reader};
 use sprite_ids::{BlockNo, Bytes, Flushed, Items, NoMemory};
 use std::alloc::Global;
 

@@ -1,12 +1,11 @@
 ghost use Rattle.std.specs.Prelude.{◌≡◌, ◌++◌, OnOk};
-ghost use Rattle.wire_format.specs.Codec.{Takes};
+ghost use Rattle.field_reader.specs.Reads.{Takes};
 ghost use Rattle.wire_format.specs.Choices.{caching};
 ghost use Rattle.wire_format.specs.Objects.{grant};
 ghost use Rattle.wire_format.specs.ObjectLaws.{grant_is};
 
 use crate::field::Field;
-use crate::field_end::FieldEnd;
-use crate::reader::Reader;
+use field_reader::{FieldEnd, Reader};
 use sprite_ids::{FileId, Grant, NoMemory};
 use std::alloc::Global;
 

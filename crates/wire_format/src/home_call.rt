@@ -2,8 +2,7 @@ ghost use Rattle.wire_format.specs.Objects.{home_call};
 ghost use Rattle.wire_format.specs.ObjectLaws.{home_call_is};
 
 use crate::field::{Field, put_form};
-use crate::field_end::FieldEnd;
-use crate::reader::Reader;
+use field_reader::{FieldEnd, Reader};
 use packet_bodies::HomeCall;
 use sprite_ids::{Bytes, NoMemory, Pid};
 use std::alloc::Global;

@@ -2,8 +2,7 @@ ghost use Rattle.wire_format.specs.Requests.{home_request};
 ghost use Rattle.wire_format.specs.RequestLaws.{home_request_is};
 
 use crate::field::Field;
-use crate::field_end::FieldEnd;
-use crate::reader::Reader;
+use field_reader::{FieldEnd, Reader};
 use packet_bodies::{HomeCall, HomeRequest};
 use sprite_ids::{NoMemory, Pid};
 use std::alloc::Global;

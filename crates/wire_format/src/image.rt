@@ -1,17 +1,16 @@
-ghost use Rattle.std.specs.Prelude.{◌≡◌, ◌++◌, ◌<◌, OnOk, length};
+ghost use Rattle.std.specs.Prelude.{◌≡◌, ◌++◌, ◌<◌, OnOk};
 ghost use Rattle.std.specs.List.{flat_map};
-ghost use Rattle.process_machine.specs.Machine.{ArePages};
 ghost use Rattle.process_machine.specs.Memory.{page_of};
-ghost use Rattle.wire_format.specs.Codec.{number64, optional, passed, repeated, text};
+ghost use Rattle.field_reader.specs.Reads.{passed};
+ghost use Rattle.wire_format.specs.Codec.{number64, optional, repeated, text};
 ghost use Rattle.wire_format.specs.ListLaws.{repeated_is};
 ghost use Rattle.wire_format.specs.NumberLaws.{number64_is};
 ghost use Rattle.wire_format.specs.Objects.{are_pages, image};
 ghost use Rattle.wire_format.specs.ObjectLaws.{image_is};
 
 use crate::field::Field;
-use crate::field_end::FieldEnd;
 use crate::parts::put_items;
-use crate::reader::Reader;
+use field_reader::{FieldEnd, Reader};
 use process_machine::Image;
 use sprite_ids::{Bytes, Items, NoMemory};
 use std::alloc::Global;

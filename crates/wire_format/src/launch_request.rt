@@ -2,8 +2,7 @@ ghost use Rattle.wire_format.specs.Requests.{launch_request};
 ghost use Rattle.wire_format.specs.RequestLaws.{launch_request_is};
 
 use crate::field::Field;
-use crate::field_end::FieldEnd;
-use crate::reader::Reader;
+use field_reader::{FieldEnd, Reader};
 use packet_bodies::{CarriedStream, Descriptor, LaunchRequest};
 use sprite_ids::{Items, NoMemory, Pid, StreamNo};
 use sprite_paths::Path;

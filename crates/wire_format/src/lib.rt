@@ -10,7 +10,6 @@ mod carried_stream;
 mod close_request;
 mod fetch_request;
 mod field;
-mod field_end;
 mod file_op;
 mod flushed;
 mod grant;
@@ -31,7 +30,6 @@ mod packet;
 mod page_out_request;
 mod parts;
 mod path;
-mod reader;
 mod reply_body;
 mod request;
 mod target;
@@ -40,7 +38,6 @@ mod value_reply;
 mod write_back_request;
 
 pub use field::Field;
-pub use field_end::FieldEnd;
 pub use packet::Packet;
 pub use packet_bodies::{
     AskRequest, Body, CallbackRequest, CarriedMode, CarriedStream, CloseRequest, Descriptor,
@@ -48,4 +45,3 @@ pub use packet_bodies::{
     NameRequest, OpRequest, OpenedReply, OpeningRequest, PageOutRequest, ReplyBody, Request,
     Target, TransferRequest, ValueReply, WriteBackRequest,
 };
-pub use reader::Reader;

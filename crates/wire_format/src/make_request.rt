@@ -2,8 +2,7 @@ ghost use Rattle.wire_format.specs.Requests.{make_request};
 ghost use Rattle.wire_format.specs.RequestLaws.{make_request_is};
 
 use crate::field::Field;
-use crate::field_end::FieldEnd;
-use crate::reader::Reader;
+use field_reader::{FieldEnd, Reader};
 use packet_bodies::{Descriptor, MakeRequest};
 use sprite_ids::{Bytes, DeviceId, NoMemory, Pid, StreamNo};
 use sprite_paths::Path;

@@ -2,8 +2,7 @@ ghost use Rattle.wire_format.specs.Choices.{name_op};
 ghost use Rattle.wire_format.specs.ChoiceLaws.{name_op_is};
 
 use crate::field::Field;
-use crate::field_end::FieldEnd;
-use crate::reader::Reader;
+use field_reader::{FieldEnd, Reader};
 use packet_bodies::NameOp;
 use sprite_ids::NoMemory;
 use std::alloc::Global;

@@ -2,8 +2,7 @@ ghost use Rattle.wire_format.specs.Requests.{name_request};
 ghost use Rattle.wire_format.specs.RequestLaws.{name_request_is};
 
 use crate::field::Field;
-use crate::field_end::FieldEnd;
-use crate::reader::Reader;
+use field_reader::{FieldEnd, Reader};
 use packet_bodies::{NameOp, NameRequest};
 use sprite_ids::{Bytes, NoMemory, Pid};
 use sprite_paths::Path;

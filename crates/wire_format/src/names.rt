@@ -1,13 +1,10 @@
-ghost use Rattle.std.specs.Prelude.{◌≡◌};
-ghost use Rattle.wire_format.specs.Codec.{passed};
-ghost use Rattle.wire_format.specs.Names.{descriptor, device, errno, file, is_pid, kernel, pid, stream, truth};
+ghost use Rattle.wire_format.specs.Names.{descriptor, device, errno, file, kernel, pid, stream, truth};
 ghost use Rattle.wire_format.specs.NameLaws.{descriptor_is, device_is, errno_is, file_is, kernel_is, pid_is, stream_is, truth_is};
 ghost use Rattle.wire_format.specs.Objects.{block, transaction};
 ghost use Rattle.wire_format.specs.ObjectLaws.{block_is, transaction_is};
 
 use crate::field::Field;
-use crate::field_end::FieldEnd;
-use crate::reader::Reader;
+use field_reader::{FieldEnd, Reader, pid_of};
 use packet_bodies::Descriptor;
 use sprite_ids::{BlockNo, DeviceId, Errno, FileId, Kernel, NoMemory, Pid, StreamNo, TxNo};
 use std::alloc::Global;
@@ -60,14 +57,6 @@ impl Field for Pid {
         let number = u32::read_from(alloc, from)?;
         pid_of(number).ok_or(FieldEnd::NotSpelled)
     }
-}
-
-// The process of that number.
-fn pid_of(number: u32) -> Option<Pid>
-    ensures { result ≡ passed is_pid number }
-{
-    let home = u8::try_from(number / 1000).ok()?;
-    Pid::new(Kernel::new(home)?, number % 1000)
 }
 
 impl Field for Descriptor {

@@ -2,8 +2,7 @@ ghost use Rattle.wire_format.specs.Codec.{byte, number16, number32, number64};
 ghost use Rattle.wire_format.specs.NumberLaws.{byte_is, number16_is, number32_is, number64_is};
 
 use crate::field::Field;
-use crate::field_end::FieldEnd;
-use crate::reader::Reader;
+use field_reader::{FieldEnd, Reader};
 use sprite_ids::NoMemory;
 use std::alloc::Global;
 

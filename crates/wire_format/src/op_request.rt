@@ -2,8 +2,7 @@ ghost use Rattle.wire_format.specs.Requests.{op_request};
 ghost use Rattle.wire_format.specs.RequestLaws.{op_request_is};
 
 use crate::field::Field;
-use crate::field_end::FieldEnd;
-use crate::reader::Reader;
+use field_reader::{FieldEnd, Reader};
 use packet_bodies::{Descriptor, FileOp, OpRequest};
 use sprite_ids::{Bytes, FileId, NoMemory, Pid, StreamNo};
 use std::alloc::Global;

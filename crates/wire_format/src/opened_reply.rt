@@ -2,8 +2,7 @@ ghost use Rattle.wire_format.specs.Replies.{opened_reply};
 ghost use Rattle.wire_format.specs.ReplyLaws.{opened_reply_is};
 
 use crate::field::Field;
-use crate::field_end::FieldEnd;
-use crate::reader::Reader;
+use field_reader::{FieldEnd, Reader};
 use packet_bodies::{OpenedReply, Target};
 use sprite_ids::{Grant, NoMemory};
 use std::alloc::Global;

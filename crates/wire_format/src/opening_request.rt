@@ -2,8 +2,7 @@ ghost use Rattle.wire_format.specs.Requests.{opening_request};
 ghost use Rattle.wire_format.specs.RequestLaws.{opening_request_is};
 
 use crate::field::Field;
-use crate::field_end::FieldEnd;
-use crate::reader::Reader;
+use field_reader::{FieldEnd, Reader};
 use packet_bodies::{Descriptor, OpeningRequest};
 use sprite_ids::{Bytes, NoMemory, Pid, StreamNo};
 use sprite_paths::Path;

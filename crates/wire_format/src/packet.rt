@@ -3,8 +3,7 @@ ghost use Rattle.wire_format.specs.Packets.{IsPacket, header, is_reply, packet, 
 ghost use Rattle.wire_format.specs.PacketLaws.{packet_is, read_is_spelled, spelled_is_read};
 
 use crate::field::Field;
-use crate::field_end::FieldEnd;
-use crate::reader::Reader;
+use field_reader::{FieldEnd, Reader};
 use packet_bodies::{Body, ReplyBody, Request};
 use sprite_bytes::Message;
 use sprite_ids::{Copying, Kernel, NoMemory, TxNo};

@@ -2,8 +2,7 @@ ghost use Rattle.wire_format.specs.Requests.{page_out_request};
 ghost use Rattle.wire_format.specs.RequestLaws.{page_out_request_is};
 
 use crate::field::Field;
-use crate::field_end::FieldEnd;
-use crate::reader::Reader;
+use field_reader::{FieldEnd, Reader};
 use packet_bodies::PageOutRequest;
 use sprite_ids::{Bytes, NoMemory, Pid};
 use std::alloc::Global;

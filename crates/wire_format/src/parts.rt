@@ -1,12 +1,12 @@
 ghost use Rattle.std.specs.Prelude.{◌≡◌, ◌++◌, ◌<◌, ◌^◌, OnOk};
-ghost use Rattle.wire_format.specs.Codec.{◌before◌, Takes, items_read, listed, number32, optional, text};
+ghost use Rattle.field_reader.specs.Reads.{Takes};
+ghost use Rattle.wire_format.specs.Codec.{◌before◌, items_read, listed, number32, optional, text};
 ghost use Rattle.std.specs.List.{AllByRecursion, flat_map};
 ghost use Rattle.wire_format.specs.CodecLaws.{before_is, optional_is};
 ghost use Rattle.wire_format.specs.ListLaws.{listed_is, text_is};
 
 use crate::field::{Field, put_form};
-use crate::field_end::FieldEnd;
-use crate::reader::Reader;
+use field_reader::{FieldEnd, Reader};
 use sprite_ids::{Bytes, Items, NoMemory};
 use std::alloc::Global;
 

@@ -1,10 +1,10 @@
-ghost use Rattle.wire_format.specs.Codec.{Takes, row_read};
+ghost use Rattle.field_reader.specs.Reads.{Takes};
+ghost use Rattle.wire_format.specs.Codec.{row_read};
 ghost use Rattle.wire_format.specs.Replies.{later_rows, reply};
 ghost use Rattle.wire_format.specs.ReplyLaws.{reply_is};
 
 use crate::field::{Field, put_form};
-use crate::field_end::FieldEnd;
-use crate::reader::Reader;
+use field_reader::{FieldEnd, Reader};
 use packet_bodies::{OpenedReply, ReplyBody, ValueReply};
 use sprite_ids::{Bytes, Errno, Flushed, Grant, NoMemory};
 use sprite_paths::Path;

@@ -1,10 +1,10 @@
-ghost use Rattle.wire_format.specs.Codec.{Takes, row_read};
+ghost use Rattle.field_reader.specs.Reads.{Takes};
+ghost use Rattle.wire_format.specs.Codec.{row_read};
 ghost use Rattle.wire_format.specs.Requests.{last_rows, later_rows, request};
 ghost use Rattle.wire_format.specs.RequestLaws.{request_is};
 
 use crate::field::{Field, put_form};
-use crate::field_end::FieldEnd;
-use crate::reader::Reader;
+use field_reader::{FieldEnd, Reader};
 use packet_bodies::{
     AskRequest, CallbackRequest, CloseRequest, FetchRequest, HomeRequest, LaunchRequest,
     MakeRequest, MoveRequest, NameRequest, OpRequest, OpeningRequest, PageOutRequest, Request,

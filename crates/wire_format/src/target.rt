@@ -2,8 +2,7 @@ ghost use Rattle.wire_format.specs.Objects.{target};
 ghost use Rattle.wire_format.specs.ObjectLaws.{target_is};
 
 use crate::field::{Field, put_form};
-use crate::field_end::FieldEnd;
-use crate::reader::Reader;
+use field_reader::{FieldEnd, Reader};
 use packet_bodies::Target;
 use sprite_ids::{DeviceId, FileId, NoMemory};
 use std::alloc::Global;

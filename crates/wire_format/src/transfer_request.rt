@@ -2,8 +2,7 @@ ghost use Rattle.wire_format.specs.Requests.{transfer_request};
 ghost use Rattle.wire_format.specs.RequestLaws.{transfer_request_is};
 
 use crate::field::Field;
-use crate::field_end::FieldEnd;
-use crate::reader::Reader;
+use field_reader::{FieldEnd, Reader};
 use packet_bodies::{CarriedStream, Descriptor, TransferRequest};
 use process_machine::Image;
 use sprite_ids::{Items, NoMemory, Pid, StreamNo};

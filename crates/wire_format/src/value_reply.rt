@@ -2,8 +2,7 @@ ghost use Rattle.wire_format.specs.Replies.{value_reply};
 ghost use Rattle.wire_format.specs.ReplyLaws.{value_reply_is};
 
 use crate::field::Field;
-use crate::field_end::FieldEnd;
-use crate::reader::Reader;
+use field_reader::{FieldEnd, Reader};
 use packet_bodies::ValueReply;
 use sprite_ids::{Bytes, NoMemory};
 use std::alloc::Global;

@@ -2,8 +2,7 @@ ghost use Rattle.wire_format.specs.Requests.{write_back_request};
 ghost use Rattle.wire_format.specs.RequestLaws.{write_back_request_is};
 
 use crate::field::Field;
-use crate::field_end::FieldEnd;
-use crate::reader::Reader;
+use field_reader::{FieldEnd, Reader};
 use packet_bodies::WriteBackRequest;
 use sprite_ids::{BlockNo, Bytes, FileId, NoMemory};
 use std::alloc::Global;

@@ -1,6 +1,6 @@
 use Rattle.std.proofs.Common.{rules, ◌≡◌, ◌++◌, ◌+◌, sym, ap, subst, ◌∙◌}
 use Rattle.std.specs.List.{AllByRecursion}
-use Rattle.history_text.specs.Formats.{Fails}
+use Rattle.field_reader.specs.Reads.{Fails}
 use Rattle.history_text.specs.Entries.{entry_line}
 use Rattle.history_text.specs.Histories.{HasLine, history_of, is_end}
 use Rattle.history_text.proofs.HistoryLaws.{shorter, parts_on, lines_on, none_stands}
@@ -17,13 +17,13 @@ loop-from-preserved c =
       have_lines = subst (AllByRecursion HasLine) (sym grown) (lines_on c.loop-from.from c.loop-from.entries.items c.in-Ok.entry c.read_line.new.from c.loop-from.invariant.have_lines c.in-Ok.ensures);
     }
 
-pub returns-in-Err-NotPrinted-clause-err : goal.returns-in-Err-NotPrinted-clause-err
-returns-in-Err-NotPrinted-clause-err c = record {
+pub returns-in-Err-NotSpelled-clause-err : goal.returns-in-Err-NotSpelled-clause-err
+returns-in-Err-NotSpelled-clause-err c = record {
   entries = c.loop-from.entries.items;
   rest = c.loop-from.from;
   parts = c.loop-from.invariant.parts;
   have_lines = c.loop-from.invariant.have_lines;
   counted = ap (λ n. n + 1) (c.len.ensures ∙ search rules);
-  bad = none_stands c.loop-from.from (subst (λ end. Fails end (entry_line.read c.loop-from.from)) c.in-Err-NotPrinted.field-0-is c.in-Err-NotPrinted.ensures);
+  bad = none_stands c.loop-from.from (subst (λ end. Fails end (entry_line.read c.loop-from.from)) c.in-Err-NotSpelled.field-0-is c.in-Err-NotSpelled.ensures);
   goes_on = ap is_end (sym c.rest.ensures) ∙ sym c.is_end.ensures ∙ c.loop-from-test.true;
 }

@@ -1,6 +1,6 @@
 use Rattle.std.proofs.Common.{◌≡◌, ◌≤◌, ◌+◌, length, Some}
 use Rattle.program_text.specs.Names.{has}
-use Rattle.program_text.specs.Words.{lines_of}
+use Rattle.text_lines.specs.Lines.{lines_of}
 use Rattle.program_text.specs.Readings.{judged, unread}
 use Rattle.program_text.proofs.assembly.read_lines.Given as goal
 

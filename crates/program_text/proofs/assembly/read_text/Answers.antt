@@ -2,7 +2,7 @@ use Rattle.std.proofs.Common.{IfOk, IfErr, ◌≡◌, ℕ, List, Bool, Ok, Some,
 use Rattle.program_text.specs.Names.{has}
 use Rattle.program_text.specs.Labels.{defines}
 use Rattle.program_text.specs.Readings.{judged, unread}
-use Rattle.program_text.specs.Words.{lines_of}
+use Rattle.text_lines.specs.Lines.{lines_of}
 use Rattle.program_text.specs.Programs.{IsBadAt}
 use Rattle.program_text.proofs.NameLaws.{all_names}
 use Rattle.program_text.proofs.assembly.read_text.Goals as goal

@@ -1,5 +1,5 @@
 use Rattle.std.proofs.Common.{◌≡◌, ◌||◌, ℕ, List, length}
-use Rattle.program_text.specs.Words.{lines_of}
+use Rattle.text_lines.specs.Lines.{lines_of}
 use Rattle.program_text.specs.Labels.{defines}
 use Rattle.program_text.specs.Names.{has}
 use Rattle.program_text.proofs.label.defined_in.Given as goal

@@ -1,7 +1,7 @@
 use Rattle.std.proofs.Common.{◌≡◌, List, ◌++◌, ◌+◌, length, sym, ap, subst, ◌∙◌}
 use Rattle.std.specs.List.{AllByRecursion}
 use Rattle.unix_calls.specs.declared.event.Rec.{Rec}
-use Rattle.history_text.specs.Formats.{Fails}
+use Rattle.field_reader.specs.Reads.{Fails}
 use Rattle.history_text.specs.Histories.{is_end}
 use Rattle.trace_text.specs.Traces.{HasLine, record_line, trace_of}
 use Rattle.trace_text.proofs.TraceLaws.{shorter, parts_on, lines_on, none_stands}
@@ -18,13 +18,13 @@ loop-from-preserved c =
       have_lines = subst (AllByRecursion HasLine) (sym grown) (lines_on c.loop-from.from c.loop-from.trace c.in-Ok.rec c.read_line.new.from c.loop-from.invariant.have_lines c.in-Ok.ensures);
     }
 
-pub returns-in-Err-NotPrinted-clause-err : goal.returns-in-Err-NotPrinted-clause-err
-returns-in-Err-NotPrinted-clause-err c = record {
+pub returns-in-Err-NotSpelled-clause-err : goal.returns-in-Err-NotSpelled-clause-err
+returns-in-Err-NotSpelled-clause-err c = record {
   records = c.loop-from.trace;
   rest = c.loop-from.from;
   parts = c.loop-from.invariant.parts;
   have_lines = c.loop-from.invariant.have_lines;
   counted = ap (λ (rs : List Rec). length rs + 1) c.records.ensures;
-  bad = none_stands c.loop-from.from (subst (λ end. Fails end (record_line.read c.loop-from.from)) c.in-Err-NotPrinted.field-0-is c.in-Err-NotPrinted.ensures);
+  bad = none_stands c.loop-from.from (subst (λ end. Fails end (record_line.read c.loop-from.from)) c.in-Err-NotSpelled.field-0-is c.in-Err-NotSpelled.ensures);
   goes_on = ap is_end (sym c.rest.ensures) ∙ sym c.is_end.ensures ∙ c.loop-from-test.true;
 }

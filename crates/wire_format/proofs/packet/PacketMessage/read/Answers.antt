@@ -1,5 +1,5 @@
 use Rattle.std.proofs.Common.{◌≡◌, subst, arith}
-use Rattle.wire_format.specs.Codec.{found}
+use Rattle.field_reader.specs.Reads.{found}
 use Rattle.wire_format.specs.Packets.{packet}
 use Rattle.wire_format.specs.PacketLaws.{packet_is}
 use Rattle.wire_format.proofs.packet.PacketMessage.read.Goals as goal

@@ -1,11 +1,11 @@
-ghost use Rattle.std.specs.Prelude.{◌≡◌, ◌==◌, ◌≤◌, ◌<◌, length, not};
+ghost use Rattle.std.specs.Prelude.{◌≡◌, ◌==◌, ◌≤◌, ◌<◌, IfNone, IfSome, drop, length, not, take};
 ghost use Rattle.std.specs.List.{position_or_len};
-ghost use Rattle.history_text.specs.Formats.{Takes, sign_read, in_word, word_of, past_word};
+ghost use Rattle.field_reader.specs.Reads.{Takes, sign_read, in_word, word_of, past_word};
 
 use crate::field_end::FieldEnd;
 use std::marker::Model;
 
-/// A text that is read from the front. Contracts see it as the bytes that are left (this project).
+/// Bytes that are read from the front. Contracts see it as the bytes that are left (this project).
 #[derive(Drop)]
 pub struct Reader<'a> {
     rest: &'a [u8],
@@ -48,6 +48,20 @@ impl<'a> Reader<'a> {
         self.rest = rest;
     }
 
+    /// The first `count` bytes that are left, which are read then; None exactly where fewer are left, and then none is
+    /// read.
+    pub fn front(&mut self, count: usize) -> Option<&'a [u8]>
+        ensures some { IfSome result (λ front. (front.now ≡ take count self.old) × (self.new ≡ drop count self.old) × (length front.now ≡ count)) }
+        ensures none { IfNone result ((length self.old < count) × (self.new ≡ self.old)) }
+    {
+        if self.rest.len() < count {
+            return None;
+        }
+        let (front, rest) = self.rest.split_at(count);
+        self.rest = rest;
+        Some(front)
+    }
+
     /// The word that stands at the front, which is read then; it is empty where no byte of words stands there.
     pub fn word(&mut self) -> &'a [u8]
         ensures word { result.now ≡ word_of self.old }
@@ -59,12 +73,12 @@ impl<'a> Reader<'a> {
         word
     }
 
-    /// Reads a sign at the front. NotPrinted comes exactly where another text stands there.
+    /// Reads a sign at the front. NotSpelled comes exactly where another text stands there.
     pub fn sign(&mut self, sign: &[u8]) -> Result<(), FieldEnd>
         ensures { Takes (sign_read sign.now self.old) result self.new }
     {
         if !self.rest.starts_with(sign) {
-            return Err(FieldEnd::NotPrinted);
+            return Err(FieldEnd::NotSpelled);
         }
         self.rest = &self.rest[sign.len()..];
         Ok(())

@@ -1,14 +1,14 @@
 ghost use Rattle.std.specs.Prelude.{◌≡◌};
-ghost use Rattle.wire_format.specs.declared.field_end.FieldEnd.TheVariants.{NoMemory as NoMemoryLeft};
+ghost use Rattle.field_reader.specs.declared.field_end.FieldEnd.TheVariants.{NoMemory as NoMemoryLeft};
 
 use sprite_ids::NoMemory;
 use std::alloc::{AllocError, AllocFailed};
 use thiserror::Error;
 
-/// Why no value was read at the front of bytes (this project).
+/// Why a value was not spelled, or none was read at the front of bytes (this project).
 #[derive(Clone, Copy, Debug, PartialEq, Eq, Error)]
 pub enum FieldEnd {
-    /// No value of the type is spelled so.
+    /// No value of the type is spelled so, or the value has no spelling.
     #[error("no value is spelled so")]
     NotSpelled,
     /// Memory was wanting.

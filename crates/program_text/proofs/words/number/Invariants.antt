@@ -1,7 +1,0 @@
-use Rattle.std.proofs.Common.{◌≡◌, drop}
-use Rattle.program_text.specs.Words.{number_from}
-use Rattle.program_text.proofs.words.number.Given as goal
-
--- the rest, read behind the number so far, writes the number of the whole
-abbrev pub invariant-loop-byte : goal.invariant-loop-byte
-invariant-loop-byte l = number_from l.value (drop l.byte-index l.word) ≡ number_from 0 l.word
