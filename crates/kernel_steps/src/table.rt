@@ -97,6 +97,13 @@ impl<K: Ord, V> Table<K, V> {
         self.entries.remove(key)
     }
 
+    /// The keys and values as they are kept, lent: a walk over them takes no memory.
+    pub fn entries(&self) -> &BTreeMap<K, V>
+        ensures { result.now.entries ≡ self.now }
+    {
+        &self.entries
+    }
+
     /// The keys in ascending order. The one error is want of memory.
     pub fn keys(&self, alloc: Global) -> Result<Items<K>, NoMemory>
     where
