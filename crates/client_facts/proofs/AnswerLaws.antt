@@ -40,6 +40,7 @@ use Rattle.client_file_tables.specs.declared.works.DataKind.TheVariants as works
 use Rattle.client_file_tables.specs.declared.works.WriteBackOut.{WriteBackOut}
 use Rattle.client_file_tables.specs.Locks.{unlocks}
 use Rattle.client_file_tables.specs.Rows.{first_call, first_of, less_call, less_of, same_call, same_pid}
+use Rattle.client_names.specs.Answers.{takes_end}
 use Rattle.client_file_tables.specs.Says.{replies}
 use Rattle.client_file_tables.specs.Steps.{wakes_all}
 use Rattle.client_file_tables.specs.Streams.{added_fd, adds_stream, moves_offset, sets_cwd, stream_at}
@@ -206,15 +207,19 @@ runs_answered (operations.Sync call) pid source body s few = runs_kept pid (oper
 runs_answered (operations.Close work) pid source body s few = runs_close_answers (closing.closed_at_server work.state) pid work s few
 runs_answered (operations.Move work) pid source body s few = runs_answers_move body pid work s
 
+goes_if : (b : Bool) (s t : ClientFiles) → GoesOn s → GoesOn t → GoesOn (cond b s t)
+goes_if true s t g h = g
+goes_if false s t g h = h
+
 goes_answered_by : (o : Option Pending) (pid source : ℕ) (body : ReplyBody) (s : ClientFiles) → first_of pid s.pending ≡ o → GoesOn s → GoesOn (answered.answered_by o pid source body (record s { pending = less_of pid s.pending }))
 goes_answered_by None pid source body s e g = goes_taken pid s g
 goes_answered_by (Some operation) pid source body s e g =
     let left : ClientFiles = record s { pending = less_of pid s.pending } in
     goes_runs pid left _ (runs_answered operation pid source body left (found_few pid s.pending operation g.may.short e)) (none_taken pid s g) (goes_taken pid s g)
 
-goes_answered_first : (o : Option ℕ) (source : ℕ) (body : ReplyBody) (s : ClientFiles) → GoesOn s → GoesOn (answered.answered_first o source body s)
-goes_answered_first None source body s g = g
-goes_answered_first (Some pid) source body s g = goes_answered_by (first_of pid s.pending) pid source body s refl g
+goes_answered_first : (o : Option ℕ) (tx : TxNo) (source : ℕ) (body : ReplyBody) (s : ClientFiles) → GoesOn s → GoesOn (answered.answered_first o tx source body s)
+goes_answered_first None tx source body s g = g
+goes_answered_first (Some pid) tx source body s g = goes_if (takes_end tx (first_of pid s.pending)) _ _ (goes_answered_by (first_of pid s.pending) pid source body s refl g) g
 
 -- Write-backs
 
@@ -268,15 +273,11 @@ goes_written_back tx body s g =
     let left : ClientFiles = record s { write_backs = less_call tx s.write_backs } in
     goes_done_first (first_call tx s.write_backs) tx body left (goes_steady s left (steady_same s left refl refl refl) g)
 
-goes_if : (b : Bool) (s t : ClientFiles) → GoesOn s → GoesOn t → GoesOn (cond b s t)
-goes_if true s t g h = g
-goes_if false s t g h = h
-
 -- an answer
 pub goes_answered : (tx : TxNo) (source : ℕ) (body : ReplyBody) (s : ClientFiles) → GoesOn s → GoesOn (answered.answered tx source body s)
 goes_answered tx source body s g =
     let left : ClientFiles = record s { txs = less_call tx s.txs } in
-    goes_if (list_any (is_under same_call tx) s.write_backs) _ _ (goes_written_back tx body s g) (goes_answered_first (first_call tx s.txs) source body left (goes_steady s left (steady_same s left refl refl refl) g))
+    goes_if (list_any (is_under same_call tx) s.write_backs) _ _ (goes_written_back tx body s g) (goes_answered_first (first_call tx s.txs) tx source body left (goes_steady s left (steady_same s left refl refl refl) g))
 
 -- a call that is given up
 
@@ -293,14 +294,14 @@ goes_gives_up_by (Some operation) pid s e g =
     let left : ClientFiles = record s { pending = less_of pid s.pending } in
     goes_runs pid left _ (runs_gives_up operation pid left (found_few pid s.pending operation g.may.short e)) (none_taken pid s g) (goes_taken pid s g)
 
-goes_gives_up_first : (o : Option ℕ) (s : ClientFiles) → GoesOn s → GoesOn (answers.gives_up_first o s)
-goes_gives_up_first None s g = g
-goes_gives_up_first (Some pid) s g = goes_gives_up_by (first_of pid s.pending) pid s refl g
+goes_gives_up_first : (o : Option ℕ) (tx : TxNo) (s : ClientFiles) → GoesOn s → GoesOn (answers.gives_up_first o tx s)
+goes_gives_up_first None tx s g = g
+goes_gives_up_first (Some pid) tx s g = goes_if (takes_end tx (first_of pid s.pending)) _ _ (goes_gives_up_by (first_of pid s.pending) pid s refl g) g
 
 pub goes_gives_up : (tx : TxNo) (s : ClientFiles) → GoesOn s → GoesOn (answers.gives_up tx s)
 goes_gives_up tx s g =
     let left : ClientFiles = record s { txs = less_call tx s.txs } in
-    goes_gives_up_first (first_call tx s.txs) left (goes_steady s left (steady_same s left refl refl refl) g)
+    goes_gives_up_first (first_call tx s.txs) tx left (goes_steady s left (steady_same s left refl refl refl) g)
 
 -- a block that is due
 

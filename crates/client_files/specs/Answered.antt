@@ -11,6 +11,7 @@ use Rattle.client_file_tables.specs.declared.Pending.{Pending}
 use Rattle.client_file_tables.specs.declared.Pending.TheVariants.{Name, Data, Sync, Close, Move}
 use Rattle.client_file_tables.specs.Rows.{same_call, first_of, less_of, first_call, less_call}
 use Rattle.client_file_tables.specs.Steps.{keeps}
+use Rattle.client_names.specs.Answers.{takes_end}
 use Rattle.client_streams.specs.Closing.{close_answers}
 use Rattle.client_streams.specs.Moving.{move_answers}
 use Rattle.client_data.specs.Replies.{data_answered}
@@ -31,15 +32,16 @@ answered_by (Some (Close work)) pid source body s = close_answers pid work s
 answered_by (Some (Move work)) pid source body s = answers_move pid work body s
 answered_by None pid source body s = s
 
-abbrev pub answered_for : ℕ → ℕ → ReplyBody → ClientFiles → ClientFiles
-answered_for pid source body s = answered_by (first_of pid s.pending) pid source body (record s { pending = less_of pid s.pending })
+abbrev pub answered_for : TxNo → ℕ → ℕ → ReplyBody → ClientFiles → ClientFiles
+answered_for tx pid source body s =
+    if takes_end tx (first_of pid s.pending) then answered_by (first_of pid s.pending) pid source body (record s { pending = less_of pid s.pending }) else s
 
-abbrev pub answered_first : Option ℕ → ℕ → ReplyBody → ClientFiles → ClientFiles
-answered_first (Some pid) source body s = answered_for pid source body s
-answered_first None source body s = s
+abbrev pub answered_first : Option ℕ → TxNo → ℕ → ReplyBody → ClientFiles → ClientFiles
+answered_first (Some pid) tx source body s = answered_for tx pid source body s
+answered_first None tx source body s = s
 
 -- a remote call was answered: a write-back, or one for which a process's operation waits
 abbrev pub answered : TxNo → ℕ → ReplyBody → ClientFiles → ClientFiles
 answered tx source body s =
     if list_any (is_under same_call tx) s.write_backs then written_back tx body s
-    else answered_first (first_call tx s.txs) source body (record s { txs = less_call tx s.txs })
+    else answered_first (first_call tx s.txs) tx source body (record s { txs = less_call tx s.txs })

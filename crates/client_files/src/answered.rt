@@ -4,14 +4,15 @@ ghost use Rattle.client_files.specs.Answered.{answered, answered_for, answers_mo
 use crate::asked::answer_name;
 use client_data::{data_replied, write_back_answered};
 use client_file_tables::{ClientFiles, MoveWork, Pending};
+use client_names::takes_end;
 use client_streams::{close_answered, move_answered};
 use packet_bodies::ReplyBody;
 use sprite_ids::{Kernel, NoMemory, Pid, TxNo};
 use std::alloc::Global;
 
 /// A remote call of this side of the kernel was answered by that kernel: the operation that waits for it goes on or ends. An
-/// answer to no call of this side does nothing. The one error is want of memory, also where a counter of 32 bits has come to
-/// its limit.
+/// answer to no call of this side does nothing, nor does one to another call than that for which a name call waits. The one
+/// error is want of memory, also where a counter of 32 bits has come to its limit.
 pub fn replied(
     files: &mut ClientFiles,
     alloc: Global,
@@ -25,21 +26,25 @@ pub fn replied(
         return write_back_answered(files, alloc, tx, body);
     }
     match files.txs.take(&tx) {
-        Some(pid) => answer_for(files, alloc, pid, from, body),
+        Some(pid) => answer_for(files, alloc, tx, pid, from, body),
         None => Ok(()),
     }
 }
 
-// The answer is for the process's operation.
+// The answer is for the process's operation, which may wait for another one.
 fn answer_for(
     files: &mut ClientFiles,
     alloc: Global,
+    tx: TxNo,
     pid: Pid,
     from: Kernel,
     body: &ReplyBody,
 ) -> Result<(), NoMemory>
-    ensures { OnOk result (files.new ≡ answered_for pid from body.now files.old) }
+    ensures { OnOk result (files.new ≡ answered_for tx pid from body.now files.old) }
 {
+    if !takes_end(files, tx, pid) {
+        return Ok(());
+    }
     match files.pending.take(&pid) {
         Some(Pending::Name(call)) => answer_name(files, alloc, pid, call, from, body),
         Some(Pending::Data(call)) => data_replied(files, alloc, pid, call, body),

@@ -1,5 +1,5 @@
 -- How name calls end.
-use Rattle.std.specs.Prelude.{ℕ, false, Option, Some, None}
+use Rattle.std.specs.Prelude.{ℕ, Bool, true, false, if◌then◌else◌, Option, Some, None}
 use Rattle.sprite_ids.specs.declared.TxNo.{TxNo}
 use Rattle.sprite_ids.specs.declared.StreamNo.{StreamNo}
 use Rattle.sprite_ids.specs.declared.DeviceId.{DeviceId}
@@ -24,14 +24,27 @@ use Rattle.client_file_tables.specs.declared.ClientFiles.{ClientFiles}
 use Rattle.client_file_tables.specs.declared.NameCall.{NameCall}
 use Rattle.client_file_tables.specs.declared.NameKind.{NameKind}
 use Rattle.client_file_tables.specs.declared.NameKind.TheVariants as kinds
+use Rattle.client_file_tables.specs.declared.NameState.{NameState}
+use Rattle.client_file_tables.specs.declared.NameState.TheVariants.{Broadcasting, Echoing, Asking}
 use Rattle.client_file_tables.specs.declared.Pending.{Pending}
 use Rattle.client_file_tables.specs.declared.Pending.TheVariants.{Name}
-use Rattle.client_file_tables.specs.Rows.{first_of, less_of, first_call, less_call}
+use Rattle.client_file_tables.specs.Rows.{same_call, first_of, less_of, first_call, less_call}
 use Rattle.client_file_tables.specs.Says.{about_of, answers_here, plain_value, replies}
 use Rattle.client_file_tables.specs.Steps.{keeps}
 use Rattle.client_file_tables.specs.Streams.{adds_stream, added_fd, sets_cwd}
 use Rattle.client_file_tables.specs.declared.NameWork.{NameWork}
 use Rattle.client_names.specs.Paths.{Parts}
+
+-- whether a name call waits for that remote call
+abbrev pub is_for : TxNo → NameState → Bool
+is_for tx (Broadcasting own prefix) = same_call own tx
+is_for tx (Echoing own server) = same_call own tx
+is_for tx (Asking own) = same_call own tx
+
+-- whether a looked-up operation takes the end of that remote call: a name call that of the very one for which it waits, any other each
+abbrev pub takes_end : TxNo → Option Pending → Bool
+takes_end tx (Some (Name call)) = is_for tx call.state
+takes_end tx _ = true
 
 -- the call is Unreachable, which is entered here
 abbrev pub unreaches : ℕ → NameCall → ClientFiles → ClientFiles
@@ -43,16 +56,16 @@ gives_up_by pid (Some (Name call)) s = unreaches pid call s
 gives_up_by pid (Some operation) s = keeps pid operation s
 gives_up_by pid None s = s
 
-abbrev pub gives_up_on : ℕ → ClientFiles → ClientFiles
-gives_up_on pid s = gives_up_by pid (first_of pid s.pending) (record s { pending = less_of pid s.pending })
+abbrev pub gives_up_on : TxNo → ℕ → ClientFiles → ClientFiles
+gives_up_on tx pid s = if takes_end tx (first_of pid s.pending) then gives_up_by pid (first_of pid s.pending) (record s { pending = less_of pid s.pending }) else s
 
-abbrev pub gives_up_first : Option ℕ → ClientFiles → ClientFiles
-gives_up_first (Some pid) s = gives_up_on pid s
-gives_up_first None s = s
+abbrev pub gives_up_first : Option ℕ → TxNo → ClientFiles → ClientFiles
+gives_up_first (Some pid) tx s = gives_up_on tx pid s
+gives_up_first None tx s = s
 
 -- a broadcast or an echo is given up
 abbrev pub gives_up : TxNo → ClientFiles → ClientFiles
-gives_up tx s = gives_up_first (first_call tx s.txs) (record s { txs = less_call tx s.txs })
+gives_up tx s = gives_up_first (first_call tx s.txs) tx (record s { txs = less_call tx s.txs })
 
 -- the server refused the call
 abbrev pub ends_refused : ℕ → Errno → ClientFiles → ClientFiles

@@ -1,8 +1,11 @@
 ghost use Rattle.std.specs.Prelude.{◌≡◌, OnOk};
-ghost use Rattle.client_names.specs.Answers.{gives_up, gives_up_on, unreaches, ends_refused, ends_value, gives_value, ends_opened, installs, gives_descriptor, object_of, opened_stream, master_stream, reply_of};
+ghost use Rattle.client_file_tables.specs.Rows.{first_of};
+ghost use Rattle.client_names.specs.Answers.{takes_end, is_for, gives_up, gives_up_on, unreaches, ends_refused, ends_value, gives_value, ends_opened, installs, gives_descriptor, object_of, opened_stream, master_stream, reply_of};
 
 use crate::flags::flags_of;
-use client_file_tables::{ClientFiles, NameCall, NameKind, NameWork, Pending, about, plain};
+use client_file_tables::{
+    ClientFiles, NameCall, NameKind, NameState, NameWork, Pending, about, plain,
+};
 use packet_bodies::{NameOp, OpenedReply, Target, ValueReply};
 use process_machine::Reply;
 use sprite_ids::{DeviceId, Errno, Mode, NoMemory, Object, Pid, StreamNo, TxNo};
@@ -10,20 +13,45 @@ use sprite_paths::Path;
 use std::alloc::Global;
 use stream_table::{Place, Stream};
 
+/// Whether the process's operation takes the end of that remote call: a name call takes only that of the very call for which it
+/// waits (this project).
+pub fn takes_end(files: &ClientFiles, tx: TxNo, pid: Pid) -> bool
+    ensures { result ≡ takes_end tx (first_of pid files.now.pending) }
+{
+    match files.pending.first(&pid) {
+        Some(Pending::Name(call)) => is_for(tx, &call.state),
+        _ => true,
+    }
+}
+
+// Whether a name call waits for that remote call.
+fn is_for(tx: TxNo, state: &NameState) -> bool
+    ensures { result ≡ is_for tx state.now }
+{
+    match state {
+        NameState::Broadcasting { tx: own, .. } => *own == tx,
+        NameState::Echoing { tx: own, .. } => *own == tx,
+        NameState::Asking { tx: own } => *own == tx,
+    }
+}
+
 /// A broadcast or an echo was tried eight times and is given up: its call is Unreachable, which is entered here (this
 /// project). Nothing happens where no name call waits for it. The one error is want of memory.
 pub fn give_up_name(files: &mut ClientFiles, alloc: Global, tx: TxNo) -> Result<(), NoMemory>
     ensures { OnOk result (files.new ≡ gives_up tx files.old) }
 {
     match files.txs.take(&tx) {
-        Some(pid) => give_up_on(files, alloc, pid),
+        Some(pid) => give_up_on(files, alloc, tx, pid),
         None => Ok(()),
     }
 }
 
-fn give_up_on(files: &mut ClientFiles, alloc: Global, pid: Pid) -> Result<(), NoMemory>
-    ensures { OnOk result (files.new ≡ gives_up_on pid files.old) }
+fn give_up_on(files: &mut ClientFiles, alloc: Global, tx: TxNo, pid: Pid) -> Result<(), NoMemory>
+    ensures { OnOk result (files.new ≡ gives_up_on tx pid files.old) }
 {
+    if !takes_end(files, tx, pid) {
+        return Ok(());
+    }
     match files.pending.take(&pid) {
         Some(Pending::Name(call)) => unreach(files, alloc, pid, call),
         Some(Pending::Data(call)) => files.keep(pid, Pending::Data(call)),

@@ -11,6 +11,6 @@ mod making;
 mod paths;
 mod requests;
 
-pub use answers::{end_opened, end_refused, end_value, give_up_name};
+pub use answers::{end_opened, end_refused, end_value, give_up_name, takes_end};
 pub use issues::{issue_name, refuse_here};
 pub use lookups::{ask, learn, look_up, redirect};
