@@ -7,6 +7,7 @@ use Rattle.unix_calls.specs.declared.event.Event.TheVariants as event
 use Rattle.unix_calls.specs.declared.event.Rec.{Rec}
 use Rattle.call_journal.specs.declared.counts.Tally.{Tally}
 use Rattle.call_journal.specs.Units.{units_of_event, units_of, kind_of, count_of}
+use Rattle.call_journal.specs.Journal.{records_by}
 use Rattle.call_journal.specs.Counts.{AreCounts, AreTold, tally_after, tally_more}
 
 -- one unit and those of the data for one more record
@@ -63,12 +64,13 @@ told_more trace rec before h = record {
 pub told : (trace : List Rec) (rec : Rec) (before later : Tally) → AreTold trace before → later ≡ tally_more before rec.event → AreTold (trace ++ rec ∷ []) later
 told trace rec before later h is = subst (AreTold (trace ++ rec ∷ [])) (sym is) (told_more trace rec before h)
 
--- the tally of some more records
-told_after : (trace recs : List Rec) (before : Tally) → AreTold trace before → AreTold (trace ++ recs) (tally_after before recs)
-told_after trace [] before h = subst (λ all. AreTold all before) (sym (append-nil trace)) h
-told_after trace (rec ∷ recs) before h =
-    subst (λ all. AreTold all (tally_after (tally_more before rec.event) recs)) (append_assoc trace (rec ∷ []) recs)
-    (told_after (trace ++ rec ∷ []) recs (tally_more before rec.event) (told_more trace rec before h))
+-- the tally of some more that a kernel told
+told_after : (trace : List Rec) (kernel : ℕ) (events : List Event) (before : Tally) → AreTold trace before → AreTold (trace ++ records_by kernel events) (tally_after before events)
+told_after trace kernel [] before h = subst (λ all. AreTold all before) (sym (append-nil trace)) h
+told_after trace kernel (e ∷ events) before h =
+    let rec : Rec = record { kernel = kernel; event = e } in
+    subst (λ all. AreTold all (tally_after (tally_more before e) events)) (append_assoc trace (rec ∷ []) (records_by kernel events))
+    (told_after (trace ++ rec ∷ []) kernel events (tally_more before e) (told_more trace rec before h))
 
-pub told_all : (trace recs : List Rec) (before later : Tally) → AreTold trace before → later ≡ tally_after before recs → AreTold (trace ++ recs) later
-told_all trace recs before later h is = subst (AreTold (trace ++ recs)) (sym is) (told_after trace recs before h)
+pub told_all : (trace : List Rec) (kernel : ℕ) (events : List Event) (before later : Tally) → AreTold trace before → later ≡ tally_after before events → AreTold (trace ++ records_by kernel events) later
+told_all trace kernel events before later h is = subst (AreTold (trace ++ records_by kernel events)) (sym is) (told_after trace kernel events before h)

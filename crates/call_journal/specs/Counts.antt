@@ -19,7 +19,7 @@ pub record AreTold (trace : List Rec) (tally : Tally) : Type 0 where
 abbrev pub tally_more : Tally → Event → Tally
 tally_more tally event = record { units = tally.units + units_of_event event; counts = slice_set tally.counts (kind_of event) (slice_index tally.counts (kind_of event) + 1) }
 
--- and with those of some records more
-abbrev pub tally_after : Tally → List Rec → Tally
+-- and with those of some events more
+abbrev pub tally_after : Tally → List Event → Tally
 tally_after tally [] = tally
-tally_after tally (rec ∷ recs) = tally_after (tally_more tally rec.event) recs
+tally_after tally (event ∷ events) = tally_after (tally_more tally event) events

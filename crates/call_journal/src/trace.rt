@@ -1,10 +1,10 @@
-ghost use Rattle.std.specs.Prelude.{◌≡◌, ◌∷◌, ◌++◌, [], IfOk, IfSome, OnOk, OnErr};
-ghost use Rattle.call_journal.specs.Journal.{journal_of};
+ghost use Rattle.std.specs.Prelude.{◌≡◌, ◌≤◌, ◌+◌, ◌∷◌, ◌++◌, [], IfOk, IfSome, OnOk, OnErr, vec_capacity, vec_len};
+ghost use Rattle.call_journal.specs.Journal.{journal_of, records_by};
 ghost use Rattle.call_journal.specs.Units.{units_of};
 ghost use Rattle.call_journal.specs.Counts.{AreCounts, tally_after};
 
 use crate::counts::Tally;
-use sprite_ids::{Copying, Items, NoMemory};
+use sprite_ids::{Copying, Items, Kernel, NoMemory};
 use std::alloc::Global;
 use std::marker::Model;
 use unix_calls::{Entry, Event, Rec};
@@ -53,18 +53,19 @@ impl Trace {
         Ok(())
     }
 
-    /// Puts records at the end, in their order. After want of memory, the one error, the trace is as before; it also comes where
-    /// the units are more than a number of 64 bits tells, which no memory holds.
-    pub fn append(&mut self, recs: Items<Rec>) -> Result<(), NoMemory>
-        ensures ok { OnOk result (self.new ≡ self.old ++ recs) }
+    /// Puts records of what a kernel did at the end, in their order. After want of memory, the one error, the trace is as before; it
+    /// also comes where the units are more than a number of 64 bits tells, which no memory holds.
+    pub fn append(&mut self, kernel: Kernel, told: Items<Event>) -> Result<(), NoMemory>
+        ensures ok { OnOk result (self.new ≡ self.old ++ records_by kernel told) }
         ensures err { OnErr result (self.new ≡ self.old) }
     {
-        let Some(told) = tally_of(self.tally, recs.as_slice()) else {
+        let Some(tally) = tally_of(self.tally, told.as_slice()) else {
             return Err(NoMemory);
         };
-        let mut recs = recs.into_vec();
-        self.records.append(&mut recs)?;
-        self.tally = told;
+        let told = told.into_vec();
+        self.records.reserve(told.len())?;
+        put_all(&mut self.records, kernel, told);
+        self.tally = tally;
         Ok(())
     }
 
@@ -98,15 +99,25 @@ impl Trace {
     }
 }
 
-// A tally with these records more; None where a number is more than 64 bits tell.
-fn tally_of(before: Tally, recs: &[Rec]) -> Option<Tally>
-    ensures { IfSome result (λ tally. tally ≡ tally_after before recs.now) }
+// A tally with these events more; None where a number is more than 64 bits tell.
+fn tally_of(before: Tally, told: &[Event]) -> Option<Tally>
+    ensures { IfSome result (λ tally. tally ≡ tally_after before told.now) }
 {
     let mut tally = before;
-    for rec in recs {
-        tally = tally.with(&rec.event)?;
+    for event in told {
+        tally = tally.with(event)?;
     }
     Some(tally)
+}
+
+// Puts records of what a kernel did at the end, where there is room for them.
+fn put_all(records: &mut Vec<Rec>, kernel: Kernel, told: Vec<Event>)
+    requires room { vec_len records.old + vec_len told ≤ vec_capacity records.old }
+    ensures { records.new.items ≡ records.old.items ++ records_by kernel told.items }
+{
+    for event in told {
+        records.push_reserved(Rec { kernel, event });
+    }
 }
 
 fn entries(alloc: Global, records: &[Rec]) -> Result<Items<Entry>, NoMemory>

@@ -23,7 +23,7 @@ use Rattle.cluster_wire.specs.Noted.{faulted, faulted_all, is_of, is_own, noted_
 use Rattle.cluster_wire.specs.Ran.{EachDone, told_of}
 use Rattle.cluster_wire.specs.Replying.{IsAnswer, answered_by, asker, asker_by, caller_of, goes_back, reply_packet}
 use Rattle.cluster_wire_laws.specs.Links.{all_told_by, answer_told, bare, bare_event, fault_told, faults_told, is_of_link, of_link, sent_told}
-use Rattle.cluster_wire_laws.specs.Orders.{records_by}
+use Rattle.call_journal.specs.Journal.{records_by}
 
 -- what a kernel told of packets
 abbrev pub link_told : ℕ → List Event → List Rec

@@ -19,7 +19,8 @@ use Rattle.cluster_kernels.specs.declared.KernelState.{KernelState}
 use Rattle.cluster_kernels.specs.declared.State.{State}
 use Rattle.cluster_kernels.specs.States.{kernel_at, stepped, stepped_by}
 use Rattle.cluster_steps.specs.Steps.{took}
-use Rattle.cluster_wire_laws.specs.Orders.{is_of_wire, of_wire, records_by, told_by}
+use Rattle.call_journal.specs.Journal.{records_by}
+use Rattle.cluster_wire_laws.specs.Orders.{is_of_wire, of_wire, told_by}
 
 -- what a kernel told of the wire
 abbrev pub wire_told : ℕ → List Event → List Rec

@@ -6,7 +6,8 @@ use Rattle.unix_calls.specs.declared.Rec.{Rec}
 use Rattle.cluster_wire.specs.Ran.{told_of}
 use Rattle.cluster_wire.proofs.RanLaws.{ran_join}
 use Rattle.cluster_wire_laws.specs.Links.{all_told_by, of_link}
-use Rattle.cluster_wire_laws.specs.Orders.{is_of_wire, of_wire, records_by, told_by}
+use Rattle.call_journal.specs.Journal.{records_by}
+use Rattle.cluster_wire_laws.specs.Orders.{is_of_wire, of_wire, told_by}
 use Rattle.cluster_wire_laws.specs.Replies.{calls_replied, how_many_differ, replies_told, reply_told}
 use Rattle.cluster_wire_laws.specs.Traces.{EndingsAreCounted, RepliesAreCounted, RequestsAreCounted, RepliesWereAsked, SendingsAreCounted, SendingsWereAsked, TurnKeepsOrder, records_so}
 use Rattle.cluster_wire_laws.proofs.LinkLaws.{all_join, link_on}

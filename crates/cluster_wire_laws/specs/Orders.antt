@@ -1,5 +1,5 @@
 -- What a trace tells of copies that come and timers that fire, in its order.
-use Rattle.std.specs.Prelude.{ℕ, Bool, true, false, List, [], ◌∷◌, map, Option, Some, None}
+use Rattle.std.specs.Prelude.{ℕ, Bool, true, false, List, [], ◌∷◌, Option, Some, None}
 use Rattle.std.specs.List.{filter}
 use Rattle.sprite_ids.specs.declared.TxNo.{TxNo}
 use Rattle.kernel_rpc.specs.declared.Call.{Call}
@@ -20,10 +20,6 @@ is_of_wire event = false
 -- the records of a trace that tell so
 abbrev pub of_wire : List Rec → List Rec
 of_wire trace = filter (λ (r : Rec). is_of_wire r.event) trace
-
--- what a kernel told, as records of it
-abbrev pub records_by : ℕ → List Event → List Rec
-records_by kernel told = map (λ (event : Event). record { kernel = kernel; event = event }) told
 
 -- a looked-up copy comes to its receiver
 abbrev pub copy_told : Option PacketCopy → List Rec

@@ -13,7 +13,8 @@ use Rattle.unix_calls.specs.declared.Rec.{Rec}
 use Rattle.call_journal.specs.WorthPackets.{deliveries_are_few}
 use Rattle.cluster_wire.specs.Ran.{Ran, told_of}
 use Rattle.cluster_wire_laws.specs.Links.{all_told_by, of_link}
-use Rattle.cluster_wire_laws.specs.Orders.{of_wire, records_by, told_by}
+use Rattle.call_journal.specs.Journal.{records_by}
+use Rattle.cluster_wire_laws.specs.Orders.{of_wire, told_by}
 use Rattle.cluster_wire_laws.specs.Told.{begins_to, is_reply_at, sends_again, tells_again, tells_copy, tells_last, tells_packet, tells_reply, tells_request}
 use Rattle.cluster_wire_laws.specs.Turns.{RanSo}
 use Rattle.cluster_wire_laws.specs.Asks.{RoseBy, all_sent_between, tells_sending}

@@ -11,7 +11,8 @@ use Rattle.cluster_choices.specs.Acts.{Happens}
 use Rattle.cluster_bursts.specs.declared.Burst.{Burst}
 use Rattle.cluster_bursts.specs.Ends.{EndsBurst}
 use Rattle.cluster_wire_laws.specs.Links.{all_told_by, of_link}
-use Rattle.cluster_wire_laws.specs.Orders.{of_wire, records_by, told_by}
+use Rattle.call_journal.specs.Journal.{records_by}
+use Rattle.cluster_wire_laws.specs.Orders.{of_wire, told_by}
 use Rattle.cluster_wire_laws.specs.Asks.{all_sent_between, tells_sending}
 
 -- in a turn of the kernel the wire went from here to there by some acts, and of packets and timers the kernel told these acts, in

@@ -5,7 +5,7 @@ use Rattle.sprite_ids.proofs.ListLaws.{each_append}
 use Rattle.unix_calls.specs.declared.Description.{Description}
 use Rattle.unix_calls.specs.declared.Event.{Event}
 use Rattle.unix_calls.specs.declared.Rec.{Rec}
-use Rattle.cluster_wire_laws.specs.Orders.{records_by}
+use Rattle.call_journal.specs.Journal.{records_by}
 use Rattle.sprite_cluster.specs.Reached.{At}
 use Rattle.sprite_cluster.proofs.ReachedLaws.{Lasts, lasts_on}
 use Rattle.reached_laws.specs.Records.{IsByKernel, RecordsAreByKernels}
