@@ -1,15 +1,17 @@
 ghost use Rattle.std.specs.Prelude.{◌≡◌, IfOk, OnOk, Some, option_map};
 ghost use Rattle.std.specs.List.{find, list_any};
+ghost use Rattle.std.specs.Map.{keys_of};
 ghost use Rattle.std.specs.Option.{is_some, option_or};
 ghost use Rattle.unix_calls.specs.Answers.{program_at};
 ghost use Rattle.unix_calls.specs.Lawful.{Lawful};
-ghost use Rattle.cluster_bursts.specs.Bursts.{begun_by, came_to, has_counted, has_job_at, is_as_it_was, is_image, is_next, is_runnable, issued, job_at, job_by, job_with, Did, EndsAs, EndsSo, GoesOn, same_image};
+ghost use Rattle.cluster_bursts.specs.Bursts.{begun_by, came_to, has_counted, has_job_at, is_as_it_was, is_image, is_next, is_runnable, issued, next_at, job_at, job_by, job_with, Did, EndsAs, EndsSo, GoesOn, same_image};
 ghost use Rattle.cluster_bursts.specs.Ends.{EndsBurst};
 ghost use Rattle.cluster_kernels.specs.States.{count_at, image_at, put_image};
 ghost use Rattle.unix_calls.specs.declared.Event.TheVariants.{Burst as Ran};
 
 use crate::job::{Burst, Job};
 use crate::outcome::BurstOutcome;
+use client_homes::Proc;
 use cluster_kernels::State;
 use cluster_steps::take;
 use kernel_rpc::Wire;
@@ -18,6 +20,7 @@ use link_plan::Link;
 use process_machine::{BurstEnd, Call, Image, Program, call_of};
 use sprite_ids::{Copying, Items, Kernel, NoMemory, Pid};
 use std::alloc::Global;
+use std::collections::BTreeMap;
 use unix_calls::{Description, Event, ProgramLine};
 use wire_format::Packet;
 
@@ -28,24 +31,26 @@ fn is_runnable(state: &State, kernel: Kernel, pid: Pid) -> bool
     state.is_ready(kernel, pid) && !state.out.has_row(&kernel, &pid)
 }
 
-// Whether one of the processes can run at the kernel and doesn't run now: it looks at them up to the first.
-fn is_any_runnable(state: &State, kernel: Kernel, pids: &[Pid]) -> bool
-    ensures { result ≡ list_any (is_runnable kernel state.now) pids.now }
+/// Whether a process of the kernel can run and doesn't run now: it looks at them up to the first, and takes no memory.
+pub fn has_job(state: &State, kernel: Kernel) -> bool
+    ensures { result ≡ has_job_at kernel state.now }
 {
-    for pid in pids {
+    match state.client(kernel) {
+        Some(client) => is_any_runnable(state, kernel, client.procs.entries()),
+        None => false,
+    }
+}
+
+// Whether one of the processes can run at the kernel and doesn't run now.
+fn is_any_runnable(state: &State, kernel: Kernel, procs: &BTreeMap<Pid, Proc>) -> bool
+    ensures { result ≡ list_any (is_runnable kernel state.now) (keys_of procs.now.entries) }
+{
+    for pid in procs.keys() {
         if is_runnable(state, kernel, *pid) {
             return true;
         }
     }
     false
-}
-
-/// Whether a process of the kernel can run and doesn't run now. The one error is want of memory.
-pub fn has_job(alloc: Global, state: &State, kernel: Kernel) -> Result<bool, NoMemory>
-    ensures { IfOk result (λ has. has ≡ has_job_at kernel state.now) }
-{
-    let pids = state.pids(alloc, kernel)?;
-    Ok(is_any_runnable(state, kernel, pids.as_slice()))
 }
 
 /// The next job of the kernel, whose burst is out from now on; None exactly where no process of it can run. The one error is want of
@@ -60,8 +65,7 @@ pub fn begin_burst(
     ensures has { IfOk result (λ job. is_some job ≡ has_job_at kernel state.old) }
     ensures state { IfOk result (λ job. state.new ≡ begun_by kernel job state.old) }
 {
-    let pids = state.pids(alloc, kernel)?;
-    match next_of(state, kernel, pids.as_slice()) {
+    match next_at(state, kernel) {
         Some(pid) => {
             let job = begin(alloc, c, state, kernel, pid)?;
             Ok(Some(job))
@@ -70,21 +74,31 @@ pub fn begin_burst(
     }
 }
 
-// The process that is next, among those.
-fn next_of(state: &State, kernel: Kernel, pids: &[Pid]) -> Option<Pid>
-    ensures { result ≡ option_or (find (is_next kernel state.now (count_at state.now.last kernel)) pids.now) (find (is_runnable kernel state.now) pids.now) }
+// The process of the kernel that is next.
+fn next_at(state: &State, kernel: Kernel) -> Option<Pid>
+    ensures { result ≡ next_at kernel state.now }
 {
-    match first_after(state, kernel, pids, state.last_of(kernel)) {
+    match state.client(kernel) {
+        Some(client) => next_of(state, kernel, client.procs.entries()),
+        None => None,
+    }
+}
+
+// The process that is next, among those.
+fn next_of(state: &State, kernel: Kernel, procs: &BTreeMap<Pid, Proc>) -> Option<Pid>
+    ensures { result ≡ option_or (find (is_next kernel state.now (count_at state.now.last kernel)) (keys_of procs.now.entries)) (find (is_runnable kernel state.now) (keys_of procs.now.entries)) }
+{
+    match first_after(state, kernel, procs, state.last_of(kernel)) {
         Some(pid) => Some(pid),
-        None => first_of(state, kernel, pids),
+        None => first_of(state, kernel, procs),
     }
 }
 
 // The first of the processes that can run and has a greater number than that.
-fn first_after(state: &State, kernel: Kernel, pids: &[Pid], last: u32) -> Option<Pid>
-    ensures { result ≡ find (is_next kernel state.now last) pids.now }
+fn first_after(state: &State, kernel: Kernel, procs: &BTreeMap<Pid, Proc>, last: u32) -> Option<Pid>
+    ensures { result ≡ find (is_next kernel state.now last) (keys_of procs.now.entries) }
 {
-    for pid in pids {
+    for pid in procs.keys() {
         if last < pid.number() && is_runnable(state, kernel, *pid) {
             return Some(*pid);
         }
@@ -93,10 +107,10 @@ fn first_after(state: &State, kernel: Kernel, pids: &[Pid], last: u32) -> Option
 }
 
 // The first of the processes that can run.
-fn first_of(state: &State, kernel: Kernel, pids: &[Pid]) -> Option<Pid>
-    ensures { result ≡ find (is_runnable kernel state.now) pids.now }
+fn first_of(state: &State, kernel: Kernel, procs: &BTreeMap<Pid, Proc>) -> Option<Pid>
+    ensures { result ≡ find (is_runnable kernel state.now) (keys_of procs.now.entries) }
 {
-    for pid in pids {
+    for pid in procs.keys() {
         if is_runnable(state, kernel, *pid) {
             return Some(*pid);
         }

@@ -1,5 +1,5 @@
 ghost use Rattle.std.specs.Prelude.{◌≡◌, ◌<◌, ◌-◌, [], IfOk, OnOk, option_map};
-ghost use Rattle.cluster_kernels.specs.States.{as_client, client_at, count_at, counted, due_at, image_at, is_ready_at, kernel_at, noted_step, numbered_at, pids_at, put_image, put_out, stepped, with_last};
+ghost use Rattle.cluster_kernels.specs.States.{as_client, client_at, count_at, counted, due_at, image_at, is_ready_at, kernel_at, noted_step, numbered_at, put_image, put_out, stepped, with_last};
 
 use crate::kernel_state;
 use crate::kernel_state::{KernelState, step_kernel};
@@ -37,8 +37,8 @@ impl State {
         None
     }
 
-    // The client of that number; None exactly where there is none.
-    fn client(&self, kernel: Kernel) -> Option<&ClientProcs>
+    /// The client of that number; None exactly where there is none.
+    pub fn client(&self, kernel: Kernel) -> Option<&ClientProcs>
         ensures { option_map (λ client. client.now) result ≡ client_at kernel self.now }
     {
         match self.kernel(kernel) {
@@ -138,16 +138,6 @@ impl State {
         match self.client(kernel) {
             Some(client) => client_procs::due(client, step),
             None => None,
-        }
-    }
-
-    /// The processes of which the kernel has something, in ascending order. The one error is want of memory.
-    pub fn pids(&self, alloc: Global, kernel: Kernel) -> Result<Items<Pid>, NoMemory>
-        ensures { IfOk result (λ pids. pids ≡ pids_at kernel self.now) }
-    {
-        match self.client(kernel) {
-            Some(client) => client.procs.keys(alloc),
-            None => Ok(Items::new(alloc)),
         }
     }
 

@@ -26,7 +26,7 @@ use Rattle.cluster_bursts.specs.declared.Burst.{Burst}
 use Rattle.cluster_bursts.proofs.EndLaws.{out_ends, out_less, stale_ends, told_ends}
 use Rattle.sprite_cluster.specs.Finishing.{are_busy, finish_of, is_busy, may_go_on, stands_so}
 use Rattle.sprite_cluster.specs.Logs.{Holds, TellsFaults, faults_between, log_of}
-use Rattle.cluster_wire_laws.specs.Orders.{records_by}
+use Rattle.call_journal.specs.Journal.{records_by}
 use Rattle.cluster_wire_laws.specs.Traces.{ReachedSo}
 use Rattle.cluster_wire_laws.specs.Turns.{RanSo}
 use Rattle.cluster_wire_laws.proofs.TraceLaws.{turn_keeps}

@@ -13,7 +13,7 @@ use Rattle.cluster_choices.specs.Choosing.{choices_at}
 use Rattle.cluster_bursts.specs.declared.Burst.{Burst}
 use Rattle.cluster_bursts.specs.Bursts.{Did, begun_by, job_at}
 use Rattle.cluster_bursts.specs.Ends.{EndsBurst}
-use Rattle.cluster_wire_laws.specs.Orders.{records_by}
+use Rattle.call_journal.specs.Journal.{records_by}
 
 -- the kernels as a turn begins: nothing is told yet
 abbrev pub begun_turn : State → State

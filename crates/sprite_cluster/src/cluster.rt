@@ -8,7 +8,7 @@ ghost use Rattle.cluster_choices.specs.Choosing.{choices_at};
 ghost use Rattle.cluster_bursts.specs.Bursts.{begun_by, has_job_at, job_at, Did};
 ghost use Rattle.sprite_cluster.specs.Finishing.{stands_so};
 ghost use Rattle.sprite_cluster.specs.Logs.{Holds, TellsFaults};
-ghost use Rattle.cluster_wire_laws.specs.Orders.{records_by};
+ghost use Rattle.call_journal.specs.Journal.{records_by};
 ghost use Rattle.kernel_threads.specs.Steps.{IsAmong};
 ghost use Rattle.sprite_cluster.specs.Reached.{Reached};
 ghost use Rattle.sprite_cluster.specs.Steps.{begun_turn, EndedSo, MadeChoice};
@@ -130,22 +130,11 @@ impl<L: Link> Cluster<L> {
         }
     }
 
-    /// Whether a process at the kernel can run and has no burst out. The one error is want of memory.
-    pub fn has_job(&mut self, alloc: Global, kernel: Kernel) -> Result<bool, NoMemory>
-        ensures has { IfOk result (λ has. has ≡ has_job_at kernel self.old.state) }
-        ensures ok { OnOk result (self.new ≡ self.old) }
-        ensures err { OnErr result (self.new.closed ≡ true) }
-        ensures description { self.new.description ≡ self.old.description }
-        ensures begun { self.new.begun ≡ self.old.begun }
-        ensures trace { self.new.trace ≡ self.old.trace }
+    /// Whether a process at the kernel can run and has no burst out.
+    pub fn has_job(&self, kernel: Kernel) -> bool
+        ensures { result ≡ has_job_at kernel self.now.state }
     {
-        match cluster_bursts::has_job(alloc, &self.state, kernel) {
-            Ok(has) => Ok(has),
-            Err(NoMemory) => {
-                self.closed = true;
-                Err(NoMemory)
-            }
-        }
+        cluster_bursts::has_job(&self.state, kernel)
     }
 
     /// The process of the kernel whose turn it is, with its program and two copies of its image; None exactly where none can run.
@@ -210,7 +199,7 @@ impl<L: Link> Cluster<L> {
 
     /// How the run stands: the first that holds of `OutOfMemory`, `AllEnded`, `Budget`, `Running` and `Stalled`. Where memory is
     /// wanting to find that out, the cluster is closed.
-    pub fn finish(&mut self, alloc: Global) -> Finish
+    pub fn finish(&mut self) -> Finish
         ensures stands { result ≡ stands_so self.new.closed self.new.description self.new.trace self.new.wire.machine self.new.state }
         ensures ok { result ≢ Finish.OutOfMemory → self.new ≡ self.old }
         ensures description { self.new.description ≡ self.old.description }
@@ -222,13 +211,7 @@ impl<L: Link> Cluster<L> {
         if self.closed {
             return Finish::OutOfMemory;
         }
-        match finish(
-            alloc,
-            &self.description,
-            &self.trace,
-            &self.wire,
-            &self.state,
-        ) {
+        match finish(&self.description, &self.trace, &self.wire, &self.state) {
             Ok(finish) => finish,
             Err(NoMemory) => {
                 self.closed = true;

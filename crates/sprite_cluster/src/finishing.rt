@@ -11,13 +11,12 @@ use cluster_kernels::{KernelState, State, has_ended};
 use kernel_rpc::Wire;
 use link_plan::Link;
 use sprite_ids::{Finish, Kernel, NoMemory};
-use std::alloc::Global;
 use unix_calls::Description;
 use wire_format::Packet;
 
-/// How the run stands: the first that holds of `AllEnded`, `Budget`, `Running` and `Stalled`. The one error is want of memory.
+/// How the run stands: the first that holds of `AllEnded`, `Budget`, `Running` and `Stalled`. It takes no memory; want of memory is the
+/// answer where the kernels are more than 16, which never comes.
 pub(crate) fn finish<L: Link>(
-    alloc: Global,
     c: &Description,
     trace: &Trace,
     wire: &Wire<Packet, L>,
@@ -31,7 +30,7 @@ pub(crate) fn finish<L: Link>(
     if u64::from(c.budget) <= trace.units() {
         return Ok(Finish::Budget);
     }
-    if may_go_on(alloc, c.kernels.len(), wire, state)? {
+    if may_go_on(c.kernels.len(), wire, state)? {
         return Ok(Finish::Running);
     }
     Ok(Finish::Stalled)
@@ -44,10 +43,9 @@ fn have_ended(kernels: &[KernelState]) -> bool
     kernels.iter().all(|kernel| has_ended(kernel))
 }
 
-// Whether something can happen in a cluster of so many kernels. The one error is want of memory; it is also the answer where they are
-// more than 16, which never comes.
+// Whether something can happen in a cluster of so many kernels. Want of memory is the answer where they are more than 16, which never
+// comes.
 fn may_go_on<L: Link>(
-    alloc: Global,
     kernels: usize,
     wire: &Wire<Packet, L>,
     state: &State,
@@ -61,55 +59,37 @@ fn may_go_on<L: Link>(
     if count > 16 {
         return Err(NoMemory);
     }
-    are_busy(alloc, count, wire, state)
+    Ok(are_busy(count, wire, state))
 }
 
-// Whether something can happen at one of the first kernels. The one error is want of memory.
-fn are_busy<L: Link>(
-    alloc: Global,
-    count: u8,
-    wire: &Wire<Packet, L>,
-    state: &State,
-) -> Result<bool, NoMemory>
+// Whether something can happen at one of the first kernels.
+fn are_busy<L: Link>(count: u8, wire: &Wire<Packet, L>, state: &State) -> bool
     requires { count ≤ 16 }
-    ensures { IfOk result (λ busy. busy ≡ are_busy count wire.now.machine state.now) }
+    ensures { result ≡ are_busy count wire.now.machine state.now }
 {
     let mut busy = false;
     for before in 0..count {
         if !busy {
-            busy = is_busy_after(alloc, before, wire, state)?;
+            busy = is_busy_after(before, wire, state);
         }
     }
-    Ok(busy)
+    busy
 }
 
-// Whether something can happen at the kernel behind so many. The one error is want of memory.
-fn is_busy_after<L: Link>(
-    alloc: Global,
-    before: u8,
-    wire: &Wire<Packet, L>,
-    state: &State,
-) -> Result<bool, NoMemory>
+// Whether something can happen at the kernel behind so many.
+fn is_busy_after<L: Link>(before: u8, wire: &Wire<Packet, L>, state: &State) -> bool
     requires { before < 16 }
-    ensures { IfOk result (λ busy. busy ≡ is_busy wire.now.machine state.now (before + 1)) }
+    ensures { result ≡ is_busy wire.now.machine state.now (before + 1) }
 {
     let Some(kernel) = Kernel::new(before + 1) else {
         unreachable!()
     };
-    is_busy(alloc, kernel, wire, state)
+    is_busy(kernel, wire, state)
 }
 
-// Whether something can happen at the kernel: a process can run, or it has a choice. The one error is want of memory.
-fn is_busy<L: Link>(
-    alloc: Global,
-    kernel: Kernel,
-    wire: &Wire<Packet, L>,
-    state: &State,
-) -> Result<bool, NoMemory>
-    ensures { IfOk result (λ busy. busy ≡ is_busy wire.now.machine state.now kernel) }
+// Whether something can happen at the kernel: a process can run, or it has a choice.
+fn is_busy<L: Link>(kernel: Kernel, wire: &Wire<Packet, L>, state: &State) -> bool
+    ensures { result ≡ is_busy wire.now.machine state.now kernel }
 {
-    if choice_at(state, wire, kernel, 0).is_some() {
-        return Ok(true);
-    }
-    has_job(alloc, state, kernel)
+    choice_at(state, wire, kernel, 0).is_some() || has_job(state, kernel)
 }

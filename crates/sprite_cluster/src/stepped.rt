@@ -69,8 +69,8 @@ impl<L: Link> Stepped for Cluster<L> {
         Cluster::step(self, alloc, kernel, choice)
     }
 
-    fn has_job(&mut self, alloc: Global, kernel: Kernel) -> Result<bool, NoMemory> {
-        Cluster::has_job(self, alloc, kernel)
+    fn has_job(&mut self, _alloc: Global, kernel: Kernel) -> Result<bool, NoMemory> {
+        Ok(Cluster::has_job(self, kernel))
     }
 
     fn begin_burst(&mut self, alloc: Global, kernel: Kernel) -> Result<Option<Job>, NoMemory> {
@@ -90,7 +90,7 @@ impl<L: Link> Stepped for Cluster<L> {
         Cluster::end_burst(self, alloc, kernel, burst)
     }
 
-    fn finish(&mut self, alloc: Global) -> Finish {
-        Cluster::finish(self, alloc)
+    fn finish(&mut self, _alloc: Global) -> Finish {
+        Cluster::finish(self)
     }
 }

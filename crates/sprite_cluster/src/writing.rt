@@ -1,10 +1,11 @@
-ghost use Rattle.std.specs.Prelude.{◌≡◌, ◌++◌, ◌<◌, [], IfOk, OnErr, OnOk, length};
-ghost use Rattle.cluster_wire_laws.specs.Orders.{records_by};
+ghost use Rattle.std.specs.Prelude.{◌≡◌, ◌++◌, ◌<◌, [], OnErr, OnOk, length};
+ghost use Rattle.call_journal.specs.Journal.{records_by};
 
 use call_journal::Trace;
 use sprite_ids::{Items, Kernel, NoMemory};
 use std::alloc::Global;
-use unix_calls::{Event, Rec};
+use std::mem;
+use unix_calls::Event;
 
 /// Writes what the kernel told at the trace's end, which takes it out of the list. After want of memory, the one error, the trace is
 /// as before; it is also the answer where nothing was told, which never comes, since each step tells something.
@@ -22,23 +23,6 @@ pub(crate) fn write(
     if told.is_empty() {
         return Err(NoMemory);
     }
-    let recs = records_of(alloc, kernel, told)?;
-    trace.append(recs)
-}
-
-// The records of what the kernel told, which takes it out of the list. The one error is want of memory.
-fn records_of(
-    alloc: Global,
-    kernel: Kernel,
-    told: &mut Items<Event>,
-) -> Result<Items<Rec>, NoMemory>
-    ensures recs { IfOk result (λ recs. recs ≡ records_by kernel told.old) }
-    ensures none_left { OnOk result (told.new ≡ []) }
-{
-    let mut recs = Items::new(alloc);
-    'told: while !told.is_empty() {
-        let event = told.remove(0);
-        recs.push(Rec { kernel, event })?;
-    }
-    Ok(recs)
+    let events = mem::replace(told, Items::new(alloc));
+    trace.append(kernel, events)
 }
