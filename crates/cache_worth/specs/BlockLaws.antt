@@ -10,13 +10,14 @@ use Rattle.call_journal.specs.Matching.{is_at, is_fetch, is_write_back}
 use Rattle.call_journal.specs.Drops.{is_filled}
 use Rattle.call_journal.specs.WriteBacks.{is_dirtied}
 use Rattle.call_journal.specs.WorthCaches.{is_mode_of, is_written, is_changed, is_renewed}
-use Rattle.cache_worth.specs.declared.place.BlockAt.{BlockAt}
+use Rattle.trace_rules.specs.declared.place.BlockAt.{BlockAt}
 use Rattle.cache_worth.specs.declared.since.Since.{Since}
 use Rattle.cache_worth.specs.declared.cleaned.Cleaned.{Cleaned}
 use Rattle.cache_worth.specs.declared.sent.Sent.{Sent}
 use Rattle.cache_worth.specs.declared.fetched.Fetched.{Fetched}
-use Rattle.cache_worth.specs.Lists.{any_same, and_false, and_either, or_none}
-use Rattle.cache_worth.specs.Places.{file_of}
+use Rattle.trace_rules.specs.Lists.{and_false, or_false}
+use Rattle.cache_worth.specs.Lists.{any_same, and_either}
+use Rattle.trace_rules.specs.Places.{file_of}
 use Rattle.cache_worth.specs.Parts.{cleans_well, sends_back_well, fetches_anew}
 use Rattle.cache_worth.specs.Since.{StepsOn, begins_at, changes_at, takes_in, Reads, TellsSince}
 use Rattle.cache_worth.specs.SinceLaws.{changed_law, since_told_on}
@@ -56,7 +57,7 @@ cleaned_by : (since : Since) (past : Past) (kernel : ℕ) (e : Event) → TellsS
 cleaned_by since past kernel (event.WroteBack f b) told =
     let at : BlockAt = record { kernel = kernel; file = f; block = b } in
     sym (changed_law cleaned_at sent_at never_at since past.records at told
-    ∙ any_same (λ (r : Rec). sent_at at r || never_at at r) (sent_at at) (since_last (cleaned_at at) past.records) (λ r. or_none (sent_at at r)))
+    ∙ any_same (λ (r : Rec). sent_at at r || never_at at r) (sent_at at) (since_last (cleaned_at at) past.records) (λ r. or_false (sent_at at r)))
 cleaned_by since past kernel (event.Dirtied f b) told = refl
 cleaned_by since past kernel _ told = refl
 

@@ -8,7 +8,7 @@ use Rattle.call_journal.specs.Matching.{is_at, is_fetch, is_write_back}
 use Rattle.call_journal.specs.Drops.{is_filled}
 use Rattle.call_journal.specs.WriteBacks.{is_dirtied}
 use Rattle.call_journal.specs.WorthCaches.{is_mode_of, is_written}
-use Rattle.cache_worth.specs.declared.place.BlockAt.{BlockAt}
+use Rattle.trace_rules.specs.declared.place.BlockAt.{BlockAt}
 use Rattle.cache_worth.specs.declared.since.Since.{Since}
 use Rattle.cache_worth.specs.declared.since.Step.{Step}
 use Rattle.cache_worth.specs.declared.since.Step.TheVariants as step

@@ -7,7 +7,7 @@ use Rattle.unix_calls.specs.declared.event.Rec.{Rec}
 use Rattle.call_journal.specs.Matching.{is_at, is_any_fetch}
 use Rattle.call_journal.specs.WorthCaches.{is_any_filled, is_any_dirtied, is_motive}
 use Rattle.cache_worth.specs.declared.counts.Counts.{Counts}
-use Rattle.cache_worth.specs.Lists.{one_if}
+use Rattle.trace_rules.specs.Lists.{one_if}
 
 -- the counts that are kept of a kernel
 abbrev pub counts_or : Option Counts → Counts

@@ -4,12 +4,12 @@ use Rattle.std.specs.List.{list_any}
 use Rattle.std.specs.Map.{lookup}
 use Rattle.unix_calls.specs.declared.event.Rec.{Rec}
 use Rattle.call_journal.specs.Past.{since_last}
-use Rattle.cache_worth.specs.declared.place.BlockAt.{BlockAt}
-use Rattle.cache_worth.specs.declared.place.FileAt.{FileAt}
+use Rattle.trace_rules.specs.declared.place.BlockAt.{BlockAt}
+use Rattle.trace_rules.specs.declared.place.FileAt.{FileAt}
 use Rattle.cache_worth.specs.declared.since.Since.{Since}
 use Rattle.cache_worth.specs.declared.since.Step.{Step}
 use Rattle.cache_worth.specs.declared.since.Step.TheVariants as step
-use Rattle.cache_worth.specs.Places.{same_place, same_use, file_of, has_block}
+use Rattle.trace_rules.specs.Places.{same_place, same_use, file_of, has_block}
 
 -- ---- what is kept
 

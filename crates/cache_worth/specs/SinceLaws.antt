@@ -1,19 +1,17 @@
 -- What happened to blocks is told record by record.
 use Rattle.std.proofs.Common.{◌≡◌, ◌∙◌, ℕ, ◌+◌, ◌-◌, ◌==◌, Bool, true, false, cond, ◌&&◌, ◌||◌, List, [], ◌∷◌, ◌++◌, Option, Some, nat_le, count_by, refl, sym, ap, ap₂, arith}
 use Rattle.std.specs.List.{list_any}
-use Rattle.std.proofs.lemmas.Bool.{and_parts, eqb-true}
 use Rattle.unix_calls.specs.declared.event.Rec.{Rec}
 use Rattle.call_journal.specs.Past.{since_last}
-use Rattle.call_journal.specs.Matching.{same_file}
-use Rattle.trace_rules.specs.Lists.{any_more}
-use Rattle.sprite_ids.specs.declared.names.FileId.{FileId}
-use Rattle.cache_worth.specs.declared.place.BlockAt.{BlockAt}
-use Rattle.cache_worth.specs.declared.place.FileAt.{FileAt}
+use Rattle.trace_rules.specs.Lists.{one_if, no_more, count_more, any_counted, any_since, any_more}
+use Rattle.trace_rules.specs.PlaceLaws.{use_is, place_is}
+use Rattle.trace_rules.specs.declared.place.BlockAt.{BlockAt}
+use Rattle.trace_rules.specs.declared.place.FileAt.{FileAt}
 use Rattle.cache_worth.specs.declared.since.Since.{Since}
 use Rattle.cache_worth.specs.declared.since.Step.{Step}
 use Rattle.cache_worth.specs.declared.since.Step.TheVariants as step
-use Rattle.cache_worth.specs.Lists.{one_if, count_more, any_either, any_counted, any_since, count_since}
-use Rattle.cache_worth.specs.Places.{same_place, same_use, file_of, has_block}
+use Rattle.cache_worth.specs.Lists.{any_either, count_since}
+use Rattle.trace_rules.specs.Places.{same_place, same_use, file_of, has_block}
 use Rattle.cache_worth.specs.Since.{count_or, takes_kept, takes_at, mark_kept, mark_at, is_kept, has_changed, takes_behind, mark_behind, changed_behind, StepsOn, begins_at, changes_at, takes_in, Reads, TellsSince}
 
 -- ---- looking
@@ -31,26 +29,10 @@ changed_law begins changes takes since records at told =
 
 -- ---- names that are equal
 
-same_files : (f g : FileId) → same_file f g ≡ true → f ≡ g
-same_files f g h =
-    let parts = and_parts (f.server == g.server) (f.number == g.number) h in
-    ap₂ (λ s n. record { server = s; number = n }) (eqb-true f.server g.server parts.0) (eqb-true f.number g.number parts.1)
-
-pub use_is : (a b : FileAt) → same_use a b ≡ true → a ≡ b
-use_is a b h =
-    let parts = and_parts (a.kernel == b.kernel) (same_file a.file b.file) h in
-    ap₂ (λ k f. record { kernel = k; file = f }) (eqb-true a.kernel b.kernel parts.0) (same_files a.file b.file parts.1)
-
 file_is : (a b : BlockAt) → same_place a b ≡ true → file_of a ≡ file_of b
-file_is a b h =
-    let parts = and_parts (a.kernel == b.kernel) (same_file a.file b.file && a.block.0 == b.block.0) h in
-    let file = and_parts (same_file a.file b.file) (a.block.0 == b.block.0) parts.1 in
-    ap₂ (λ k f. record { kernel = k; file = f }) (eqb-true a.kernel b.kernel parts.0) (same_files a.file b.file file.0)
+file_is a b h = ap file_of (place_is a b h)
 
 -- ---- one record more
-
-no_more : (n : ℕ) → n ≡ n + 0
-no_more n = omega arith
 
 taken : (takes : List (FileAt × ℕ)) (a file : FileAt) (b : Bool) → same_use a file ≡ b → count_or (cond b (Some (takes_at takes a + 1)) (takes_kept takes file)) ≡ takes_at takes file + one_if b
 taken takes a file true is = ap (λ f. takes_at takes f + 1) (use_is a file is)

@@ -1,8 +1,5 @@
 -- The stamps that kernels were given and took are told record by record.
-use Rattle.std.proofs.Common.{◌≡◌, ◌∙◌, ℕ, ◌==◌, Bool, true, false, cond, ◌&&◌, List, [], ◌∷◌, ◌++◌, Option, Some, None, nat_lt, refl, sym, ap, ap₂, arith}
-use Rattle.std.specs.List.{list_all}
-use Rattle.std.proofs.lemmas.List.Folds.{list_all-append}
-use Rattle.std.proofs.lemmas.Bool.{lt-ltb, ltb-true, ltb-false}
+use Rattle.std.proofs.Common.{◌≡◌, ◌∙◌, ℕ, ◌==◌, Bool, true, false, cond, ◌&&◌, List, Some, nat_lt, refl, sym, ap, ap₂}
 use Rattle.unix_calls.specs.declared.description.Description.{Description}
 use Rattle.unix_calls.specs.declared.event.Event.{Event}
 use Rattle.unix_calls.specs.declared.event.Event.TheVariants as event
@@ -11,14 +8,16 @@ use Rattle.call_journal.specs.Past.{Past, past_with}
 use Rattle.call_journal.specs.Matching.{same_file, has_event}
 use Rattle.call_journal.specs.Drops.{is_given}
 use Rattle.call_journal.specs.WorthCaches.{took_less}
-use Rattle.trace_rules.specs.Lists.{any_more}
-use Rattle.cache_worth.specs.declared.place.FileAt.{FileAt}
-use Rattle.cache_worth.specs.declared.place.StampAt.{StampAt}
+use Rattle.trace_rules.specs.Lists.{and_true, all_more, any_more}
+use Rattle.trace_rules.specs.Greatest.{is_less, later}
+use Rattle.trace_rules.specs.GreatestLaws.{later_less}
+use Rattle.trace_rules.specs.PlaceLaws.{use_is}
+use Rattle.trace_rules.specs.declared.place.FileAt.{FileAt}
+use Rattle.trace_rules.specs.declared.place.StampAt.{StampAt}
 use Rattle.cache_worth.specs.declared.stamps.Stamps.{Stamps}
 use Rattle.cache_worth.specs.Parts.{stamps_well}
-use Rattle.cache_worth.specs.Places.{same_use}
-use Rattle.cache_worth.specs.SinceLaws.{use_is}
-use Rattle.cache_worth.specs.Stamps.{greatest, has_stamp, is_less, may_take, later, greatest_behind, given_behind, TakesOn, takes_less, TellsStamps}
+use Rattle.trace_rules.specs.Places.{same_use, has_stamp}
+use Rattle.cache_worth.specs.Stamps.{greatest, may_take, greatest_behind, given_behind, TakesOn, takes_less, TellsStamps}
 
 -- ---- looking
 
@@ -32,40 +31,6 @@ pub stamps_told : (c : Description) (judge : Stamps) (past : Past) (rec : Rec) �
 stamps_told c judge past rec told = told_of judge past rec.kernel rec.event told
 
 -- ---- one record more
-
-and_true : (b : Bool) → (b && true) ≡ b
-and_true true = refl
-and_true false = refl
-
-all_more : (test : Rec → Bool) (records : List Rec) (rec : Rec) → list_all test (records ++ rec ∷ []) ≡ (list_all test records && test rec)
-all_more test records rec = list_all-append test records (rec ∷ []) ∙ ap (λ b. list_all test records && b) (and_true (test rec))
-
--- of two stamps both are less exactly where the greater one is
-second_less : (last stamp x : ℕ) (b : Bool) → nat_lt last stamp ≡ true → nat_lt stamp x ≡ b → b ≡ (nat_lt last x && b)
-second_less last stamp x true up is =
-    let a = ltb-true last stamp up in
-    let b = ltb-true stamp x is in
-    sym (ap (λ t. t && true) (lt-ltb last x (omega (arith, a, b))))
-second_less last stamp x false up is = sym (by (nat_lt last x))
-  where
-    by : (t : Bool) → (t && false) ≡ false
-    by true = refl
-    by false = refl
-
-first_less : (last stamp x : ℕ) (b : Bool) → nat_lt last stamp ≡ false → nat_lt last x ≡ b → b ≡ (b && nat_lt stamp x)
-first_less last stamp x true up is =
-    let a = ltb-false last stamp up in
-    let b = ltb-true last x is in
-    sym (lt-ltb stamp x (omega (arith, a, b)))
-first_less last stamp x false up is = refl
-
-greater_less : (last stamp x : ℕ) (b : Bool) → nat_lt last stamp ≡ b → nat_lt (cond {A = ℕ} b stamp last) x ≡ (nat_lt last x && nat_lt stamp x)
-greater_less last stamp x true is = second_less last stamp x (nat_lt stamp x) is refl
-greater_less last stamp x false is = first_less last stamp x (nat_lt last x) is refl
-
-later_less : (stamp : ℕ) (o : Option ℕ) (x : ℕ) → nat_lt (later stamp o) x ≡ (is_less o x && nat_lt stamp x)
-later_less stamp None x = refl
-later_less stamp (Some last) x = greater_less last stamp x (nat_lt last stamp) refl
 
 taken_by : (taken : List (FileAt × ℕ)) (from at : FileAt) (stamp x : ℕ) (b : Bool) → same_use from at ≡ b → is_less (cond b (Some (later stamp (greatest taken from))) (greatest taken at)) x ≡ (is_less (greatest taken at) x && cond {A = Bool} b (nat_lt stamp x) true)
 taken_by taken from at stamp x true is = ap (λ f. nat_lt (later stamp (greatest taken f)) x) (use_is from at is) ∙ later_less stamp (greatest taken at) x

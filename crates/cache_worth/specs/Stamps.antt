@@ -1,32 +1,21 @@
 -- The stamps of files that kernels were given and took.
-use Rattle.std.specs.Prelude.{◌≡◌, ℕ, ◌==◌, Bool, true, ◌&&◌, if◌then◌else◌, List, nat_lt, Option, Some, None}
+use Rattle.std.specs.Prelude.{◌≡◌, ℕ, Bool, true, ◌&&◌, if◌then◌else◌, List, Option, Some}
 use Rattle.std.specs.List.{list_any, list_all}
 use Rattle.std.specs.Map.{lookup}
 use Rattle.unix_calls.specs.declared.event.Event.{Event}
 use Rattle.unix_calls.specs.declared.event.Event.TheVariants as event
 use Rattle.unix_calls.specs.declared.event.Rec.{Rec}
-use Rattle.call_journal.specs.Matching.{same_file, has_event}
+use Rattle.call_journal.specs.Matching.{has_event}
 use Rattle.call_journal.specs.Drops.{is_given}
 use Rattle.call_journal.specs.WorthCaches.{took_less}
-use Rattle.cache_worth.specs.declared.place.FileAt.{FileAt}
-use Rattle.cache_worth.specs.declared.place.StampAt.{StampAt}
-use Rattle.cache_worth.specs.Places.{same_use}
-
--- the same stamp of a file for the same kernel
-abbrev pub same_stamp : StampAt → StampAt → Bool
-same_stamp a b = a.kernel == b.kernel && (same_file a.file b.file && a.stamp == b.stamp)
-
-abbrev pub has_stamp : List StampAt → StampAt → Bool
-has_stamp given at = list_any (same_stamp at) given
+use Rattle.trace_rules.specs.declared.place.FileAt.{FileAt}
+use Rattle.trace_rules.specs.declared.place.StampAt.{StampAt}
+use Rattle.trace_rules.specs.Greatest.{is_less, later}
+use Rattle.trace_rules.specs.Places.{same_use, same_stamp, has_stamp}
 
 -- the greatest stamp of a file that a kernel took
 abbrev pub greatest : List (FileAt × ℕ) → FileAt → Option ℕ
 greatest taken at = lookup (same_use at) taken
-
--- a stamp is greater than that one
-abbrev pub is_less : Option ℕ → ℕ → Bool
-is_less None stamp = true
-is_less (Some last) stamp = nat_lt last stamp
 
 -- a kernel may take a stamp of a file
 abbrev pub may_take : List (FileAt × ℕ) → List StampAt → ℕ → Event → Bool
@@ -34,11 +23,6 @@ may_take taken given kernel (event.Mode file stamp mode) =
     is_less (greatest taken (record { kernel = kernel; file = file })) stamp
     && has_stamp given (record { kernel = kernel; file = file; stamp = stamp })
 may_take taken given kernel _ = true
-
--- the greater one of a stamp and one that may be there
-abbrev pub later : ℕ → Option ℕ → ℕ
-later stamp None = stamp
-later stamp (Some last) = if nat_lt last stamp then stamp else last
 
 -- what is kept behind an event of a kernel
 abbrev pub greatest_behind : ℕ → Event → List (FileAt × ℕ) → FileAt → Option ℕ

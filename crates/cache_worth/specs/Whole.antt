@@ -1,30 +1,14 @@
 -- Caches are worth their moves exactly where each part says so.
-use Rattle.std.proofs.Common.{◌≡◌, ◌∙◌, ℕ, Bool, true, false, ◌&&◌, List, [], ◌∷◌, refl, sym, ap, ap₂}
+use Rattle.std.proofs.Common.{◌≡◌, ◌∙◌, ℕ, Bool, true, false, ◌&&◌, List, refl, sym, ap, ap₂}
 use Rattle.unix_calls.specs.declared.description.Description.{Description}
 use Rattle.unix_calls.specs.declared.event.SendKind.TheVariants as send
 use Rattle.unix_calls.specs.declared.event.Event.{Event}
 use Rattle.unix_calls.specs.declared.event.Event.TheVariants as event
 use Rattle.unix_calls.specs.declared.event.Rec.{Rec}
-use Rattle.call_journal.specs.Past.{Past, each_from, no_past, past_with}
+use Rattle.call_journal.specs.Past.{Past, each_from, no_past}
 use Rattle.call_journal.specs.WorthCaches.{caches_well, caches_are_worth}
+use Rattle.trace_rules.specs.EachLaws.{each_both, each_same}
 use Rattle.cache_worth.specs.Parts.{cleans_well, sends_back_well, fetches_anew, stamps_well, blocks_are_cleaned_once_sent, blocks_are_sent_once_changed, blocks_are_fetched_anew, stamps_are_taken_in_order, blocks_move_moderately}
-
-and_between : (a b c d : Bool) → ((a && b) && (c && d)) ≡ ((a && c) && (b && d))
-and_between true true c d = refl
-and_between true false true d = refl
-and_between true false false d = refl
-and_between false b c d = refl
-
--- a test that asks two things of each record
-each_both : (c : Description) (p q : Past → Rec → Bool) (past : Past) (trace : List Rec) → each_from c (λ past r rest. p past r && q past r) past trace ≡ (each_from c (λ past r rest. p past r) past trace && each_from c (λ past r rest. q past r) past trace)
-each_both c p q past [] = refl
-each_both c p q past (rec ∷ rest) =
-    ap (λ b. (p past rec && q past rec) && b) (each_both c p q (past_with c rec past) rest)
-    ∙ and_between (p past rec) (q past rec) (each_from c (λ past r rest. p past r) (past_with c rec past) rest) (each_from c (λ past r rest. q past r) (past_with c rec past) rest)
-
-each_same : (c : Description) (p q : Past → Rec → Bool) (past : Past) (trace : List Rec) → ((past : Past) (rec : Rec) → p past rec ≡ q past rec) → each_from c (λ past r rest. p past r) past trace ≡ each_from c (λ past r rest. q past r) past trace
-each_same c p q past [] same = refl
-each_same c p q past (rec ∷ rest) same = ap₂ (λ a b. a && b) (same past rec) (each_same c p q (past_with c rec past) rest same)
 
 -- three things of each record that are so where it is of another kind
 with_none : (b : Bool) → b ≡ (b && true)

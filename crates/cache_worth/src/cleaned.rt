@@ -4,11 +4,10 @@ ghost use Rattle.cache_worth.specs.BlockLaws.{cleaned_told, cleaned_told_on};
 ghost use Rattle.cache_worth.specs.Parts.{blocks_are_cleaned_once_sent, cleans_well};
 ghost use Rattle.cache_worth.specs.Since.{StepsOn, TellsSince};
 
-use crate::place::block_at;
 use crate::since::{Since, Step};
 use sprite_ids::NoMemory;
 use std::alloc::Global;
-use trace_rules::{LooksBack, each_keeps};
+use trace_rules::{LooksBack, block_at, each_keeps};
 use unix_calls::{Description, Event, Rec, SendKind};
 
 /// Whether a block of the trace becomes clean at a kernel only where the kernel sent it to its server since it last did (this

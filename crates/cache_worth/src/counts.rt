@@ -2,7 +2,7 @@ ghost use Rattle.std.specs.Prelude.{◌≡◌, ◌+◌, nat_le, IfOk, OnOk};
 ghost use Rattle.call_journal.specs.Matching.{is_any_fetch};
 ghost use Rattle.call_journal.specs.WorthCaches.{is_any_dirtied, is_any_filled, is_motive};
 ghost use Rattle.cache_worth.specs.Counts.{CountsOn, TellsCounts, are_few_in, counts_at, is_few, one_more};
-ghost use Rattle.cache_worth.specs.Lists.{one_if};
+ghost use Rattle.trace_rules.specs.Lists.{one_if};
 ghost use Rattle.cache_worth.specs.Parts.{blocks_move_moderately};
 
 use indexmap::IndexMap;

@@ -4,11 +4,10 @@ ghost use Rattle.cache_worth.specs.BlockLaws.{fetched_told, fetched_told_on};
 ghost use Rattle.cache_worth.specs.Parts.{blocks_are_fetched_anew, fetches_anew};
 ghost use Rattle.cache_worth.specs.Since.{StepsOn, TellsSince};
 
-use crate::place::{BlockAt, block_at, file_at};
 use crate::since::{Since, Step};
 use sprite_ids::NoMemory;
 use std::alloc::Global;
-use trace_rules::{LooksBack, each_keeps};
+use trace_rules::{BlockAt, LooksBack, block_at, each_keeps, file_at};
 use unix_calls::{Description, Event, Rec, SendKind};
 
 /// Whether a kernel of the trace fetches a block again only where it came in, or the kernel took a stamp of its file, since it was

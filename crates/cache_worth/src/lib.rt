@@ -4,7 +4,6 @@
 mod cleaned;
 mod counts;
 mod fetched;
-mod place;
 mod sent;
 mod since;
 mod stamps;

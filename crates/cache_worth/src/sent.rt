@@ -4,11 +4,10 @@ ghost use Rattle.cache_worth.specs.BlockLaws.{sent_told, sent_told_on};
 ghost use Rattle.cache_worth.specs.Parts.{blocks_are_sent_once_changed, sends_back_well};
 ghost use Rattle.cache_worth.specs.Since.{StepsOn, TellsSince};
 
-use crate::place::{block_at, file_at};
 use crate::since::{Since, Step};
 use sprite_ids::NoMemory;
 use std::alloc::Global;
-use trace_rules::{LooksBack, each_keeps};
+use trace_rules::{LooksBack, block_at, each_keeps, file_at};
 use unix_calls::{Description, Event, Rec, SendKind};
 
 /// Whether a kernel of the trace sends a block to its server only where it made the block dirty, or took a stamp of its file, since

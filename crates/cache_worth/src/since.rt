@@ -1,11 +1,11 @@
 ghost use Rattle.std.specs.Prelude.{◌≡◌, ◌+◌, [], IfOk, OnOk};
-ghost use Rattle.cache_worth.specs.Places.{file_of};
+ghost use Rattle.trace_rules.specs.Places.{file_of};
 ghost use Rattle.cache_worth.specs.Since.{StepsOn, has_begun, has_changed, mark_at, takes_at};
 
-use crate::place::{BlockAt, FileAt};
 use indexmap::{IndexMap, IndexSet};
 use sprite_ids::NoMemory;
 use std::alloc::Global;
+use trace_rules::{BlockAt, FileAt};
 
 /// What a record does to what is kept of blocks (this project).
 #[derive(Clone, Copy)]

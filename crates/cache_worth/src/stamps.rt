@@ -1,13 +1,13 @@
 ghost use Rattle.std.specs.Prelude.{◌≡◌, IfOk, OnOk};
 ghost use Rattle.cache_worth.specs.Parts.{stamps_are_taken_in_order, stamps_well};
-ghost use Rattle.cache_worth.specs.Stamps.{TakesOn, TellsStamps, greatest, is_less, later, may_take};
+ghost use Rattle.trace_rules.specs.Greatest.{is_less, later};
+ghost use Rattle.cache_worth.specs.Stamps.{TakesOn, TellsStamps, greatest, may_take};
 ghost use Rattle.cache_worth.specs.StampLaws.{stamps_told, stamps_told_on};
 
-use crate::place::{FileAt, StampAt, file_at, stamp_at};
 use indexmap::{IndexMap, IndexSet};
 use sprite_ids::NoMemory;
 use std::alloc::Global;
-use trace_rules::{LooksBack, each_keeps};
+use trace_rules::{FileAt, LooksBack, StampAt, each_keeps, file_at, stamp_at};
 use unix_calls::{Description, Event, Rec};
 
 /// Whether a kernel of the trace takes a stamp of a file only where a grant or callback with it went to the kernel, and the stamp

@@ -17,7 +17,7 @@ use Rattle.file_views.specs.BytesLaw.{entered_by}
 use Rattle.file_views.proofs.LayerLaws.{layers_happened, limits_happened, limits_stay}
 use Rattle.file_views.proofs.EnterLaws.{StandsAt, stood_at, coherent_at, Enters, enters_by, stays_by, new_stands}
 
-layers_of : (z : Setting) (v : View) → Sound z v → Layers z v
+pub layers_of : (z : Setting) (v : View) → Sound z v → Layers z v
 layers_of z v s = record {
   shapes = s.shapes;
   streams = s.streams;

@@ -1,4 +1,3 @@
-pub mod OrderLaws
 pub mod WithinLaws
 pub mod ListingLaws
 pub mod ListLaws

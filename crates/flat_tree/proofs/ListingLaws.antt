@@ -19,8 +19,7 @@ use Rattle.unix_calls.specs.Tree.{and_name, looked_up, name_below, names_in as u
 use Rattle.tree_laws.specs.Trees.{AreNamedOnce, Parts}
 use Rattle.tree_laws.proofs.MakeLaws.{below_is, same_on}
 use Rattle.flat_tree.specs.Listings.{AreAscending}
-use Rattle.unix_world.proofs.OrderLaws.{Ranked, Equal, Before, Behind, behind, apart, over}
-use Rattle.flat_tree.proofs.OrderLaws.{text_order}
+use Rattle.unix_world.proofs.OrderLaws.{Ranked, Equal, Before, Behind, behind, apart, over, text_order}
 
 -- ---- how often a name stands in a list
 

@@ -12,17 +12,17 @@ use Rattle.call_journal.specs.Past.{Past, is_moving, past_with, some_record, whe
 use Rattle.call_journal.specs.Calls.{move_target}
 use Rattle.call_journal.specs.Matching.{is_at, is_thaw_of}
 use Rattle.call_journal.specs.Moves.{arrives_at, kernel_named, target_on_way}
-use Rattle.place_rules.specs.Lists.{any_more, or_turned}
+use Rattle.trace_rules.specs.Lists.{any_more, or_turned}
 use Rattle.move_rules.specs.declared.arrivals.Arrival.{Arrival}
 use Rattle.move_rules.specs.declared.arrivals.Arrivals.{Arrivals}
 use Rattle.move_rules.specs.declared.arrivals.ThawAt.{ThawAt}
 use Rattle.move_rules.specs.declared.call_at.CallAt.{CallAt}
-use Rattle.move_rules.specs.declared.whereabouts.At.{At}
+use Rattle.trace_places.specs.declared.places.Place.{Place}
 use Rattle.move_rules.specs.Arrivals.{ArrivalsOn, Counted, DuesOn, TellsArrivals, arrival_at, arrival_behind, arrival_on, due_behind, is_astray, is_elsewhere, is_thaw, strays, thaws_of, was_split, way_target}
 use Rattle.place_rules.specs.PastLaws.{some_more}
 use Rattle.move_rules.proofs.RecordLaws.{some_same}
 use Rattle.place_rules.specs.Pasts.{IsWhole}
-use Rattle.move_rules.specs.Whereabouts.{TellsWhere, at_of, is_moving_at}
+use Rattle.trace_places.specs.Places.{TellsPlaces, place_kept, is_on_its_way}
 use Rattle.move_rules.proofs.WhereLaws.{moving_told}
 
 -- ---- what an event does to a call
@@ -52,10 +52,10 @@ way_by c at rec named own before (Some name) true m true is counts none =
     refl none
 
 -- by where the process is
-way_step : (c : Description) (places : List (ℕ × At)) (past : Past) (kernel : ℕ) (e : Event) (thaws : List (ThawAt × ℕ)) (at : CallAt) (before : Option Arrival) → TellsWhere places past.processes → WayStep c at (record { kernel = kernel; event = e }) (λ k. thaws_of thaws (record { pid = at.pid; kernel = k })) before (arrival_on c places e thaws at before) (target_on_way past at.pid at.number e)
+way_step : (c : Description) (places : List (ℕ × Place)) (past : Past) (kernel : ℕ) (e : Event) (thaws : List (ThawAt × ℕ)) (at : CallAt) (before : Option Arrival) → TellsPlaces places past.processes → WayStep c at (record { kernel = kernel; event = e }) (λ k. thaws_of thaws (record { pid = at.pid; kernel = k })) before (arrival_on c places e thaws at before) (target_on_way past at.pid at.number e)
 way_step c places past kernel (event.Enter entry) thaws at before where_is =
-    way_by c at (record { kernel = kernel; event = event.Enter entry }) (λ k. thaws_of thaws (record { pid = entry.pid; kernel = k })) (λ k. thaws_of thaws (record { pid = at.pid; kernel = k })) before (move_target entry.call entry.reply) (entry.pid == at.pid && entry.number == at.number) (is_moving_at (at_of places entry.pid)) (is_moving past at.pid)
-    (λ same. ap (λ p. is_moving_at (at_of places p)) (eqb-true entry.pid at.pid (and_parts (entry.pid == at.pid) (entry.number == at.number) same).0) ∙ ap is_moving_at (where_is at.pid) ∙ moving_told (whereabouts_of past.processes at.pid))
+    way_by c at (record { kernel = kernel; event = event.Enter entry }) (λ k. thaws_of thaws (record { pid = entry.pid; kernel = k })) (λ k. thaws_of thaws (record { pid = at.pid; kernel = k })) before (move_target entry.call entry.reply) (entry.pid == at.pid && entry.number == at.number) (is_on_its_way (place_kept places entry.pid)) (is_moving past at.pid)
+    (λ same. ap (λ p. is_on_its_way (place_kept places p)) (eqb-true entry.pid at.pid (and_parts (entry.pid == at.pid) (entry.number == at.number) same).0) ∙ ap is_on_its_way (where_is at.pid) ∙ moving_told (whereabouts_of past.processes at.pid))
     (λ same k. ap (λ p. thaws_of thaws (record { pid = p; kernel = k })) (eqb-true entry.pid at.pid (and_parts (entry.pid == at.pid) (entry.number == at.number) same).0))
     (λ k. and_false (kernel == k))
 way_step c places past kernel (event.Burst pid count) thaws at before where_is = Stays refl refl
@@ -198,7 +198,7 @@ counted_step c at rec thaws later before after target more few (Goes name goes l
 
 -- ---- one record more
 
-pub arrivals_on : (c : Description) (old new : Arrivals) (places : List (ℕ × At)) (past : Past) (rec : Rec) → IsWhole c past → TellsWhere places past.processes → TellsArrivals c old past → ArrivalsOn c places rec old new → TellsArrivals c new (past_with c rec past)
+pub arrivals_on : (c : Description) (old new : Arrivals) (places : List (ℕ × Place)) (past : Past) (rec : Rec) → IsWhole c past → TellsPlaces places past.processes → TellsArrivals c old past → ArrivalsOn c places rec old new → TellsArrivals c new (past_with c rec past)
 arrivals_on c old new places past rec whole where_is tells more = record {
   stray = λ at kernel.
       ap (λ o. strays o kernel) (more.dues at)
@@ -230,7 +230,7 @@ due_if dues pid number target thaws due at true is made =
     ∙ ap₂ (λ p n. arrival_behind target thaws (arrival_at dues (record { pid = p; number = n }))) (eqb-true pid at.pid same.0) (eqb-true number at.number same.1))
 due_if dues pid number target thaws due at false is made = refl
 
-pub dues_on : (c : Description) (places : List (ℕ × At)) (e : Event) (entry : Entry) (thaws : List (ThawAt × ℕ)) (before after : List (CallAt × Arrival)) (target count : ℕ) (due : Arrival) → e ≡ event.Enter entry → way_target c places entry ≡ Some target → count ≡ thaws_of thaws (record { pid = entry.pid; kernel = target }) → due ≡ arrival_behind target count (arrival_at before (record { pid = entry.pid; number = entry.number })) → ((at : CallAt) → arrival_at after at ≡ cond (entry.pid == at.pid && entry.number == at.number) (Some due) (arrival_at before at)) → DuesOn c places e thaws before after
+pub dues_on : (c : Description) (places : List (ℕ × Place)) (e : Event) (entry : Entry) (thaws : List (ThawAt × ℕ)) (before after : List (CallAt × Arrival)) (target count : ℕ) (due : Arrival) → e ≡ event.Enter entry → way_target c places entry ≡ Some target → count ≡ thaws_of thaws (record { pid = entry.pid; kernel = target }) → due ≡ arrival_behind target count (arrival_at before (record { pid = entry.pid; number = entry.number })) → ((at : CallAt) → arrival_at after at ≡ cond (entry.pid == at.pid && entry.number == at.number) (Some due) (arrival_at before at)) → DuesOn c places e thaws before after
 dues_on c places e entry thaws before after target count due is way counted made put at =
     put at
     ∙ due_if before entry.pid entry.number target count due at (entry.pid == at.pid && entry.number == at.number) refl made

@@ -16,14 +16,14 @@ use Rattle.call_journal.specs.Calls.{or_else}
 use Rattle.call_journal.specs.Matching.{has_event, is_any_issue, is_at, is_freeze_of, is_issue_of, is_return}
 use Rattle.call_journal.specs.Moves as moves
 use Rattle.call_journal.specs.Moves.{Birth}
-use Rattle.place_rules.specs.Lists.{any_more, or_turned}
+use Rattle.trace_rules.specs.Lists.{any_more, or_turned}
 use Rattle.move_rules.specs.declared.call_at.CallAt.{CallAt}
 use Rattle.move_rules.specs.declared.evictions.DueAt.{DueAt}
 use Rattle.move_rules.specs.declared.evictions.Evictions.{Evictions}
 use Rattle.move_rules.specs.declared.evictions.UsedAt.{UsedAt}
 use Rattle.move_rules.specs.declared.movers.Mover.{Mover}
 use Rattle.move_rules.specs.declared.movers.Movers.{Movers}
-use Rattle.move_rules.specs.declared.whereabouts.At.{At}
+use Rattle.trace_places.specs.declared.places.Place.{Place}
 use Rattle.move_rules.specs.Calls.{has_call}
 use Rattle.move_rules.specs.Evictions.{EvictionsOn, LeftAs, TellsEvictions, as_birth, birth_at, birth_in, due_at, due_in, has_line, is_born_by, is_left_by, is_left_in, is_reached, is_use, issues_of, leaves, stops_behind, stops_of, uses_of}
 use Rattle.move_rules.specs.Movers.{MoversOn, TellsMovers, frozen_by_itself, mover_behind, mover_of, moves_itself}
@@ -31,7 +31,8 @@ use Rattle.move_rules.proofs.MoverLaws.{own_told}
 use Rattle.place_rules.specs.PastLaws.{some_more}
 use Rattle.move_rules.proofs.RecordLaws.{some_and, some_same}
 use Rattle.place_rules.specs.Pasts.{IsWhole}
-use Rattle.move_rules.specs.Whereabouts.{TellsWhere, is_placed_at}
+use Rattle.trace_places.specs.Places.{TellsPlaces}
+use Rattle.move_rules.specs.Whereabouts.{is_placed_at}
 use Rattle.move_rules.proofs.WhereLaws.{placed_told}
 
 -- ---- counts
@@ -127,7 +128,7 @@ born_by returned rs (Some at) told = told at
 
 -- ---- a process that leaves
 
-leaves_told : (c : Description) (movers : Movers) (evictions : Evictions) (places : List (ℕ × At)) (past : Past) (host pid : ℕ) → TellsWhere places past.processes → TellsMovers c movers past → TellsEvictions c movers evictions past → leaves places evictions.births.entries movers.returned.keys host pid ≡ (moves.is_placed past pid host && not (home_of pid == host) && moves.is_born (moves.birth_of pid past.records) past.records)
+leaves_told : (c : Description) (movers : Movers) (evictions : Evictions) (places : List (ℕ × Place)) (past : Past) (host pid : ℕ) → TellsPlaces places past.processes → TellsMovers c movers past → TellsEvictions c movers evictions past → leaves places evictions.births.entries movers.returned.keys host pid ≡ (moves.is_placed past pid host && not (home_of pid == host) && moves.is_born (moves.birth_of pid past.records) past.records)
 leaves_told c movers evictions places past host pid where_is tells evicts =
     ap₂ (λ a b. a && not (home_of pid == host) && b)
     (ap (λ o. is_placed_at o host) (where_is pid) ∙ placed_told (whereabouts_of past.processes pid) host)
@@ -156,7 +157,7 @@ none_due : (a b d e f : Bool) → false ≡ (((((a && false) && b) && d) && e) &
 none_due true b d e f = refl
 none_due false b d e f = refl
 
-due_told : (c : Description) (movers : Movers) (evictions : Evictions) (places : List (ℕ × At)) (past : Past) (kernel : ℕ) (e : Event) (line : EvictLine) (pid : ℕ) → TellsWhere places past.processes → TellsMovers c movers past → TellsEvictions c movers evictions past → has_line c.evicts line.host line.after ≡ true → (is_reached c.evicts evictions.issues.entries kernel e (record { host = line.host; after = line.after; pid = pid }) && leaves places evictions.births.entries movers.returned.keys line.host pid) ≡ moves.is_due_at line past pid (record { kernel = kernel; event = e })
+due_told : (c : Description) (movers : Movers) (evictions : Evictions) (places : List (ℕ × Place)) (past : Past) (kernel : ℕ) (e : Event) (line : EvictLine) (pid : ℕ) → TellsPlaces places past.processes → TellsMovers c movers past → TellsEvictions c movers evictions past → has_line c.evicts line.host line.after ≡ true → (is_reached c.evicts evictions.issues.entries kernel e (record { host = line.host; after = line.after; pid = pid }) && leaves places evictions.births.entries movers.returned.keys line.host pid) ≡ moves.is_due_at line past pid (record { kernel = kernel; event = e })
 due_told c movers evictions places past kernel (event.Issue p n call) line pid where_is tells evicts there =
     ap₂ (λ a b. a && b)
     (reached_if c.evicts evictions.issues.entries kernel line.host line.after past.records (kernel == line.host) refl evicts.issues there)
@@ -226,7 +227,7 @@ some_cond : (b : Bool) (n : ℕ) (o : Option ℕ) → is_some (cond b (Some n) o
 some_cond true n o = refl
 some_cond false n o = refl
 
-pub evictions_on : (c : Description) (movers later : Movers) (old new : Evictions) (places : List (ℕ × At)) (past : Past) (rec : Rec) → IsWhole c past → TellsWhere places past.processes → TellsMovers c movers past → TellsEvictions c movers old past → MoversOn rec.event movers later → EvictionsOn c places movers rec old new → TellsEvictions c later new (past_with c rec past)
+pub evictions_on : (c : Description) (movers later : Movers) (old new : Evictions) (places : List (ℕ × Place)) (past : Past) (rec : Rec) → IsWhole c past → TellsPlaces places past.processes → TellsMovers c movers past → TellsEvictions c movers old past → MoversOn rec.event movers later → EvictionsOn c places movers rec old new → TellsEvictions c later new (past_with c rec past)
 evictions_on c movers later old new places past rec whole where_is tells evicts moved more = record {
   issues = λ kernel. issues_on kernel rec (issues_of old.issues.entries kernel) (issues_of new.issues.entries kernel) past.records (evicts.issues kernel) (more.issues kernel);
   uses = λ at.

@@ -1,6 +1,5 @@
 mod RecordLaws
 mod WhereLaws
-mod HomeLaws
 mod MoverLaws
 mod MarkLaws
 mod EvictionLaws

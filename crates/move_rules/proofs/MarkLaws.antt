@@ -14,9 +14,10 @@ use Rattle.move_rules.specs.declared.evictions.DueAt.{DueAt}
 use Rattle.move_rules.specs.declared.evictions.Evictions.{Evictions}
 use Rattle.move_rules.specs.declared.evictions.Marking.{Marking}
 use Rattle.move_rules.specs.declared.movers.Movers.{Movers}
-use Rattle.move_rules.specs.declared.whereabouts.At.{At}
+use Rattle.trace_places.specs.declared.places.Place.{Place}
 use Rattle.move_rules.specs.Evictions.{DueOn, MarksOn, MarksOne, PutsDue, birth_at, due_at, has_line, is_born_by, is_reached, issues_of, leaves, mark_all, marked_stops, same_due, stops_behind, stops_of}
-use Rattle.move_rules.specs.Whereabouts.{at_of, is_placed_at}
+use Rattle.trace_places.specs.Places.{place_kept}
+use Rattle.move_rules.specs.Whereabouts.{is_placed_at}
 
 -- ---- each one is among those that were gone through
 
@@ -61,19 +62,19 @@ marked_by leaving stops host after (k ∷ ks) at before =
 
 -- ---- those that leave are kept
 
-kept_if : (b : Bool) (at : At) (any : Bool) (rest : Option At) (looks : Option At → Bool) → (any && looks rest) ≡ looks rest → ((b || any) && looks (cond b (Some at) rest)) ≡ looks (cond b (Some at) rest)
+kept_if : (b : Bool) (at : Place) (any : Bool) (rest : Option Place) (looks : Option Place → Bool) → (any && looks rest) ≡ looks rest → ((b || any) && looks (cond b (Some at) rest)) ≡ looks (cond b (Some at) rest)
 kept_if true at any rest looks more = refl
 kept_if false at any rest looks more = more
 
-kept_by : (pid : ℕ) (places : List (ℕ × At)) (looks : Option At → Bool) → looks None ≡ false → (list_any (λ k. k == pid) (keys_of places) && looks (at_of places pid)) ≡ looks (at_of places pid)
+kept_by : (pid : ℕ) (places : List (ℕ × Place)) (looks : Option Place → Bool) → looks None ≡ false → (list_any (λ k. k == pid) (keys_of places) && looks (place_kept places pid)) ≡ looks (place_kept places pid)
 kept_by pid [] looks none = sym none
 kept_by pid (e ∷ es) looks none =
-    ap (λ b. (b || list_any (λ k. k == pid) (keys_of es)) && looks (cond (pid == e.0) (Some e.1) (at_of es pid))) (turned e.0 pid (e.0 == pid) (pid == e.0) refl refl)
-    ∙ kept_if (pid == e.0) e.1 (list_any (λ k. k == pid) (keys_of es)) (at_of es pid) looks (kept_by pid es looks none)
+    ap (λ b. (b || list_any (λ k. k == pid) (keys_of es)) && looks (cond (pid == e.0) (Some e.1) (place_kept es pid))) (turned e.0 pid (e.0 == pid) (pid == e.0) refl refl)
+    ∙ kept_if (pid == e.0) e.1 (list_any (λ k. k == pid) (keys_of es)) (place_kept es pid) looks (kept_by pid es looks none)
 
 -- ---- what becomes due
 
-due_if : (lines : List EvictLine) (n host kernel after : ℕ) (places : List (ℕ × At)) (births : List (ℕ × CallAt)) (returned : List CallAt) (pid here there : ℕ) (before : Option ℕ) (b d : Bool) → (kernel == host) ≡ b → has_line lines kernel n ≡ true → here ≡ there → cond ((b && d) && leaves places births returned kernel pid) (Some here) before ≡ cond (((b && d) && has_line lines kernel n) && leaves places births returned host pid) (Some there) before
+due_if : (lines : List EvictLine) (n host kernel after : ℕ) (places : List (ℕ × Place)) (births : List (ℕ × CallAt)) (returned : List CallAt) (pid here there : ℕ) (before : Option ℕ) (b d : Bool) → (kernel == host) ≡ b → has_line lines kernel n ≡ true → here ≡ there → cond ((b && d) && leaves places births returned kernel pid) (Some here) before ≡ cond (((b && d) && has_line lines kernel n) && leaves places births returned host pid) (Some there) before
 due_if lines n host kernel after places births returned pid here there before false d is has same = refl
 due_if lines n host kernel after places births returned pid here there before true false is has same = refl
 due_if lines n host kernel after places births returned pid here there before true true is has same =
@@ -84,7 +85,7 @@ or_false : (b : Bool) → b ≡ (b || false)
 or_false true = refl
 or_false false = refl
 
-pub due_marked : (c : Description) (issues : List (ℕ × ℕ)) (kernel p number : ℕ) (call : Call) (places : List (ℕ × At)) (births : List (ℕ × CallAt)) (movers : Movers) (at : DueAt) (before : Option ℕ) → has_line c.evicts kernel (issues_of issues kernel + 1) ≡ true → mark_all (leaves places births movers.returned.keys kernel) (marked_stops (record { host = kernel; after = issues_of issues kernel + 1; issuer = p }) movers) kernel (issues_of issues kernel + 1) (keys_of places) at before ≡ cond (is_reached c.evicts issues kernel (event.Issue p number call) at && leaves places births movers.returned.keys at.host at.pid) (Some (stops_behind (event.Issue p number call) at.pid (stops_of movers at.pid))) before
+pub due_marked : (c : Description) (issues : List (ℕ × ℕ)) (kernel p number : ℕ) (call : Call) (places : List (ℕ × Place)) (births : List (ℕ × CallAt)) (movers : Movers) (at : DueAt) (before : Option ℕ) → has_line c.evicts kernel (issues_of issues kernel + 1) ≡ true → mark_all (leaves places births movers.returned.keys kernel) (marked_stops (record { host = kernel; after = issues_of issues kernel + 1; issuer = p }) movers) kernel (issues_of issues kernel + 1) (keys_of places) at before ≡ cond (is_reached c.evicts issues kernel (event.Issue p number call) at && leaves places births movers.returned.keys at.host at.pid) (Some (stops_behind (event.Issue p number call) at.pid (stops_of movers at.pid))) before
 due_marked c issues kernel p number call places births movers at before has =
     marked_by (leaves places births movers.returned.keys kernel) (marked_stops (record { host = kernel; after = issues_of issues kernel + 1; issuer = p }) movers) kernel (issues_of issues kernel + 1) (keys_of places) at before
     ∙ ap (λ b. cond b (Some (marked_stops (record { host = kernel; after = issues_of issues kernel + 1; issuer = p }) movers at.pid)) before)
@@ -102,7 +103,7 @@ none_due true true e = refl
 none_due true false e = refl
 none_due false d e = refl
 
-pub none_marked_due : (c : Description) (issues : List (ℕ × ℕ)) (kernel p number : ℕ) (call : Call) (places : List (ℕ × At)) (births : List (ℕ × CallAt)) (movers : Movers) (at : DueAt) (before : Option ℕ) → has_line c.evicts kernel (issues_of issues kernel + 1) ≡ false → before ≡ cond (is_reached c.evicts issues kernel (event.Issue p number call) at && leaves places births movers.returned.keys at.host at.pid) (Some (stops_behind (event.Issue p number call) at.pid (stops_of movers at.pid))) before
+pub none_marked_due : (c : Description) (issues : List (ℕ × ℕ)) (kernel p number : ℕ) (call : Call) (places : List (ℕ × Place)) (births : List (ℕ × CallAt)) (movers : Movers) (at : DueAt) (before : Option ℕ) → has_line c.evicts kernel (issues_of issues kernel + 1) ≡ false → before ≡ cond (is_reached c.evicts issues kernel (event.Issue p number call) at && leaves places births movers.returned.keys at.host at.pid) (Some (stops_behind (event.Issue p number call) at.pid (stops_of movers at.pid))) before
 none_marked_due c issues kernel p number call places births movers at before has =
     sym (ap (λ b. cond b (Some (stops_behind (event.Issue p number call) at.pid (stops_of movers at.pid))) before)
     (ap (λ h. ((kernel == at.host && issues_of issues kernel + 1 == at.after) && h) && leaves places births movers.returned.keys at.host at.pid) has
@@ -115,12 +116,12 @@ one_marked true true here there before is same = ap (λ (n : ℕ). Some n) same
 one_marked true false here there before is same = absurd (cc is)
 one_marked false leaving here there before is same = refl
 
-pub marks_one : (marking : Marking) (places : List (ℕ × At)) (births : List (ℕ × CallAt)) (movers : Movers) (pid stops : ℕ) (before after : List (DueAt × ℕ)) → leaves places births movers.returned.keys marking.host pid ≡ true → stops ≡ marked_stops marking movers pid → PutsDue (record { host = marking.host; after = marking.after; pid = pid }) stops before after → MarksOne marking places births movers pid before after
+pub marks_one : (marking : Marking) (places : List (ℕ × Place)) (births : List (ℕ × CallAt)) (movers : Movers) (pid stops : ℕ) (before after : List (DueAt × ℕ)) → leaves places births movers.returned.keys marking.host pid ≡ true → stops ≡ marked_stops marking movers pid → PutsDue (record { host = marking.host; after = marking.after; pid = pid }) stops before after → MarksOne marking places births movers pid before after
 marks_one marking places births movers pid stops before after leaving is puts at =
     puts at
     ∙ one_marked (same_due (record { host = marking.host; after = marking.after; pid = pid }) at) (leaves places births movers.returned.keys marking.host pid) (marked_stops marking movers pid) stops (due_at before at) leaving is
 
-pub marks_due : (c : Description) (old : Evictions) (places : List (ℕ × At)) (movers : Movers) (rec : Rec) (p number next : ℕ) (call : Call) (before after : List (DueAt × ℕ)) → rec.event ≡ event.Issue p number call → next ≡ issues_of old.issues.entries rec.kernel + 1 → has_line c.evicts rec.kernel next ≡ true → MarksOn (record { host = rec.kernel; after = next; issuer = p }) places old.births.entries movers before after → DueOn c old places movers rec before after
+pub marks_due : (c : Description) (old : Evictions) (places : List (ℕ × Place)) (movers : Movers) (rec : Rec) (p number next : ℕ) (call : Call) (before after : List (DueAt × ℕ)) → rec.event ≡ event.Issue p number call → next ≡ issues_of old.issues.entries rec.kernel + 1 → has_line c.evicts rec.kernel next ≡ true → MarksOn (record { host = rec.kernel; after = next; issuer = p }) places old.births.entries movers before after → DueOn c old places movers rec before after
 marks_due c old places movers rec p number next call before after is count has marks at =
     marks at
     ∙ ap (λ n. mark_all (leaves places old.births.entries movers.returned.keys rec.kernel) (marked_stops (record { host = rec.kernel; after = n; issuer = p }) movers) rec.kernel n (keys_of places) at (due_at before at)) count

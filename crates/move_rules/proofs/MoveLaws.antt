@@ -20,7 +20,7 @@ use Rattle.move_rules.specs.declared.evictions.UsedAt.{UsedAt}
 use Rattle.move_rules.specs.declared.movers.Mover.{Mover}
 use Rattle.move_rules.specs.declared.movers.Movers.{Movers}
 use Rattle.move_rules.specs.declared.moves.Moves.{Moves}
-use Rattle.move_rules.specs.declared.whereabouts.At.{At}
+use Rattle.trace_places.specs.declared.places.Place.{Place}
 use Rattle.move_rules.proofs.ArrivalLaws.{arrivals_on}
 use Rattle.move_rules.proofs.EvictionLaws.{evictions_on, overdue_told, unused_told}
 use Rattle.move_rules.proofs.MoverLaws.{movers_on, own_told}
@@ -30,20 +30,22 @@ use Rattle.move_rules.specs.Evictions.{LeftAs, TellsEvictions, as_birth, birth_a
 use Rattle.move_rules.specs.Movers.{TellsMovers, asked_at, mover_of}
 use Rattle.move_rules.specs.Moves.{KeepsMoving, TellsMoves, is_there, leads_well, moves_well}
 use Rattle.place_rules.specs.PastLaws.{whole_on}
-use Rattle.move_rules.specs.Whereabouts.{TellsWhere, at_of, is_moving_at, is_placed_at}
-use Rattle.move_rules.proofs.WhereLaws.{moving_told, placed_told, where_told}
+use Rattle.trace_places.specs.PlaceLaws.{places_more}
+use Rattle.trace_places.specs.Places.{TellsPlaces, place_kept, is_on_its_way}
+use Rattle.move_rules.specs.Whereabouts.{is_placed_at}
+use Rattle.move_rules.proofs.WhereLaws.{moving_told, placed_told}
 
 -- ---- judging
 
 there_told : (c : Description) (judge : Moves) (past : Past) (pid kernel : ℕ) → TellsMoves c judge past → is_there judge pid kernel ≡ rule.is_placed past pid kernel
 there_told c judge past pid kernel tells = ap (λ o. is_placed_at o kernel) (tells.places pid) ∙ placed_told (whereabouts_of past.processes pid) kernel
 
-leads_told : (c : Description) (places : List (ℕ × At)) (past : Past) (pid : ℕ) (t : Option (List ℕ)) → TellsWhere places past.processes → leads_well (option_map (rule.kernel_named c) t) (at_of places pid) ≡ rule.moves_to c past pid t
+leads_told : (c : Description) (places : List (ℕ × Place)) (past : Past) (pid : ℕ) (t : Option (List ℕ)) → TellsPlaces places past.processes → leads_well (option_map (rule.kernel_named c) t) (place_kept places pid) ≡ rule.moves_to c past pid t
 leads_told c places past pid None where_is = refl
 leads_told c places past pid (Some name) where_is =
     ap₂ (λ a b. a || b)
     (ap (λ o. is_placed_at o (rule.kernel_named c name)) (where_is pid) ∙ placed_told (whereabouts_of past.processes pid) (rule.kernel_named c name))
-    (ap is_moving_at (where_is pid) ∙ moving_told (whereabouts_of past.processes pid))
+    (ap is_on_its_way (where_is pid) ∙ moving_told (whereabouts_of past.processes pid))
 
 told_by : (c : Description) (judge : Moves) (past : Past) (kernel : ℕ) (e : Event) → TellsMoves c judge past → moves_well c judge kernel e (caller_at c past e) ≡ rule.runs_well c past kernel e
 told_by c judge past kernel (event.Burst pid count) tells = there_told c judge past pid kernel tells
@@ -65,7 +67,7 @@ moves_told c judge past rec tells = sym (told_by c judge past rec.kernel rec.eve
 pub moves_on : (c : Description) (old new : Moves) (past : Past) (rec : Rec) → TellsMoves c old past → KeepsMoving c rec old new → TellsMoves c new (past_with c rec past)
 moves_on c old new past rec tells more = record {
   whole = whole_on c past rec tells.whole;
-  places = where_told rec old.places.entries new.places.entries past.processes tells.places more.places;
+  places = places_more rec.kernel rec.event old.places.entries new.places.entries past.processes tells.places more.places;
   movers = movers_on c old.movers new.movers past rec tells.whole tells.movers more.movers;
   evictions = evictions_on c old.movers new.movers old.evictions new.evictions old.places.entries past rec tells.whole tells.places tells.movers tells.evictions more.movers more.evictions;
   arrivals = arrivals_on c old.arrivals new.arrivals old.places.entries past rec tells.whole tells.places tells.arrivals more.arrivals;
@@ -102,7 +104,7 @@ arrivals_begun c arrivals none = record {
   counted = λ at. subst (λ (es : List (CallAt × Arrival)). Counted (arrival_at es at) (λ kernel. thaws_of arrivals.thaws.entries (record { pid = at.pid; kernel = kernel }))) (sym none) tt;
 }
 
-pub begun : (c : Description) (judge : Moves) → TellsWhere judge.places.entries (at_homes (boot_of c).processes) → judge.movers.movers.entries ≡ [] → judge.movers.asked.entries ≡ [] → judge.movers.entered.keys ≡ [] → judge.movers.returned.keys ≡ [] → judge.evictions.issues.entries ≡ [] → judge.evictions.used.entries ≡ [] → judge.evictions.births.entries ≡ [] → judge.evictions.due.entries ≡ [] → judge.arrivals.dues.entries ≡ [] → TellsMoves c judge (no_past c)
+pub begun : (c : Description) (judge : Moves) → TellsPlaces judge.places.entries (at_homes (boot_of c).processes) → judge.movers.movers.entries ≡ [] → judge.movers.asked.entries ≡ [] → judge.movers.entered.keys ≡ [] → judge.movers.returned.keys ≡ [] → judge.evictions.issues.entries ≡ [] → judge.evictions.used.entries ≡ [] → judge.evictions.births.entries ≡ [] → judge.evictions.due.entries ≡ [] → judge.arrivals.dues.entries ≡ [] → TellsMoves c judge (no_past c)
 begun c judge places none unasked unentered unreturned unissued unused unborn undue unmoved = record {
   whole = refl;
   places = places;

@@ -14,7 +14,7 @@ use Rattle.call_journal.specs.Formed.{issue_number, last_issue}
 use Rattle.call_journal.specs.Matching.{has_event, is_entry_at, is_freeze_of, is_issue_of, is_return}
 use Rattle.call_journal.specs.Moves as moves
 use Rattle.call_journal.proofs.GrowthLaws.{look_backs_grow}
-use Rattle.place_rules.specs.Lists.{any_more, or_turned}
+use Rattle.trace_rules.specs.Lists.{any_more, or_turned}
 use Rattle.move_rules.specs.declared.call_at.CallAt.{CallAt}
 use Rattle.move_rules.specs.declared.movers.Mover.{Mover}
 use Rattle.move_rules.specs.declared.movers.Movers.{Movers}

@@ -16,10 +16,10 @@ use Rattle.move_rules.specs.declared.arrivals.Arrival.{Arrival}
 use Rattle.move_rules.specs.declared.arrivals.Arrivals.{Arrivals}
 use Rattle.move_rules.specs.declared.arrivals.ThawAt.{ThawAt}
 use Rattle.move_rules.specs.declared.call_at.CallAt.{CallAt}
-use Rattle.move_rules.specs.declared.whereabouts.At.{At}
+use Rattle.trace_places.specs.declared.places.Place.{Place}
 use Rattle.move_rules.specs.Calls.{same_call}
 use Rattle.move_rules.specs.Evictions.{count_or}
-use Rattle.move_rules.specs.Whereabouts.{at_of, is_moving_at}
+use Rattle.trace_places.specs.Places.{place_kept, is_on_its_way}
 
 -- how often a process was thawed at a kernel
 abbrev pub same_thaw : ThawAt → ThawAt → Bool
@@ -63,19 +63,19 @@ arrival_behind target thaws o = record { target = target; thaws = thaws; is_spli
 abbrev pub named_target : Description → Option Call → Option Reply → Option ℕ
 named_target c call reply = option_map (kernel_named c) (move_target call reply)
 
-abbrev pub way_target : Description → List (ℕ × At) → Entry → Option ℕ
-way_target c places entry = if is_moving_at (at_of places entry.pid) then named_target c entry.call entry.reply else None
+abbrev pub way_target : Description → List (ℕ × Place) → Entry → Option ℕ
+way_target c places entry = if is_on_its_way (place_kept places entry.pid) then named_target c entry.call entry.reply else None
 
 abbrev pub due_behind : Option ℕ → Bool → (ℕ → ℕ) → Option Arrival → Option Arrival
 due_behind None same thaws before = before
 due_behind (Some target) same thaws before = if same then Some (arrival_behind target (thaws target) before) else before
 
-abbrev pub arrival_on : Description → List (ℕ × At) → Event → List (ThawAt × ℕ) → CallAt → Option Arrival → Option Arrival
+abbrev pub arrival_on : Description → List (ℕ × Place) → Event → List (ThawAt × ℕ) → CallAt → Option Arrival → Option Arrival
 arrival_on c places (event.Enter entry) thaws at before =
     due_behind (way_target c places entry) (entry.pid == at.pid && entry.number == at.number) (λ kernel. thaws_of thaws (record { pid = entry.pid; kernel = kernel })) before
 arrival_on c places _ thaws at before = before
 
-abbrev pub DuesOn : Description → List (ℕ × At) → Event → List (ThawAt × ℕ) → List (CallAt × Arrival) → List (CallAt × Arrival) → Type 0
+abbrev pub DuesOn : Description → List (ℕ × Place) → Event → List (ThawAt × ℕ) → List (CallAt × Arrival) → List (CallAt × Arrival) → Type 0
 DuesOn c places e thaws before after = (at : CallAt) → arrival_at after at ≡ arrival_on c places e thaws at (arrival_at before at)
 
 abbrev pub is_thaw : ℕ → Event → ThawAt → Bool
@@ -86,7 +86,7 @@ abbrev pub ThawsOn : Rec → List (ThawAt × ℕ) → List (ThawAt × ℕ) → T
 ThawsOn rec before after =
     (at : ThawAt) → thaws_of after at ≡ (if is_thaw rec.kernel rec.event at then thaws_of before at + 1 else thaws_of before at)
 
-pub record ArrivalsOn (c : Description) (places : List (ℕ × At)) (rec : Rec) (old new : Arrivals) : Type 0 where
+pub record ArrivalsOn (c : Description) (places : List (ℕ × Place)) (rec : Rec) (old new : Arrivals) : Type 0 where
   pub thaws : ThawsOn rec old.thaws.entries new.thaws.entries
   pub dues : DuesOn c places rec.event old.thaws.entries old.dues.entries new.dues.entries
 

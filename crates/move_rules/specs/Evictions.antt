@@ -19,10 +19,11 @@ use Rattle.move_rules.specs.declared.evictions.Evictions.{Evictions}
 use Rattle.move_rules.specs.declared.evictions.Marking.{Marking}
 use Rattle.move_rules.specs.declared.evictions.UsedAt.{UsedAt}
 use Rattle.move_rules.specs.declared.movers.Movers.{Movers}
-use Rattle.move_rules.specs.declared.whereabouts.At.{At}
+use Rattle.trace_places.specs.declared.places.Place.{Place}
 use Rattle.move_rules.specs.Calls.{has_call}
 use Rattle.move_rules.specs.Movers.{mover_of, moves_itself}
-use Rattle.move_rules.specs.Whereabouts.{at_of, is_placed_at}
+use Rattle.trace_places.specs.Places.{place_kept}
+use Rattle.move_rules.specs.Whereabouts.{is_placed_at}
 
 -- a count that is kept; none is 0
 abbrev pub count_or : Option ℕ → ℕ
@@ -68,9 +69,9 @@ is_left_in due stops pid kernel line =
     line.host == kernel && is_left_by (due_at due (record { host = line.host; after = line.after; pid = pid })) stops
 
 -- a process is at a kernel that isn't its home, and its birth is over
-abbrev pub leaves : List (ℕ × At) → List (ℕ × CallAt) → List CallAt → ℕ → ℕ → Bool
+abbrev pub leaves : List (ℕ × Place) → List (ℕ × CallAt) → List CallAt → ℕ → ℕ → Bool
 leaves places births returned host pid =
-    is_placed_at (at_of places pid) host && not (home_of pid == host) && is_born_by returned (birth_at births pid)
+    is_placed_at (place_kept places pid) host && not (home_of pid == host) && is_born_by returned (birth_at births pid)
 
 -- ---- one record more
 
@@ -126,11 +127,11 @@ stops_of movers pid = (mover_of movers.movers.entries pid).stops
 abbrev pub marked_stops : Marking → Movers → ℕ → ℕ
 marked_stops marking movers pid = if marking.issuer == pid then stops_of movers pid + 1 else stops_of movers pid
 
-abbrev pub MarksOne : Marking → List (ℕ × At) → List (ℕ × CallAt) → Movers → ℕ → List (DueAt × ℕ) → List (DueAt × ℕ) → Type 0
+abbrev pub MarksOne : Marking → List (ℕ × Place) → List (ℕ × CallAt) → Movers → ℕ → List (DueAt × ℕ) → List (DueAt × ℕ) → Type 0
 MarksOne marking places births movers pid before after =
     (at : DueAt) → due_at after at ≡ mark_one (leaves places births movers.returned.keys marking.host) (marked_stops marking movers) marking.host marking.after pid at (due_at before at)
 
-abbrev pub MarksOn : Marking → List (ℕ × At) → List (ℕ × CallAt) → Movers → List (DueAt × ℕ) → List (DueAt × ℕ) → Type 0
+abbrev pub MarksOn : Marking → List (ℕ × Place) → List (ℕ × CallAt) → Movers → List (DueAt × ℕ) → List (DueAt × ℕ) → Type 0
 MarksOn marking places births movers before after =
     (at : DueAt) → due_at after at ≡ mark_all (leaves places births movers.returned.keys marking.host) (marked_stops marking movers) marking.host marking.after (keys_of places) at (due_at before at)
 
@@ -139,11 +140,11 @@ abbrev pub stops_behind : Event → ℕ → ℕ → ℕ
 stops_behind e pid stops = if is_issue_of pid e || is_freeze_of pid e then stops + 1 else stops
 
 -- what is kept of an eviction for a process behind a record
-abbrev pub DueOn : Description → Evictions → List (ℕ × At) → Movers → Rec → List (DueAt × ℕ) → List (DueAt × ℕ) → Type 0
+abbrev pub DueOn : Description → Evictions → List (ℕ × Place) → Movers → Rec → List (DueAt × ℕ) → List (DueAt × ℕ) → Type 0
 DueOn c old places movers rec before after =
     (at : DueAt) → due_at after at ≡ (if is_reached c.evicts old.issues.entries rec.kernel rec.event at && leaves places old.births.entries movers.returned.keys at.host at.pid then Some (stops_behind rec.event at.pid (stops_of movers at.pid)) else due_at before at)
 
-pub record EvictionsOn (c : Description) (places : List (ℕ × At)) (movers : Movers) (rec : Rec) (old new : Evictions) : Type 0 where
+pub record EvictionsOn (c : Description) (places : List (ℕ × Place)) (movers : Movers) (rec : Rec) (old new : Evictions) : Type 0 where
   pub issues : IssuesOn rec old.issues.entries new.issues.entries
   pub uses : UsesOn movers rec old.used.entries new.used.entries
   pub births : BirthOn rec.event old.births.entries new.births.entries

@@ -1,5 +1,4 @@
 pub mod Whereabouts
-pub mod Homes
 pub mod Calls
 pub mod Movers
 pub mod Evictions

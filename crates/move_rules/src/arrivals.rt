@@ -4,14 +4,14 @@ ghost use Rattle.call_journal.specs.Moves.{kernel_from};
 ghost use Rattle.move_rules.specs.declared.arrivals.ThawAt.{ThawAt};
 ghost use Rattle.move_rules.specs.declared.call_at.CallAt.{CallAt};
 ghost use Rattle.move_rules.specs.Arrivals.{ArrivalsOn, DuesOn, ThawsOn, arrival_at, arrival_behind, named_target, returns_at, thaws_of, way_target};
-ghost use Rattle.move_rules.specs.Whereabouts.{at_of, is_moving_at};
+ghost use Rattle.trace_places.specs.Places.{place_kept, is_on_its_way};
 
 use crate::call_at::CallAt;
-use crate::whereabouts::{At, is_moving};
 use indexmap::IndexMap;
 use process_machine::{Call, Reply};
 use sprite_ids::{Bytes, Kernel, NoMemory, Pid};
 use std::alloc::Global;
+use trace_places::{Place, is_on_its_way};
 use unix_calls::{Description, Entry, Event, KernelLine, Rec};
 
 /// A process, as it is thawed at the kernel of that number (this project).
@@ -70,7 +70,7 @@ impl Arrivals {
     pub(crate) fn go_on(
         &mut self,
         c: &Description,
-        places: &IndexMap<u64, At>,
+        places: &IndexMap<u64, Place>,
         rec: &Rec,
     ) -> Result<(), NoMemory>
         ensures { OnOk result (ArrivalsOn c.now places.now.entries rec.now self.old self.new) }
@@ -111,7 +111,7 @@ fn keep_due(
     dues: &mut IndexMap<CallAt, Arrival>,
     thaws: &IndexMap<ThawAt, u64>,
     c: &Description,
-    places: &IndexMap<u64, At>,
+    places: &IndexMap<u64, Place>,
     event: &Event,
 ) -> Result<(), NoMemory>
     ensures { OnOk result (DuesOn c.now places.now.entries event.now thaws.now.entries dues.old.entries dues.new.entries) }
@@ -148,10 +148,10 @@ fn arrival_behind(dues: &IndexMap<CallAt, Arrival>, at: &CallAt, target: u64, th
 }
 
 // The kernel to which an entry moves its process that is on its way.
-fn way_target(c: &Description, places: &IndexMap<u64, At>, entry: &Entry) -> Option<u64>
+fn way_target(c: &Description, places: &IndexMap<u64, Place>, entry: &Entry) -> Option<u64>
     ensures { result ≡ way_target c.now places.now.entries entry.now }
 {
-    if !is_moving(places, entry.pid) {
+    if !is_on_its_way(places, entry.pid) {
         return None;
     }
     named_target(c, entry)

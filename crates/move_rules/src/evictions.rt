@@ -2,14 +2,16 @@ ghost use Rattle.std.specs.Prelude.{◌≡◌, ℕ, ◌+◌, ◌==◌, [], OnOk,
 ghost use Rattle.std.specs.List.{list_any};
 ghost use Rattle.move_rules.specs.declared.evictions.DueAt.{DueAt};
 ghost use Rattle.move_rules.specs.Evictions.{BirthOn, DueOn, EvictionsOn, IssuesOn, MarksOn, MarksOne, PutsDue, UsesOn, birth_at, due_in, has_line, is_born_by, is_left_in, issues_of, leaves, marked_stops, uses_of};
-ghost use Rattle.move_rules.specs.Whereabouts.{at_of, is_placed_at};
+ghost use Rattle.trace_places.specs.Places.{place_kept};
+ghost use Rattle.move_rules.specs.Whereabouts.{is_placed_at};
 
 use crate::call_at::CallAt;
 use crate::movers::Movers;
-use crate::whereabouts::{At, child_of, is_placed_at};
+use crate::whereabouts::is_placed_at;
 use indexmap::{IndexMap, IndexSet};
 use sprite_ids::{Kernel, NoMemory, Pid};
 use std::alloc::Global;
+use trace_places::{Place, child_of};
 use unix_calls::{Description, Event, EvictLine, Rec};
 
 /// An eviction of a kernel at a count of its calls, as it concerns a process (this project).
@@ -76,7 +78,7 @@ impl Evictions {
     pub(crate) fn go_on(
         &mut self,
         c: &Description,
-        places: &IndexMap<u64, At>,
+        places: &IndexMap<u64, Place>,
         movers: &Movers,
         rec: &Rec,
     ) -> Result<(), NoMemory>
@@ -92,7 +94,7 @@ impl Evictions {
     fn keep_due(
         &mut self,
         c: &Description,
-        places: &IndexMap<u64, At>,
+        places: &IndexMap<u64, Place>,
         movers: &Movers,
         rec: &Rec,
     ) -> Result<(), NoMemory>
@@ -235,7 +237,7 @@ struct Marking {
 fn mark_all(
     due: &mut IndexMap<DueAt, u64>,
     marking: &Marking,
-    places: &IndexMap<u64, At>,
+    places: &IndexMap<u64, Place>,
     births: &IndexMap<u64, CallAt>,
     movers: &Movers,
 ) -> Result<(), NoMemory>
@@ -251,7 +253,7 @@ fn mark_all(
 fn mark_one(
     due: &mut IndexMap<DueAt, u64>,
     marking: &Marking,
-    places: &IndexMap<u64, At>,
+    places: &IndexMap<u64, Place>,
     births: &IndexMap<u64, CallAt>,
     movers: &Movers,
     pid: u64,
@@ -290,7 +292,7 @@ fn marked_stops(marking: &Marking, movers: &Movers, pid: u64) -> Result<u64, NoM
 
 // Whether the process is at the kernel, which isn't its home, and its birth is over.
 fn leaves(
-    places: &IndexMap<u64, At>,
+    places: &IndexMap<u64, Place>,
     births: &IndexMap<u64, CallAt>,
     returned: &IndexSet<CallAt>,
     host: Kernel,

@@ -4,7 +4,6 @@
 mod arrivals;
 mod call_at;
 mod evictions;
-mod homes;
 mod movers;
 mod moves;
 mod whereabouts;

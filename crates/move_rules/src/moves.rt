@@ -5,16 +5,16 @@ ghost use Rattle.call_journal.specs.Past.{no_past};
 ghost use Rattle.trace_tables.specs.Callers.{callers_of};
 ghost use Rattle.move_rules.specs.Moves.{KeepsMoving, TellsMoves, freezes_well, issues_well, leads_well, moves_well, thaws_well};
 ghost use Rattle.move_rules.specs.Arrivals.{named_target};
-ghost use Rattle.move_rules.specs.Whereabouts.{at_of};
+ghost use Rattle.trace_places.specs.Places.{place_kept};
 
 use crate::arrivals::{Arrivals, named_target};
 use crate::evictions::Evictions;
-use crate::homes::homes;
 use crate::movers::Movers;
-use crate::whereabouts::{At, at_of, is_placed_at, move_on};
+use crate::whereabouts::is_placed_at;
 use indexmap::IndexMap;
 use sprite_ids::{Kernel, NoMemory, Pid};
 use std::alloc::Global;
+use trace_places::{Place, boot_places, keep_place, place_in};
 use trace_tables::Caller;
 use unix_calls::{Description, Entry, Event, Rec};
 
@@ -30,7 +30,7 @@ pub fn processes_run_where_they_are(
     requires called { callers.now ≡ callers_of c.now trace.now }
     ensures { IfOk result (λ kept. kept ≡ processes_run_where_they_are c.now trace.now) }
 {
-    let places = homes(alloc, c)?;
+    let places = boot_places(alloc, c)?;
     let mut judge = Moves {
         places,
         movers: Movers::new(alloc),
@@ -44,7 +44,7 @@ pub fn processes_run_where_they_are(
 #[derive(Drop)]
 pub(crate) struct Moves {
     /// Where the processes are, by number.
-    pub(crate) places: IndexMap<u64, At>,
+    pub(crate) places: IndexMap<u64, Place>,
     pub(crate) movers: Movers,
     pub(crate) evictions: Evictions,
     pub(crate) arrivals: Arrivals,
@@ -76,7 +76,7 @@ impl Moves {
         self.arrivals.go_on(c, &self.places, rec)?;
         self.evictions.go_on(c, &self.places, &self.movers, rec)?;
         self.movers.go_on(&rec.event)?;
-        move_on(&mut self.places, rec)
+        keep_place(&mut self.places, rec.kernel, &rec.event)
     }
 }
 
@@ -131,15 +131,15 @@ fn thaws_well(judge: &Moves, pid: Pid, kernel: Kernel) -> bool
 
 // Whether a move enters where it leads, or on the way.
 fn leads_well(judge: &Moves, c: &Description, entry: &Entry) -> bool
-    ensures { result ≡ leads_well (named_target c.now entry.now.call entry.now.reply) (at_of judge.now.places.entries entry.now.pid) }
+    ensures { result ≡ leads_well (named_target c.now entry.now.call entry.now.reply) (place_kept judge.now.places.entries entry.now.pid) }
 {
     let Some(target) = named_target(c, entry) else {
         return true;
     };
-    match at_of(&judge.places, entry.pid) {
+    match place_in(&judge.places, entry.pid) {
         Some(at) => {
             let number = u64::from(at.kernel.number());
-            (!at.is_moving && number == target) || at.is_moving
+            (!at.moving && number == target) || at.moving
         }
         None => false,
     }

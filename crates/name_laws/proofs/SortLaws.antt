@@ -21,8 +21,7 @@ use Rattle.tree_laws.specs.Trees.{AreNames, Parts, Ties}
 use Rattle.flat_tree.specs.Listings.{AreAscending}
 use Rattle.flat_tree.proofs.ListLaws.{counted_own, same_times}
 use Rattle.flat_tree.proofs.ListingLaws.{Ascends, keys_times, names_ascend, once_if, same_ascending, times}
-use Rattle.unix_world.proofs.OrderLaws.{Before, Behind, Equal as Alike, Ranked, behind}
-use Rattle.flat_tree.proofs.OrderLaws.{text_order}
+use Rattle.unix_world.proofs.OrderLaws.{Before, Behind, Equal as Alike, Ranked, behind, text_order}
 
 text_cmp : (xs ys : List ℕ) → is_lt (slice_cmp nat_cmp xs ys) ≡ text_before xs ys
 text_cmp xs ys = same_from_slice_cmp nat_cmp is_lt text_before refl (λ _ _. refl) (λ _ _. refl) (λ x y xs ys o h. grind (arith, nat_tests)) xs ys (slice_cmp nat_cmp xs ys) refl

@@ -2,7 +2,7 @@ ghost use Rattle.std.specs.Prelude.{◌≡◌, ◌+◌, ◌*◌, IfOk, count_by,
 ghost use Rattle.call_journal.specs.Matching.{has_event};
 ghost use Rattle.call_journal.specs.WorthRecords.{are_moved_opens_few, is_any_freeze};
 ghost use Rattle.trace_forms.specs.Openings.{openings_of};
-ghost use Rattle.open_worth.specs.Lists.{one_if};
+ghost use Rattle.trace_rules.specs.Lists.{one_if};
 ghost use Rattle.open_worth.specs.MovedOpens.{is_made_next, is_moved_open, moved_in};
 
 use sprite_ids::NoMemory;

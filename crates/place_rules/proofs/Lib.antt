@@ -1,2 +1,1 @@
 pub mod JudgingLaws
-pub mod HomeLaws

@@ -19,12 +19,12 @@ use Rattle.trace_tables.specs.declared.Caller.{Caller}
 use Rattle.place_rules.specs.declared.call_at.CallAt.{CallAt}
 use Rattle.place_rules.specs.declared.call_at.RequestAt.{RequestAt}
 use Rattle.place_rules.specs.declared.entries.Entries.{Entries}
-use Rattle.place_rules.specs.declared.whereabouts.At.{At}
 use Rattle.place_rules.specs.Pasts.{IsWhole}
 use Rattle.place_rules.specs.Stands as stands
 use Rattle.place_rules.specs.Stands.{device_at, stand_by}
-use Rattle.place_rules.specs.Lists.{has_stream}
-use Rattle.place_rules.specs.Whereabouts.{at_of, is_kernel_at, MovesOn, TellsWhere}
+use Rattle.trace_rules.specs.Modes.{has_stream}
+use Rattle.trace_places.specs.declared.places.Place.{Place}
+use Rattle.trace_places.specs.Places.{place_kept, is_kernel_of, MovesOn, TellsPlaces}
 
 -- the same call, and the same at the same kernel
 abbrev pub same_call : CallAt → CallAt → Bool
@@ -42,14 +42,14 @@ has_request requests at = list_any (same_request at) requests
 -- ---- judging
 
 -- an entry at a kernel stands where it is to stand
-abbrev pub stands_by : Description → Entries → ℕ → Entry → Caller → Option At → Bool
+abbrev pub stands_by : Description → Entries → ℕ → Entry → Caller → Option Place → Bool
 stands_by c judge kernel entry caller None = false
 stands_by c judge kernel entry caller (Some at) =
     stands.is_at (stand_by c judge.shared.keys judge.devices.entries caller entry.pid entry.part entry.call entry.reply) at.kernel kernel
     && (kernel == at.kernel || has_request judge.requests.keys (record { kernel = kernel; pid = entry.pid; number = entry.number }))
 
 abbrev pub stands_in : Description → Entries → ℕ → Entry → Caller → Bool
-stands_in c judge kernel entry caller = stands_by c judge kernel entry caller (at_of judge.places.entries entry.pid)
+stands_in c judge kernel entry caller = stands_by c judge kernel entry caller (place_kept judge.places.entries entry.pid)
 
 -- a call may return
 abbrev pub is_answered_by : Entries → ℕ → ℕ → Bool
@@ -65,17 +65,17 @@ enters_well c judge kernel _ caller = true
 -- ---- one record more
 
 -- an entry of that call at another kernel than its process's
-abbrev pub is_away_by : ℕ → Event → List (ℕ × At) → CallAt → Bool
+abbrev pub is_away_by : ℕ → Event → List (ℕ × Place) → CallAt → Bool
 is_away_by kernel (event.Enter entry) places at =
-    entry.pid == at.pid && entry.number == at.number && not (is_kernel_at (at_of places entry.pid) kernel)
+    entry.pid == at.pid && entry.number == at.number && not (is_kernel_of kernel (place_kept places entry.pid))
 is_away_by kernel _ places at = false
 
-abbrev pub AwayOn : Rec → List (ℕ × At) → List CallAt → List CallAt → Type 0
+abbrev pub AwayOn : Rec → List (ℕ × Place) → List CallAt → List CallAt → Type 0
 AwayOn rec places before after =
     (at : CallAt) → has_call after at ≡ (if is_away_by rec.kernel rec.event places at then true else has_call before at)
 
 -- the kernel of the device that an entry makes
-abbrev pub made_kernel : Option Call → Option Reply → Option At → Option ℕ
+abbrev pub made_kernel : Option Call → Option Reply → Option Place → Option ℕ
 made_kernel (Some (call.PdMake path)) (Some (Value first second bytes)) (Some at) = Some at.kernel
 made_kernel _ _ _ = None
 
@@ -87,11 +87,11 @@ abbrev pub PutsServed : ℕ → ℕ → List (ℕ × ℕ) → List (ℕ × ℕ) 
 PutsServed place kernel before after =
     (other : ℕ) → device_at after other ≡ (if place == other then or_else (device_at before other) (Some kernel) else device_at before other)
 
-abbrev pub kernel_made : Event → List (ℕ × At) → Option ℕ
-kernel_made (event.Enter entry) places = made_kernel entry.call entry.reply (at_of places entry.pid)
+abbrev pub kernel_made : Event → List (ℕ × Place) → Option ℕ
+kernel_made (event.Enter entry) places = made_kernel entry.call entry.reply (place_kept places entry.pid)
 kernel_made _ places = None
 
-abbrev pub ServesOn : Event → ℕ → List (ℕ × At) → List (ℕ × ℕ) → List (ℕ × ℕ) → Type 0
+abbrev pub ServesOn : Event → ℕ → List (ℕ × Place) → List (ℕ × ℕ) → List (ℕ × ℕ) → Type 0
 ServesOn e place places before after =
     (other : ℕ) → device_at after other ≡ served_behind (kernel_made e places) place other (device_at before other)
 
@@ -116,13 +116,13 @@ pub record EntersOn (rec : Rec) (caller : Caller) (old new : Entries) : Type 0 w
   pub shares : SharesOn rec.event old.shared.keys new.shared.keys
   pub requests : RequestsOn rec old.requests.keys new.requests.keys
   pub replies : RepliesOn rec.event old.replies.keys new.replies.keys
-  pub moves : MovesOn rec old.places.entries new.places.entries
+  pub moves : MovesOn rec.kernel rec.event old.places.entries new.places.entries
 
 -- ---- what is kept is told by the records
 
 pub record TellsEntries (c : Description) (judge : Entries) (past : Past) : Type 0 where
   pub whole : IsWhole c past
-  pub places : TellsWhere judge.places.entries past.processes
+  pub places : TellsPlaces judge.places.entries past.processes
   pub devices : (place : ℕ) → device_at judge.devices.entries place ≡ server_of_device past.devices place
   pub shared : (tie : Tie) → has_stream judge.shared.keys tie.stream ≡ is_shared past tie
   pub requests : (at : RequestAt) → has_request judge.requests.keys at ≡ list_any (is_at at.kernel (is_request_about at.pid at.number)) past.records

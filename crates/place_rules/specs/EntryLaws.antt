@@ -19,19 +19,19 @@ use Rattle.call_journal.specs.EntryPlaces as spots
 use Rattle.trace_tables.specs.Callers.{caller_at}
 use Rattle.place_rules.specs.declared.call_at.CallAt.{CallAt}
 use Rattle.place_rules.specs.declared.entries.Entries.{Entries}
-use Rattle.place_rules.specs.declared.whereabouts.At.{At}
 use Rattle.place_rules.specs.Entries.{stands_by, enters_well, is_away_by, made_kernel, kernel_made, served_behind, shares, EntersOn, TellsEntries}
-use Rattle.place_rules.specs.Lists.{any_more, or_turned}
+use Rattle.trace_rules.specs.Lists.{any_more, or_turned}
 use Rattle.place_rules.specs.PastLaws.{some_more, whole_on}
 use Rattle.place_rules.specs.StandLaws.{is_at_told, stand_told}
 use Rattle.place_rules.specs.Stands as stands
 use Rattle.place_rules.specs.Stands.{device_at}
-use Rattle.place_rules.specs.Whereabouts.{at_by, at_of, is_kernel_at}
-use Rattle.place_rules.specs.WhereLaws.{kernel_told, where_told}
+use Rattle.trace_places.specs.declared.places.Place.{Place}
+use Rattle.trace_places.specs.Places.{place_by, place_kept, is_kernel_of, TellsPlaces}
+use Rattle.trace_places.specs.PlaceLaws.{kernel_told, places_more}
 
 -- ---- judging
 
-entry_by : (c : Description) (judge : Entries) (past : Past) (kernel : ℕ) (entry : Entry) (o : Option Whereabouts) → TellsEntries c judge past → spots.entry_stands_at c past kernel entry (option_map (λ (w : Whereabouts). w.kernel) o) ≡ stands_by c judge kernel entry (caller_at c past (event.Enter entry)) (option_map at_by o)
+entry_by : (c : Description) (judge : Entries) (past : Past) (kernel : ℕ) (entry : Entry) (o : Option Whereabouts) → TellsEntries c judge past → spots.entry_stands_at c past kernel entry (option_map (λ (w : Whereabouts). w.kernel) o) ≡ stands_by c judge kernel entry (caller_at c past (event.Enter entry)) (option_map place_by o)
 entry_by c judge past kernel entry None tells = refl
 entry_by c judge past kernel entry (Some w) tells =
     let stand = stands.stand_by c judge.shared.keys judge.devices.entries (caller_at c past (event.Enter entry)) entry.pid entry.part entry.call entry.reply in
@@ -53,16 +53,14 @@ entries_told c judge past rec tells = told_by c judge past rec.kernel rec.event 
 -- ---- one record more
 
 -- an entry away from its process
-away_kernel : (pid other kernel : ℕ) (b d : Bool) (places : List (ℕ × At)) (past : Past) → (pid == other) ≡ b → ((p : ℕ) → at_of places p ≡ option_map at_by (whereabouts_of past.processes p)) → (b && d && not (is_kernel_at (at_of places pid) kernel)) ≡ (b && d && not (holds (λ at. at == kernel) (kernel_of past other)))
+away_kernel : (pid other kernel : ℕ) (b d : Bool) (places : List (ℕ × Place)) (past : Past) → (pid == other) ≡ b → TellsPlaces places past.processes → (b && d && not (is_kernel_of kernel (place_kept places pid))) ≡ (b && d && not (holds (λ at. at == kernel) (kernel_of past other)))
 away_kernel pid other kernel false d places past is told = refl
 away_kernel pid other kernel true d places past is told =
     let same : pid ≡ other = eqb-true pid other is in
     ap (λ t. (true && d) && not t)
-    (ap (λ p. is_kernel_at (at_of places p) kernel) same
-    ∙ ap (λ o. is_kernel_at o kernel) (told other)
-    ∙ kernel_told (whereabouts_of past.processes other) kernel)
+    (ap (λ p. is_kernel_of kernel (place_kept places p)) same ∙ sym (kernel_told places past other kernel told))
 
-away_by : (kernel : ℕ) (e : Event) (places : List (ℕ × At)) (past : Past) (at : CallAt) → ((p : ℕ) → at_of places p ≡ option_map at_by (whereabouts_of past.processes p)) → is_away_by kernel e places at ≡ spots.is_away past at.pid at.number kernel e
+away_by : (kernel : ℕ) (e : Event) (places : List (ℕ × Place)) (past : Past) (at : CallAt) → TellsPlaces places past.processes → is_away_by kernel e places at ≡ spots.is_away past at.pid at.number kernel e
 away_by kernel (event.Enter entry) places past at told = away_kernel entry.pid at.pid kernel (entry.pid == at.pid) (entry.number == at.number) places past refl told
 away_by kernel _ places past at told = refl
 
@@ -89,7 +87,7 @@ one_served ds place kernel other = served_more ds (record { place = place; kerne
 none_served : (ds : List Served) (other : ℕ) → server_of_device (ds ++ []) other ≡ server_of_device ds other
 none_served ds other = ap (λ (xs : List Served). server_of_device xs other) (append-nil ds)
 
-made_served : (ds : List Served) (place other : ℕ) (o : Option Call) (reply : Option Reply) (w : Option Whereabouts) → server_of_device (ds ++ made_device place o reply w) other ≡ served_behind (made_kernel o reply (option_map at_by w)) place other (server_of_device ds other)
+made_served : (ds : List Served) (place other : ℕ) (o : Option Call) (reply : Option Reply) (w : Option Whereabouts) → server_of_device (ds ++ made_device place o reply w) other ≡ served_behind (made_kernel o reply (option_map place_by w)) place other (server_of_device ds other)
 made_served ds place other (Some (call.PdMake path)) (Some (Value first second bytes)) (Some w) = one_served ds place w.kernel other
 made_served ds place other (Some (call.PdMake path)) (Some (Value first second bytes)) None = none_served ds other
 made_served ds place other (Some (call.PdMake path)) (Some (Error errno)) w = none_served ds other
@@ -98,7 +96,7 @@ made_served ds place other None reply w = none_served ds other
 made_served ds place other (Some (call.Chdir path)) reply w = none_served ds other
 made_served ds place other (Some _) reply w = none_served ds other
 
-served_by : (c : Description) (e : Event) (places : List (ℕ × At)) (devices : List (ℕ × ℕ)) (past : Past) (other : ℕ) → ((p : ℕ) → at_of places p ≡ option_map at_by (whereabouts_of past.processes p)) → device_at devices other ≡ server_of_device past.devices other → served_behind (kernel_made e places) (caller_at c past e).place other (device_at devices other) ≡ server_of_device (devices_by past e) other
+served_by : (c : Description) (e : Event) (places : List (ℕ × Place)) (devices : List (ℕ × ℕ)) (past : Past) (other : ℕ) → TellsPlaces places past.processes → device_at devices other ≡ server_of_device past.devices other → served_behind (kernel_made e places) (caller_at c past e).place other (device_at devices other) ≡ server_of_device (devices_by past e) other
 served_by c (event.Enter entry) places devices past other told kept =
     ap₂ (λ o before. served_behind (made_kernel entry.call entry.reply o) (entry_count past.unix) other before) (told entry.pid) kept
     ∙ sym (made_served past.devices (entry_count past.unix) other entry.call entry.reply (whereabouts_of past.processes entry.pid))
@@ -113,7 +111,7 @@ shared_by _ tie = refl
 pub entries_on : (c : Description) (old new : Entries) (past : Past) (rec : Rec) → TellsEntries c old past → EntersOn rec (caller_at c past rec.event) old new → TellsEntries c new (past_with c rec past)
 entries_on c old new past rec tells more = record {
   whole = whole_on c past rec tells.whole;
-  places = where_told rec old.places.entries new.places.entries past.processes tells.places more.moves;
+  places = places_more rec.kernel rec.event old.places.entries new.places.entries past.processes tells.places more.moves;
   devices = λ place. more.serves place ∙ served_by c rec.event old.places.entries old.devices.entries past place tells.places (tells.devices place);
   shared = λ tie.
       more.shares tie.stream

@@ -1,10 +1,6 @@
 pub mod Judging
-pub mod Lists
 pub mod Pasts
 pub mod PastLaws
-pub mod Whereabouts
-pub mod WhereLaws
-pub mod Homes
 pub mod Stands
 pub mod StandLaws
 pub mod Entries

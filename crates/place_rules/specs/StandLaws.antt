@@ -18,7 +18,7 @@ use Rattle.call_journal.specs.Calls.{descriptor_of, error_in, is_value, path_tex
 use Rattle.call_journal.specs.EntryPlaces as places
 use Rattle.trace_tables.specs.Callers.{caller_at, name_server}
 use Rattle.trace_tables.specs.Ties.{tied_by}
-use Rattle.place_rules.specs.Lists.{has_stream}
+use Rattle.trace_rules.specs.Modes.{has_stream}
 use Rattle.place_rules.specs.declared.stand.Stand.{Stand}
 use Rattle.place_rules.specs.declared.stand.Stand.TheVariants as stand
 use Rattle.place_rules.specs.Stands.{at_file, at_file_if, at_kernel, at_shared, by_server, device_at, device_stand, is_at, other_stand, stand_by}

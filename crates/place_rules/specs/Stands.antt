@@ -14,7 +14,7 @@ use Rattle.call_journal.specs.Calls.{error_in, is_value}
 use Rattle.call_journal.specs.EntryPlaces.{is_client_pid, is_too_big}
 use Rattle.trace_tables.specs.declared.Caller.{Caller}
 use Rattle.trace_tables.specs.declared.Tied.{Tied}
-use Rattle.place_rules.specs.Lists.{has_stream}
+use Rattle.trace_rules.specs.Modes.{has_stream}
 use Rattle.place_rules.specs.declared.stand.Stand.{Stand}
 use Rattle.place_rules.specs.declared.stand.Stand.TheVariants as stand
 

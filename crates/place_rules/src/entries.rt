@@ -3,18 +3,17 @@ ghost use Rattle.unix_calls.specs.Lawful.{Lawful};
 ghost use Rattle.call_journal.specs.EntryPlaces.{entries_stand_at_their_kernels, stands_well};
 ghost use Rattle.trace_tables.specs.Callers.{callers_of};
 ghost use Rattle.place_rules.specs.Entries.{AwayOn, EntersOn, PutsServed, RepliesOn, RequestsOn, ServesOn, SharesOn, TellsEntries, enters_well, has_request, is_answered_by, made_kernel, stands_in};
-ghost use Rattle.place_rules.specs.Whereabouts.{at_of, is_kernel_at};
+ghost use Rattle.trace_places.specs.Places.{place_kept};
 ghost use Rattle.place_rules.specs.EntryLaws.{entries_told, entries_on};
 
 use crate::call_at::{CallAt, RequestAt};
-use crate::homes::homes;
 use crate::judging::{LooksBackCalling, each_keeps_calling};
 use crate::stand::{is_at, stand_by};
-use crate::whereabouts::{At, at_of, move_on};
 use indexmap::{IndexMap, IndexSet};
 use process_machine::{Call, Reply};
 use sprite_ids::{Kernel, NoMemory, Pid, StreamNo};
 use std::alloc::Global;
+use trace_places::{Place, boot_places, is_kernel_of, keep_place, place_in};
 use trace_tables::Caller;
 use unix_calls::{Description, Entry, Event, Rec};
 
@@ -31,7 +30,7 @@ pub fn entries_stand_at_their_kernels(
     requires called { callers.now ≡ callers_of c.now trace.now }
     ensures { IfOk result (λ kept. kept ≡ entries_stand_at_their_kernels c.now trace.now) }
 {
-    let places = homes(alloc, c)?;
+    let places = boot_places(alloc, c)?;
     let mut judge = Entries {
         places,
         devices: IndexMap::new(alloc),
@@ -47,7 +46,7 @@ pub fn entries_stand_at_their_kernels(
 #[derive(Drop)]
 pub(crate) struct Entries {
     /// Where the processes are, by number.
-    pub(crate) places: IndexMap<u64, At>,
+    pub(crate) places: IndexMap<u64, Place>,
     /// The kernels that serve the devices, by the place of the entry that made each.
     pub(crate) devices: IndexMap<u32, Kernel>,
     /// The streams that are shared.
@@ -83,7 +82,7 @@ impl LooksBackCalling for Entries {
         keep_shared(&mut self.shared, &rec.event)?;
         keep_request(&mut self.requests, rec)?;
         keep_reply(&mut self.replies, &rec.event)?;
-        move_on(&mut self.places, rec)
+        keep_place(&mut self.places, rec.kernel, &rec.event)
     }
 
     ghost is_told = { entries_told };
@@ -101,7 +100,7 @@ fn stands_in(
 ) -> bool
     ensures { result ≡ stands_in c.now judge.now kernel entry.now caller.now }
 {
-    let Some(at) = at_of(&judge.places, entry.pid) else {
+    let Some(at) = place_in(&judge.places, entry.pid) else {
         return false;
     };
     let stand = stand_by(c, &judge.shared, &judge.devices, caller, entry);
@@ -133,7 +132,7 @@ fn is_answered_by(judge: &Entries, pid: Pid, number: u32) -> bool
 // Keeps the call of an entry at another kernel than its process's.
 fn keep_away(
     away: &mut IndexSet<CallAt>,
-    places: &IndexMap<u64, At>,
+    places: &IndexMap<u64, Place>,
     rec: &Rec,
 ) -> Result<(), NoMemory>
     ensures { OnOk result (AwayOn rec.now places.now.entries away.old.keys away.new.keys) }
@@ -141,7 +140,7 @@ fn keep_away(
     let Event::Enter { entry } = &rec.event else {
         return Ok(());
     };
-    if is_kernel_at(places, entry.pid, rec.kernel) {
+    if is_kernel_of(places, entry.pid, rec.kernel) {
         return Ok(());
     }
     let pid = entry.pid;
@@ -150,20 +149,10 @@ fn keep_away(
     Ok(())
 }
 
-// Whether the process's kernel, or the one that froze it, is that one.
-fn is_kernel_at(places: &IndexMap<u64, At>, pid: Pid, kernel: Kernel) -> bool
-    ensures { result ≡ is_kernel_at (at_of places.now.entries pid) kernel }
-{
-    match at_of(places, pid) {
-        Some(at) => at.kernel == kernel,
-        None => false,
-    }
-}
-
 // Keeps the kernel of a device that an entry makes, unless one is kept of that place.
 fn keep_served(
     devices: &mut IndexMap<u32, Kernel>,
-    places: &IndexMap<u64, At>,
+    places: &IndexMap<u64, Place>,
     place: u32,
     event: &Event,
 ) -> Result<(), NoMemory>
@@ -179,12 +168,12 @@ fn keep_served(
 }
 
 // The kernel of the device that an entry makes.
-fn made_kernel(places: &IndexMap<u64, At>, entry: &Entry) -> Option<Kernel>
-    ensures { result ≡ made_kernel entry.now.call entry.now.reply (at_of places.now.entries entry.now.pid) }
+fn made_kernel(places: &IndexMap<u64, Place>, entry: &Entry) -> Option<Kernel>
+    ensures { result ≡ made_kernel entry.now.call entry.now.reply (place_kept places.now.entries entry.now.pid) }
 {
     match &entry.call {
         Some(Call::PdMake { .. }) => match &entry.reply {
-            Some(Reply::Value { .. }) => match at_of(places, entry.pid) {
+            Some(Reply::Value { .. }) => match place_in(places, entry.pid) {
                 Some(at) => Some(at.kernel),
                 None => None,
             },

@@ -3,9 +3,7 @@
 
 mod call_at;
 mod entries;
-mod homes;
 mod judging;
 mod stand;
-mod whereabouts;
 
 pub use entries::entries_stand_at_their_kernels;

@@ -11,11 +11,13 @@ use Rattle.call_journal.specs.Past.{Past, past_with}
 use Rattle.call_journal.specs.Matching.{same_file, has_event}
 use Rattle.call_journal.specs.Drops.{is_opened_of}
 use Rattle.call_journal.specs.WorthRecords.{is_callback_to, was_opened}
-use Rattle.record_worth.specs.declared.keys.FileAt.{FileAt}
+use Rattle.trace_rules.specs.declared.place.FileAt.{FileAt}
 use Rattle.record_worth.specs.declared.callbacks.Calls.{Calls}
-use Rattle.record_worth.specs.Lists.{one_if, no_more, count_more, any_counted, any_since, file_is}
+use Rattle.trace_rules.specs.Lists.{one_if, no_more, count_more, any_counted, any_since}
+use Rattle.trace_rules.specs.PlaceLaws.{file_is}
+use Rattle.trace_rules.specs.Places.{same_use}
 use Rattle.record_worth.specs.Parts.{calls_well}
-use Rattle.record_worth.specs.Callbacks.{same_use, count_or, open_kept, open_count, call_kept, is_called, is_open_in, may_call, open_behind, call_behind, CallsOn, IsCalled, was_called, TellsCalls}
+use Rattle.record_worth.specs.Callbacks.{count_or, open_kept, open_count, call_kept, is_called, is_open_in, may_call, open_behind, call_behind, CallsOn, IsCalled, was_called, TellsCalls}
 
 -- ---- looking
 

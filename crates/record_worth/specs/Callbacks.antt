@@ -11,12 +11,9 @@ use Rattle.call_journal.specs.Past.{since_last}
 use Rattle.call_journal.specs.Matching.{same_file, has_event}
 use Rattle.call_journal.specs.Drops.{is_opened_of}
 use Rattle.call_journal.specs.WorthRecords.{is_callback_to}
-use Rattle.record_worth.specs.declared.keys.FileAt.{FileAt}
+use Rattle.trace_rules.specs.declared.place.FileAt.{FileAt}
+use Rattle.trace_rules.specs.Places.{same_use}
 use Rattle.record_worth.specs.declared.callbacks.Calls.{Calls}
-
--- the same file for the same kernel
-abbrev pub same_use : FileAt → FileAt → Bool
-same_use a b = a.kernel == b.kernel && same_file a.file b.file
 
 -- a count that isn't kept is none
 abbrev pub count_or : Option ℕ → ℕ

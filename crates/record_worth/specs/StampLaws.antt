@@ -1,6 +1,5 @@
 -- The stamps of files are told record by record.
-use Rattle.std.proofs.Common.{◌≡◌, ◌∙◌, ℕ, Bool, true, false, cond, ◌&&◌, List, nat_lt, Option, Some, None, refl, sym, ap, arith}
-use Rattle.std.proofs.lemmas.Bool.{lt-ltb, ltb-true, ltb-false}
+use Rattle.std.proofs.Common.{◌≡◌, ◌∙◌, ℕ, Bool, true, false, cond, ◌&&◌, List, nat_lt, Some, refl, sym, ap}
 use Rattle.sprite_ids.specs.declared.names.FileId.{FileId}
 use Rattle.unix_calls.specs.declared.description.Description.{Description}
 use Rattle.unix_calls.specs.declared.event.Event.{Event}
@@ -10,9 +9,12 @@ use Rattle.call_journal.specs.Past.{Past, past_with}
 use Rattle.call_journal.specs.Matching.{same_file, has_event}
 use Rattle.call_journal.specs.WorthRecords.{has_lesser_stamp}
 use Rattle.record_worth.specs.declared.stamps.Stamps.{Stamps}
-use Rattle.record_worth.specs.Lists.{and_true, and_false, all_more, file_is}
+use Rattle.trace_rules.specs.Greatest.{is_less, later}
+use Rattle.trace_rules.specs.GreatestLaws.{later_less}
+use Rattle.trace_rules.specs.Lists.{and_true, all_more}
+use Rattle.trace_rules.specs.PlaceLaws.{file_is}
 use Rattle.record_worth.specs.Parts.{stamps_well}
-use Rattle.record_worth.specs.Stamps.{greatest, is_less, may_give, later, given_behind, RisesOn, TellsStamps}
+use Rattle.record_worth.specs.Stamps.{greatest, may_give, given_behind, RisesOn, TellsStamps}
 
 event_told : (given : List (FileId × ℕ)) (past : Past) (e : Event) → TellsStamps given past.records → stamps_well past e ≡ may_give given e
 event_told given past (event.Grant file to stamp mode) told = sym (told file stamp)
@@ -22,29 +24,6 @@ event_told given past _ told = refl
 -- a stamp is judged by the greatest one
 pub stamps_told : (c : Description) (judge : Stamps) (past : Past) (rec : Rec) → TellsStamps judge.given.entries past.records → stamps_well past rec.event ≡ may_give judge.given.entries rec.event
 stamps_told c judge past rec told = event_told judge.given.entries past rec.event told
-
--- of two stamps both are less exactly where the greater one is
-second_less : (last stamp x : ℕ) (b : Bool) → nat_lt last stamp ≡ true → nat_lt stamp x ≡ b → b ≡ (nat_lt last x && b)
-second_less last stamp x true up is =
-    let a = ltb-true last stamp up in
-    let b = ltb-true stamp x is in
-    sym (ap (λ t. t && true) (lt-ltb last x (omega (arith, a, b))))
-second_less last stamp x false up is = sym (and_false (nat_lt last x))
-
-first_less : (last stamp x : ℕ) (b : Bool) → nat_lt last stamp ≡ false → nat_lt last x ≡ b → b ≡ (b && nat_lt stamp x)
-first_less last stamp x true up is =
-    let a = ltb-false last stamp up in
-    let b = ltb-true last x is in
-    sym (lt-ltb stamp x (omega (arith, a, b)))
-first_less last stamp x false up is = refl
-
-greater_less : (last stamp x : ℕ) (b : Bool) → nat_lt last stamp ≡ b → nat_lt (cond {A = ℕ} b stamp last) x ≡ (nat_lt last x && nat_lt stamp x)
-greater_less last stamp x true is = second_less last stamp x (nat_lt stamp x) is refl
-greater_less last stamp x false is = first_less last stamp x (nat_lt last x) is refl
-
-later_less : (stamp : ℕ) (o : Option ℕ) (x : ℕ) → nat_lt (later stamp o) x ≡ (is_less o x && nat_lt stamp x)
-later_less stamp None x = refl
-later_less stamp (Some last) x = greater_less last stamp x (nat_lt last stamp) refl
 
 put_by : (given : List (FileId × ℕ)) (file other : FileId) (stamp x : ℕ) (b : Bool) → same_file file other ≡ b → is_less (cond b (Some (later stamp (greatest given file))) (greatest given other)) x ≡ (is_less (greatest given other) x && cond {A = Bool} b (nat_lt stamp x) true)
 put_by given file other stamp x true is = ap (λ f. nat_lt (later stamp (greatest given f)) x) (file_is file other is) ∙ later_less stamp (greatest given other) x

@@ -1,5 +1,5 @@
 -- The stamps of files that were given.
-use Rattle.std.specs.Prelude.{◌≡◌, ℕ, Bool, true, if◌then◌else◌, List, nat_lt, Option, Some, None}
+use Rattle.std.specs.Prelude.{◌≡◌, ℕ, Bool, true, if◌then◌else◌, List, Option, Some}
 use Rattle.std.specs.Map.{lookup}
 use Rattle.sprite_ids.specs.declared.names.FileId.{FileId}
 use Rattle.unix_calls.specs.declared.event.Event.{Event}
@@ -7,26 +7,17 @@ use Rattle.unix_calls.specs.declared.event.Event.TheVariants as event
 use Rattle.unix_calls.specs.declared.event.Rec.{Rec}
 use Rattle.call_journal.specs.Matching.{same_file}
 use Rattle.call_journal.specs.WorthRecords.{is_stamp_new}
+use Rattle.trace_rules.specs.Greatest.{is_less, later}
 
 -- the greatest stamp of a file
 abbrev pub greatest : List (FileId × ℕ) → FileId → Option ℕ
 greatest given file = lookup (same_file file) given
-
--- a stamp is greater than that one
-abbrev pub is_less : Option ℕ → ℕ → Bool
-is_less None stamp = true
-is_less (Some last) stamp = nat_lt last stamp
 
 -- a stamp may be given
 abbrev pub may_give : List (FileId × ℕ) → Event → Bool
 may_give given (event.Grant file to stamp mode) = is_less (greatest given file) stamp
 may_give given (event.Callback file to stamp kind) = is_less (greatest given file) stamp
 may_give given _ = true
-
--- the greater one of a stamp and one that may be there
-abbrev pub later : ℕ → Option ℕ → ℕ
-later stamp None = stamp
-later stamp (Some last) = if nat_lt last stamp then stamp else last
 
 -- what is kept of a file, where a stamp is given
 abbrev pub given_put : FileId → ℕ → List (FileId × ℕ) → FileId → Option ℕ

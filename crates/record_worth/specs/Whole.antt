@@ -8,29 +8,13 @@ use Rattle.unix_calls.specs.declared.event.Event.TheVariants as event
 use Rattle.unix_calls.specs.declared.event.Rec.{Rec}
 use Rattle.call_journal.specs.Past.{Past, each_from, each_record, no_past, past_with}
 use Rattle.call_journal.specs.WorthRecords.{is_made_of, is_stamp_new, is_first_callback, was_opened}
-use Rattle.record_worth.specs.Lists.{and_assoc}
+use Rattle.trace_rules.specs.Lists.{and_assoc}
+use Rattle.trace_rules.specs.EachLaws.{each_both, each_same}
 use Rattle.record_worth.specs.Parts.{comes_and_goes, blocks_come_and_go, stamps_well, stamps_rise, calls_well, callbacks_are_first, streams_well, streams_are_opened, is_served_at, prefixes_are_served, learns_once, prefixes_are_learned_once, moves_well, moves_begin_and_end}
 
 -- each record is made of what is there
 abbrev pub records_are_made : Description → List Rec → Bool
 records_are_made c trace = each_record c (λ past rec rest. is_made_of c past rec.kernel rec.event) trace
-
-and_between : (a b c d : Bool) → ((a && b) && (c && d)) ≡ ((a && c) && (b && d))
-and_between true true c d = refl
-and_between true false true d = refl
-and_between true false false d = refl
-and_between false b c d = refl
-
--- a test that asks two things of each record
-each_both : (c : Description) (p q : Past → Rec → Bool) (past : Past) (trace : List Rec) → each_from c (λ past r rest. p past r && q past r) past trace ≡ (each_from c (λ past r rest. p past r) past trace && each_from c (λ past r rest. q past r) past trace)
-each_both c p q past [] = refl
-each_both c p q past (rec ∷ rest) =
-    ap (λ b. (p past rec && q past rec) && b) (each_both c p q (past_with c rec past) rest)
-    ∙ and_between (p past rec) (q past rec) (each_from c (λ past r rest. p past r) (past_with c rec past) rest) (each_from c (λ past r rest. q past r) (past_with c rec past) rest)
-
-each_same : (c : Description) (p q : Past → Rec → Bool) (past : Past) (trace : List Rec) → ((past : Past) (rec : Rec) → p past rec ≡ q past rec) → each_from c (λ past r rest. p past r) past trace ≡ each_from c (λ past r rest. q past r) past trace
-each_same c p q past [] same = refl
-each_same c p q past (rec ∷ rest) same = ap₂ (λ a b. a && b) (same past rec) (each_same c p q (past_with c rec past) rest same)
 
 -- one that looks at the record alone
 each_all : (c : Description) (p : Rec → Bool) (past : Past) (trace : List Rec) → each_from c (λ past r rest. p r) past trace ≡ list_all p trace

@@ -1,13 +1,13 @@
 ghost use Rattle.std.specs.Prelude.{◌≡◌, IfOk, OnOk};
 ghost use Rattle.record_worth.specs.Parts.{blocks_come_and_go, comes_and_goes};
-ghost use Rattle.record_worth.specs.Blocks.{HoldsOn, TellsHeld, may_come_or_go};
+ghost use Rattle.trace_rules.specs.Places.{HoldsOn, TellsHeld};
+ghost use Rattle.record_worth.specs.Blocks.{may_come_or_go};
 ghost use Rattle.record_worth.specs.BlockLaws.{held_told, held_told_on};
 
-use crate::keys::BlockAt;
 use indexmap::IndexSet;
-use sprite_ids::{BlockNo, FileId, Kernel, NoMemory};
+use sprite_ids::NoMemory;
 use std::alloc::Global;
-use trace_rules::{LooksBack, each_keeps};
+use trace_rules::{BlockAt, LooksBack, block_at, each_keeps, keep_block};
 use unix_calls::{Description, Event, Rec};
 
 /// Whether blocks of the trace come only into caches that don't hold them, and leave only those that do (this project). The one
@@ -49,30 +49,10 @@ impl LooksBack for Blocks {
     }
 
     fn go_on(&mut self, _alloc: Global, rec: &Rec) -> Result<(), NoMemory> {
-        match &rec.event {
-            Event::Filled { file, block } => {
-                self.held.insert(block_at(rec.kernel, file, block))?;
-            }
-            Event::Dropped { file, block, .. } => {
-                self.held.swap_remove(&block_at(rec.kernel, file, block));
-            }
-            _ => {}
-        }
-        Ok(())
+        keep_block(&mut self.held, rec)
     }
 
     ghost is_told = { held_told };
 
     ghost tells_on = { held_told_on };
-}
-
-// The block of that number.
-fn block_at(kernel: Kernel, file: &FileId, block: &BlockNo) -> BlockAt
-    ensures { result ≡ record { kernel = kernel; file = file.now; block = block.now } }
-{
-    BlockAt {
-        kernel,
-        file: *file,
-        block: *block,
-    }
 }

@@ -3,11 +3,10 @@ ghost use Rattle.record_worth.specs.Parts.{callbacks_are_first, calls_well};
 ghost use Rattle.record_worth.specs.Callbacks.{CallsOn, CountsOpen, PutsCall, TellsCalls, is_called_in, is_open_in, may_call, open_count};
 ghost use Rattle.record_worth.specs.CallbackLaws.{calls_told, calls_told_on};
 
-use crate::keys::FileAt;
 use indexmap::IndexMap;
 use sprite_ids::{FileId, Kernel, NoMemory};
 use std::alloc::Global;
-use trace_rules::{LooksBack, each_keeps};
+use trace_rules::{FileAt, LooksBack, each_keeps};
 use unix_calls::{Description, Event, Rec, SendKind};
 
 /// Whether callbacks and fetches of the trace are of files that were opened, and at most one callback goes to each kernel between two

@@ -5,7 +5,6 @@
 mod blocks;
 mod callbacks;
 mod keys;
-mod learned;
 mod moves;
 mod prefixes;
 mod stamps;

@@ -3,12 +3,12 @@ ghost use Rattle.unix_calls.specs.Lawful.{Lawful};
 ghost use Rattle.record_worth.specs.Parts.{moves_begin_and_end, moves_well};
 ghost use Rattle.record_worth.specs.Moves.{may_move};
 ghost use Rattle.record_worth.specs.MoveLaws.{moves_told, moves_told_on};
-ghost use Rattle.trace_places.specs.Places.{MovesOn, TellsPlaces, is_on_its_way, place_kept};
+ghost use Rattle.trace_places.specs.Places.{MovesOn, TellsPlaces};
 
 use indexmap::IndexMap;
-use sprite_ids::{NoMemory, Pid};
+use sprite_ids::NoMemory;
 use std::alloc::Global;
-use trace_places::{Place, boot_places, keep_place, place_in};
+use trace_places::{Place, boot_places, is_on_its_way, keep_place};
 use trace_rules::{LooksBack, each_keeps};
 use unix_calls::{Description, Event, Rec};
 
@@ -54,13 +54,4 @@ impl LooksBack for Moves {
     ghost is_told = { moves_told };
 
     ghost tells_on = { moves_told_on };
-}
-
-fn is_on_its_way(places: &IndexMap<u64, Place>, pid: Pid) -> bool
-    ensures { result ≡ is_on_its_way (place_kept places.now.entries pid) }
-{
-    match place_in(places, pid) {
-        Some(place) => place.moving,
-        None => false,
-    }
 }

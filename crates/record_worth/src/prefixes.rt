@@ -1,19 +1,19 @@
 ghost use Rattle.std.specs.Prelude.{◌≡◌, IfOk, OnOk};
 ghost use Rattle.std.specs.List.{list_all};
-ghost use Rattle.unix_calls.specs.Domains.{begins_domain, roots_of};
 ghost use Rattle.unix_calls.specs.Lawful.{Lawful};
-ghost use Rattle.call_journal.specs.Calls.{is_domain, server_of};
+ghost use Rattle.call_journal.specs.Calls.{server_of};
 ghost use Rattle.record_worth.specs.Parts.{is_served_at, learns_once, prefixes_are_learned_once, prefixes_are_served};
-ghost use Rattle.record_worth.specs.Prefixes.{LearnsOn, TellsLearned, is_new, is_new_learned};
+ghost use Rattle.trace_rules.specs.Learned.{LearnsOn, TellsLearned};
+ghost use Rattle.record_worth.specs.Prefixes.{is_new_learned};
 ghost use Rattle.record_worth.specs.PrefixLaws.{learned_told, learned_told_on};
 
-use crate::learned::Learned;
 use indexmap::IndexSet;
-use sprite_ids::{Copying, Kernel, NoMemory};
+use sprite_ids::{Kernel, NoMemory};
 use sprite_paths::Path;
 use std::alloc::Global;
-use trace_rules::{LooksBack, each_keeps};
+use trace_rules::{Learned, LooksBack, each_keeps, is_new_prefix, keep_learned};
 use unix_calls::{Description, Event, Rec};
+use unix_world::begins_domain;
 
 /// Whether each kernel of the trace learns a prefix's server only once (Welch and Ousterhout 1986). The one error is want of memory.
 pub fn prefixes_are_learned_once(
@@ -46,39 +46,23 @@ impl LooksBack for Prefixes {
 
     fn fits(&self, alloc: Global, _c: &Description, rec: &Rec) -> Result<bool, NoMemory> {
         match &rec.event {
-            Event::Learned { prefix, .. } => is_new(alloc, &self.learned, rec.kernel, prefix),
+            Event::Learned { prefix, .. } => is_new_prefix(
+                alloc,
+                &self.learned,
+                rec.kernel,
+                prefix,
+            ),
             _ => Ok(true),
         }
     }
 
     fn go_on(&mut self, alloc: Global, rec: &Rec) -> Result<(), NoMemory> {
-        if let Event::Learned { prefix, .. } = &rec.event {
-            let prefix = prefix.copy(alloc)?;
-            self.learned.insert(Learned {
-                kernel: rec.kernel,
-                prefix,
-            })?;
-        }
-        Ok(())
+        keep_learned(alloc, &mut self.learned, rec)
     }
 
     ghost is_told = { learned_told };
 
     ghost tells_on = { learned_told_on };
-}
-
-// Whether the kernel has not learned the prefix so far.
-fn is_new(
-    alloc: Global,
-    learned: &IndexSet<Learned>,
-    kernel: Kernel,
-    prefix: &Path,
-) -> Result<bool, NoMemory>
-    ensures { IfOk result (λ fit. fit ≡ is_new learned.now.keys kernel prefix.now) }
-{
-    let prefix = prefix.copy(alloc)?;
-    let asked = Learned { kernel, prefix };
-    Ok(!learned.contains(&asked))
 }
 
 /// Whether each prefix that a kernel of the trace learns begins a domain, of the server that it learns (Welch and Ousterhout 1986).
@@ -112,28 +96,4 @@ fn server_of(c: &Description, path: &Path) -> Kernel
     ensures { result ≡ server_of c.now path.now }
 {
     c.server_at(c.domain_of(path))
-}
-
-// Whether a domain begins at that path.
-fn begins_domain(c: &Description, path: &Path) -> bool
-    ensures { result ≡ is_domain c.now path.now }
-{
-    for line in c.kernels.as_slice() {
-        if is_among(line.serves.as_slice(), path) {
-            return true;
-        }
-    }
-    false
-}
-
-// Whether the path is one of these.
-fn is_among(paths: &[Path], path: &Path) -> bool
-    ensures { result ≡ begins_domain paths.now path.now }
-{
-    for other in paths {
-        if path.parts() == other.parts() {
-            return true;
-        }
-    }
-    false
 }

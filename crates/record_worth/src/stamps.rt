@@ -1,6 +1,7 @@
 ghost use Rattle.std.specs.Prelude.{◌≡◌, IfOk, OnOk};
 ghost use Rattle.record_worth.specs.Parts.{stamps_rise, stamps_well};
-ghost use Rattle.record_worth.specs.Stamps.{PutsLater, RisesOn, TellsStamps, greatest, is_less, later, may_give};
+ghost use Rattle.trace_rules.specs.Greatest.{is_less, later};
+ghost use Rattle.record_worth.specs.Stamps.{PutsLater, RisesOn, TellsStamps, greatest, may_give};
 ghost use Rattle.record_worth.specs.StampLaws.{stamps_told, stamps_told_on};
 
 use indexmap::IndexMap;

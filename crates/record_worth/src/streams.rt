@@ -1,12 +1,13 @@
 ghost use Rattle.std.specs.Prelude.{◌≡◌, [], IfOk, OnOk};
 ghost use Rattle.record_worth.specs.Parts.{streams_are_opened, streams_well};
-ghost use Rattle.record_worth.specs.Streams.{KeepsStreams, TellsStreams, may_stream, mode_number};
+ghost use Rattle.record_worth.specs.Streams.{KeepsStreams, TellsStreams, may_stream};
 ghost use Rattle.record_worth.specs.StreamLaws.{streams_told, streams_told_on};
 
-use crate::keys::{OpenAt, StreamOf};
+use crate::keys::StreamOf;
 use indexmap::IndexSet;
-use sprite_ids::{FileId, Kernel, Mode, NoMemory, StreamNo};
+use sprite_ids::{FileId, NoMemory, StreamNo};
 use std::alloc::Global;
+use trace_forms::{OpenAt, open_at};
 use trace_rules::{LooksBack, each_keeps};
 use unix_calls::{Description, Event, Rec};
 
@@ -102,26 +103,5 @@ fn stream_of(file: &FileId, stream: &StreamNo) -> StreamOf
     StreamOf {
         file: *file,
         stream: *stream,
-    }
-}
-
-fn open_at(file: &FileId, stream: &StreamNo, kernel: Kernel, mode: Mode) -> OpenAt
-    ensures { result ≡ record { file = file.now; stream = stream.now; kernel = kernel; mode = mode_number mode } }
-{
-    OpenAt {
-        file: *file,
-        stream: *stream,
-        kernel,
-        mode: mode_number(mode),
-    }
-}
-
-fn mode_number(mode: Mode) -> u8
-    ensures { result ≡ mode_number mode }
-{
-    match mode {
-        Mode::Read => 0,
-        Mode::Write => 1,
-        Mode::Both => 2,
     }
 }

@@ -33,7 +33,7 @@ use Rattle.file_views.proofs.StampServeLaws.{idle}
 use Rattle.file_views.proofs.ModeServeLaws.{arrival_open}
 use Rattle.file_views.specs.SoundContents.{StandsFor}
 use Rattle.file_views.proofs.SettledLaws.{stands_is}
-use Rattle.restart_views.proofs.ViewLaws.{layers_of}
+use Rattle.file_views.proofs.SoundLaws.{layers_of}
 use Rattle.file_views.proofs.DecisionLaws.{flat_decisions, decisions_of}
 use Rattle.restart_views.proofs.ViewLaws.{decisions_server}
 use Rattle.file_views.proofs.ModeLaws.{flat_modes, modes_of, under_of}

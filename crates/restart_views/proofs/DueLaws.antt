@@ -37,7 +37,7 @@ use Rattle.restart_views.specs.declared.restarted.Restarted.{Restarted}
 use Rattle.restart_views.specs.Answered.{Answered}
 use Rattle.restart_views.specs.Restarts.{is_unclaimed, keeps_blocks, flushes, answer_of, answered_size, answered_blocks, client_at, kept_of, or_kept, keep_to, after_stop, Restarts}
 use Rattle.restart_views.specs.RunBytes.{due_kept, due_of, due_in, due, NoneOld, OldAt, OneOld}
-use Rattle.restart_views.proofs.ViewLaws.{layers_of}
+use Rattle.file_views.proofs.SoundLaws.{layers_of}
 use Rattle.restart_views.proofs.BareLaws.{bare_sound}
 use Rattle.restart_views.proofs.CoolLaws.{cold_bare, cold_stood}
 use Rattle.restart_views.proofs.AnsweredLaws.{first_dirty}

@@ -14,7 +14,7 @@ use Rattle.file_views.specs.Here.{In}
 use Rattle.file_views.specs.Sound.{Sound}
 use Rattle.restart_views.specs.ServerMoves.{ServerMove, Rise, Replace, Greet, Reopen, Cache, on_in, is_calm, greeted, reopened, may_serve, after_serve, bytes_served}
 use Rattle.file_views.proofs.SettledLaws.{stands_is}
-use Rattle.restart_views.proofs.ViewLaws.{layers_of}
+use Rattle.file_views.proofs.SoundLaws.{layers_of}
 use Rattle.restart_views.proofs.ViewLaws.{get_in}
 use Rattle.file_views.specs.Possible.{is_client, is_named}
 use Rattle.file_views.proofs.ShapeStepLaws.{client_is}

@@ -5,24 +5,9 @@ use Rattle.file_views.specs.declared.view.View.{View}
 use Rattle.file_views.specs.Setting.{Setting}
 use Rattle.file_views.specs.Views.{things}
 use Rattle.file_views.specs.Here.{In}
-use Rattle.file_views.specs.LayerLaw.{Layers}
-use Rattle.file_views.specs.Sound.{Sound}
 use Rattle.file_views.proofs.DecisionLaws.{FlatDecisions, holds_server, decisions_stay_by, stays_calls}
 use Rattle.file_views.proofs.ModeLaws.{dues_self}
 use Rattle.file_views.proofs.ModeChangeLaws.{Moding, moded_self, under_moded, modes_same}
-
-pub layers_of : (z : Setting) (v : View) → Sound z v → Layers z v
-layers_of z v s = record {
-  shapes = s.shapes;
-  streams = s.streams;
-  stamps = s.stamps;
-  decisions = s.decisions;
-  modes = s.modes;
-  holders = s.holders;
-  asking = λ kernel i. (s.requests.each kernel i).asking;
-  write_backs = λ kernel i. (s.requests.each kernel i).write_backs;
-  sizes = λ kernel i. (s.requests.each kernel i).sizes;
-}
 
 pub decisions_server : (z : Setting) (v w : View) → w.clients ≡ v.clients → w.uncached ≡ v.uncached → w.opens ≡ v.opens → w.shared ≡ v.shared → w.modes ≡ v.modes → w.calls ≡ v.calls → FlatDecisions z v → FlatDecisions z w
 decisions_server z v w a b c e g h d = decisions_stay_by z v w (stays_calls v w (holds_server v w a b c e g) h) d

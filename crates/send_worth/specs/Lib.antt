@@ -1,3 +1,3 @@
-pub mod Lists
+pub mod Comparisons
 pub mod Sends
 pub mod SendLaws

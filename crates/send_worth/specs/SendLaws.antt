@@ -16,7 +16,8 @@ use Rattle.call_journal.specs.WorthSends.{moves_blocks, is_counted_send, is_for,
 use Rattle.send_worth.specs.declared.call_at.CallAt.{CallAt}
 use Rattle.send_worth.specs.declared.sends.Issued.{Issued}
 use Rattle.send_worth.specs.declared.sends.Sends.{Sends}
-use Rattle.send_worth.specs.Lists.{one_if, count_more, no_more, shifted}
+use Rattle.trace_rules.specs.Lists.{one_if, count_more, no_more}
+use Rattle.send_worth.specs.Comparisons.{shifted}
 use Rattle.send_worth.specs.Sends.{call_of, about_of, same_call, issued_at, count_or, sent_kept, sent_count, given_kept, given_count, is_few, may_send_for, may_send_about, may_send, given_more, sent_more, sent_for, issued_behind, given_behind, sent_behind, GoesOut, issuer, Balanced, TellsSends}
 
 abbrev at_kernel : Option Issued → Option ℕ

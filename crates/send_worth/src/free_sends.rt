@@ -1,7 +1,7 @@
 ghost use Rattle.std.specs.Prelude.{◌≡◌, ◌+◌, ◌*◌, IfOk, count_by, nat_le};
 ghost use Rattle.call_journal.specs.Matching.{has_event};
 ghost use Rattle.call_journal.specs.WorthSends.{are_free_sends_few, is_free_send, is_occasion};
-ghost use Rattle.send_worth.specs.Lists.{one_if};
+ghost use Rattle.trace_rules.specs.Lists.{one_if};
 
 use sprite_ids::NoMemory;
 use unix_calls::{Event, Rec, SendKind};

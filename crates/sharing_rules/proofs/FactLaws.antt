@@ -18,7 +18,7 @@ use Rattle.unix_calls.specs.State.{Unix, process_at, stream_of}
 use Rattle.unix_calls.specs.StreamCalls.{begins_at}
 use Rattle.unix_world.specs.declared.World.{World}
 use Rattle.unix_world.specs.Worlds.{unix_of, bare}
-use Rattle.call_journal.specs.Past.{Past, Tie, holds, stream_in, tied, state_by, entry_count, made_by, stream_made, file_stream}
+use Rattle.call_journal.specs.Past.{Past, Tie, stream_in, tied, state_by, entry_count, made_by, stream_made, file_stream}
 use Rattle.call_journal.specs.Calls.{is_whole, descriptor_of}
 use Rattle.call_journal.specs.CachedCalls.{Range, bytes_in, use_of, read_range, write_range, is_local}
 use Rattle.call_journal.specs.Drops.{is_truncating_event}
@@ -27,7 +27,9 @@ use Rattle.trace_tables.specs.Known.{stream_for}
 use Rattle.trace_tables.specs.Ties.{tied_by, tied_at}
 use Rattle.sharing_rules.specs.declared.entry_facts.EntryFacts.{EntryFacts}
 use Rattle.sharing_rules.specs.declared.entry_facts.LocalUse.{LocalUse}
-use Rattle.sharing_rules.specs.Places.{kernel_at, kernel_in}
+use Rattle.trace_places.specs.declared.places.Place.{Place}
+use Rattle.trace_places.specs.Places.{TellsPlaces}
+use Rattle.trace_places.specs.PlaceLaws.{kernel_told}
 use Rattle.sharing_rules.specs.Facts.{span, span_on, use_at, local_use, local_at, facts_at, span_by, used_in, is_local_in, entry_local_in, local_in, truncates_in}
 
 -- the stream of a descriptor, by the state
@@ -86,16 +88,16 @@ call_told c world ps past pid (Some call.Fork) reply unix = refl
 call_told c world ps past pid (Some _) reply unix = refl
 
 -- whether an entry is at its process's kernel
-local_told : (places : List (ℕ × ℕ)) (past : Past) (kernel : ℕ) (entry : Entry) → ((pid : ℕ) → kernel_at places pid ≡ kernel_in past.processes pid) → is_local_in places kernel entry ≡ is_local past kernel entry
-local_told places past kernel entry homes = ap (λ o. is_whole entry.part && holds (λ at. at == kernel) o) (homes entry.pid)
+local_told : (places : List (ℕ × Place)) (past : Past) (kernel : ℕ) (entry : Entry) → TellsPlaces places past.processes → is_local_in places kernel entry ≡ is_local past kernel entry
+local_told places past kernel entry homes = ap (λ b. is_whole entry.part && b) (sym (kernel_told places past entry.pid kernel homes))
 
-entry_told : (c : Description) (world : World) (ps : List Process) (places : List (ℕ × ℕ)) (past : Past) (kernel : ℕ) (entry : Entry) → past.unix ≡ Some (unix_of c world ps) → ((pid : ℕ) → kernel_at places pid ≡ kernel_in past.processes pid) → entry_local_in places world ps kernel entry (tied_at past (event.Enter entry)) ≡ local_use past kernel entry
+entry_told : (c : Description) (world : World) (ps : List Process) (places : List (ℕ × Place)) (past : Past) (kernel : ℕ) (entry : Entry) → past.unix ≡ Some (unix_of c world ps) → TellsPlaces places past.processes → entry_local_in places world ps kernel entry (tied_at past (event.Enter entry)) ≡ local_use past kernel entry
 entry_told c world ps places past kernel entry unix homes =
     ap (λ b. cond b (used_in world ps entry.pid (tied_at past (event.Enter entry)) (use_of (Some (bare world)) entry.call entry.reply)) None) (local_told places past kernel entry homes)
     ∙ ap (λ o. cond (is_local past kernel entry) o None) (call_told c world ps past entry.pid entry.call entry.reply unix)
     ∙ ap (λ u. cond (is_local past kernel entry) (use_at past entry.pid (use_of u entry.call entry.reply)) None) (sym unix)
 
-used_by : (c : Description) (world : World) (ps : List Process) (places : List (ℕ × ℕ)) (past : Past) (kernel : ℕ) (e : Event) → past.unix ≡ Some (unix_of c world ps) → ((pid : ℕ) → kernel_at places pid ≡ kernel_in past.processes pid) → local_in places world ps kernel e (tied_at past e) ≡ local_at past kernel e
+used_by : (c : Description) (world : World) (ps : List Process) (places : List (ℕ × Place)) (past : Past) (kernel : ℕ) (e : Event) → past.unix ≡ Some (unix_of c world ps) → TellsPlaces places past.processes → local_in places world ps kernel e (tied_at past e) ≡ local_at past kernel e
 used_by c world ps places past kernel (event.Enter entry) unix homes = entry_told c world ps places past kernel entry unix homes
 used_by c world ps places past kernel (event.Burst pid count) unix homes = refl
 used_by c world ps places past kernel _ unix homes = refl
@@ -109,10 +111,10 @@ cuts_by c world world_after ps ps_after past (event.Burst pid count) unix later 
 cuts_by c world world_after ps ps_after past _ unix later = refl
 
 -- all that is told of a record, with those words
-abbrev pub fact_in : List (ℕ × ℕ) → World → List Process → World → Rec → Option Tied → EntryFacts
+abbrev pub fact_in : List (ℕ × Place) → World → List Process → World → Rec → Option Tied → EntryFacts
 fact_in places world ps world_after rec tie =
     record { local = local_in places world ps rec.kernel rec.event tie; truncates = truncates_in rec.event world_after.streams world.entries }
 
-pub facts_told : (c : Description) (world world_after : World) (ps ps_after : List Process) (places : List (ℕ × ℕ)) (past : Past) (rec : Rec) → past.unix ≡ Some (unix_of c world ps) → ((pid : ℕ) → kernel_at places pid ≡ kernel_in past.processes pid) → state_by c rec.event past.unix ≡ Some (unix_of c world_after ps_after) → fact_in places world ps world_after rec (tied_at past rec.event) ≡ facts_at c past rec
+pub facts_told : (c : Description) (world world_after : World) (ps ps_after : List Process) (places : List (ℕ × Place)) (past : Past) (rec : Rec) → past.unix ≡ Some (unix_of c world ps) → TellsPlaces places past.processes → state_by c rec.event past.unix ≡ Some (unix_of c world_after ps_after) → fact_in places world ps world_after rec (tied_at past rec.event) ≡ facts_at c past rec
 facts_told c world world_after ps ps_after places past rec unix homes later =
     ap₂ (λ (l : Option LocalUse) (t : Bool). record { local = l; truncates = t }) (used_by c world ps places past rec.kernel rec.event unix homes) (cuts_by c world world_after ps ps_after past rec.event unix later)

@@ -1,4 +1,3 @@
-pub mod PlaceLaws
 pub mod FactLaws
 pub mod FollowLaws
 pub mod PaidLaws

@@ -1,7 +1,6 @@
 -- What kernels cache, and the calls that were done in a cache.
 use Rattle.std.specs.Prelude.{◌≡◌, ℕ, zero, suc, ◌+◌, ◌-◌, ◌/◌, ◌==◌, Bool, true, false, ◌&&◌, not, if◌then◌else◌, List, Option, Some, None}
 use Rattle.std.specs.List.{list_any}
-use Rattle.std.specs.Map.{lookup}
 use Rattle.std.specs.Option.{is_some}
 use Rattle.sprite_ids.specs.declared.names.FileId.{FileId}
 use Rattle.sprite_ids.specs.declared.caching.CacheMode.{CacheMode}
@@ -17,33 +16,23 @@ use Rattle.call_journal.specs.Files.{mode_of, holds_block}
 use Rattle.call_journal.specs.CachedCalls.{is_between}
 use Rattle.sharing_rules.specs.declared.entry_facts.LocalUse.{LocalUse}
 use Rattle.sharing_rules.specs.declared.keys.CallAt.{CallAt}
-use Rattle.sharing_rules.specs.declared.keys.FileAt.{FileAt}
+use Rattle.trace_rules.specs.declared.place.FileAt.{FileAt}
+use Rattle.trace_rules.specs.Modes.{mode_at, mode_or, mode_behind}
 use Rattle.sharing_rules.specs.declared.keys.HeldAt.{HeldAt}
 
--- the same file or block at the same kernel, and the same call
-abbrev pub same_use : FileAt → FileAt → Bool
-same_use a b = a.kernel == b.kernel && same_file a.file b.file
-
+-- the same block at the same kernel, and the same call
 abbrev pub same_held : HeldAt → HeldAt → Bool
 same_held a b = a.kernel == b.kernel && (same_file a.file b.file && a.block == b.block)
 
 abbrev pub same_call : CallAt → CallAt → Bool
 same_call a b = a.pid == b.pid && a.number == b.number
 
--- what is kept of a file, a block and a call
-abbrev pub mode_at : List (FileAt × CacheMode) → FileAt → Option CacheMode
-mode_at modes at = lookup (same_use at) modes
-
+-- what is kept of a block and a call
 abbrev pub has_held : List HeldAt → HeldAt → Bool
 has_held held at = list_any (same_held at) held
 
 abbrev pub has_quiet : List CallAt → CallAt → Bool
 has_quiet quiet at = list_any (same_call at) quiet
-
--- a kernel that took no mode of a file has none
-abbrev pub mode_or : Option CacheMode → CacheMode
-mode_or None = cache.None
-mode_or (Some mode) = mode
 
 -- whether the mode is on
 abbrev pub is_on_or : Option CacheMode → Bool
@@ -83,12 +72,7 @@ is_well_cached modes held quiet kernel (event.Enter entry) used = is_within_cach
 is_well_cached modes held quiet kernel (event.Send tx to about kind) used = is_quiet_in quiet about
 is_well_cached modes held quiet kernel _ used = true
 
--- what is kept of a file, a block and a call behind an event of a kernel
-abbrev pub mode_behind : ℕ → Event → FileAt → Option CacheMode → Option CacheMode
-mode_behind kernel (event.Mode file stamp mode) at before =
-    if same_use (record { kernel = kernel; file = file }) at then Some mode else before
-mode_behind kernel _ at before = before
-
+-- what is kept of a block and a call behind an event of a kernel
 abbrev pub held_behind : ℕ → Event → HeldAt → Bool → Bool
 held_behind kernel (event.Filled file block) at before =
     if same_held (record { kernel = kernel; file = file; block = block.0 }) at then true else before

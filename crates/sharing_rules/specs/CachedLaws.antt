@@ -10,15 +10,16 @@ use Rattle.unix_calls.specs.declared.event.Event.TheVariants as event
 use Rattle.unix_calls.specs.declared.event.Rec.{Rec}
 use Rattle.unix_calls.specs.declared.state.Stream.{Stream}
 use Rattle.call_journal.specs.Past.{Past, Tie, stream_in, tied, no_past, past_with}
-use Rattle.call_journal.specs.Matching.{same_file, is_on}
+use Rattle.call_journal.specs.Matching.{is_on}
 use Rattle.call_journal.specs.Files.{mode_by}
 use Rattle.call_journal.specs.CachedCalls.{Range, FileUse, use_of, are_held_from, is_range_held, is_cached_well, uses_held, use_is_held, is_local, is_quiet, is_cached_call_well}
 use Rattle.call_journal.proofs.GrowthLaws.{look_backs_grow}
+use Rattle.trace_rules.specs.Modes.{mode_at, mode_or}
+use Rattle.trace_rules.specs.ModeLaws.{mode_more}
 use Rattle.sharing_rules.specs.declared.cached_calls.CachedCalls.{CachedCalls}
-use Rattle.sharing_rules.specs.declared.keys.FileAt.{FileAt}
 use Rattle.sharing_rules.specs.Facts.{span, span_on, use_at, local_at, facts_at}
 use Rattle.sharing_rules.specs.Judging.{Pays}
-use Rattle.sharing_rules.specs.Cached.{mode_at, mode_or, is_on_or, has_quiet, are_held_in, is_range_held_in, is_within_cache, is_quiet_in, is_well_cached, mode_behind, held_behind, CachesOn, TellsCached}
+use Rattle.sharing_rules.specs.Cached.{is_on_or, has_quiet, are_held_in, is_range_held_in, is_within_cache, is_quiet_in, is_well_cached, held_behind, CachesOn, TellsCached}
 use Rattle.sharing_rules.specs.HeldLaws.{held_more}
 use Rattle.sharing_rules.specs.QuietLaws.{past_more, quiet_more}
 
@@ -80,19 +81,6 @@ pub cached_ends : (c : Description) (judge : CachedCalls) (past : Past) → Tell
 cached_ends c judge past told = (λ due. refl, λ paid. tt)
 
 -- ---- one record more
-
-same_both : (b : Bool) (mode : CacheMode) → mode ≡ cond b mode mode
-same_both true mode = refl
-same_both false mode = refl
-
-taken : (b d : Bool) (mode : CacheMode) (o : Option CacheMode) → mode_or (cond (b && d) (Some mode) o) ≡ cond b (cond d mode (mode_or o)) (mode_or o)
-taken true true mode o = refl
-taken true false mode o = refl
-taken false d mode o = refl
-
-mode_more : (kernel : ℕ) (e : Event) (at : FileAt) (o : Option CacheMode) → mode_or (mode_behind kernel e at o) ≡ cond (kernel == at.kernel) (mode_by at.file e (mode_or o)) (mode_or o)
-mode_more kernel (event.Mode f stamp mode) at o = taken (kernel == at.kernel) (same_file f at.file) mode o
-mode_more kernel _ at o = same_both (kernel == at.kernel) (mode_or o)
 
 pub cached_goes_on : (c : Description) (old new : CachedCalls) (past : Past) (rec : Rec) → TellsCached c old.modes.entries old.held.keys old.quiet.keys past → CachesOn rec (facts_at c past rec).local old.modes.entries old.held.keys old.quiet.keys new.modes.entries new.held.keys new.quiet.keys → TellsCached c new.modes.entries new.held.keys new.quiet.keys (past_with c rec past)
 cached_goes_on c old new past rec told more = record {

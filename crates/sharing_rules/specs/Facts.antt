@@ -12,7 +12,7 @@ use Rattle.unix_calls.specs.declared.state.Stream.{Stream}
 use Rattle.unix_calls.specs.State.{Unix, process_at, stream_at}
 use Rattle.unix_world.specs.declared.World.{World}
 use Rattle.unix_world.specs.Worlds.{bare}
-use Rattle.call_journal.specs.Past.{Past, Tie, holds, stream_in, tied, state_by, entry_count, made_by, file_stream, no_past, past_with}
+use Rattle.call_journal.specs.Past.{Past, Tie, stream_in, tied, state_by, entry_count, made_by, file_stream, no_past, past_with}
 use Rattle.call_journal.specs.Calls.{is_whole}
 use Rattle.call_journal.specs.Drops.{is_truncating_event}
 use Rattle.call_journal.specs.CachedCalls.{Range, FileUse, use_of, is_local}
@@ -20,7 +20,8 @@ use Rattle.trace_tables.specs.declared.Tied.{Tied}
 use Rattle.trace_tables.specs.Known.{stream_for}
 use Rattle.sharing_rules.specs.declared.entry_facts.EntryFacts.{EntryFacts}
 use Rattle.sharing_rules.specs.declared.entry_facts.LocalUse.{LocalUse}
-use Rattle.sharing_rules.specs.Places.{kernel_at}
+use Rattle.trace_places.specs.declared.places.Place.{Place}
+use Rattle.trace_places.specs.Places.{place_kept, is_kernel_of}
 
 -- a range of a file
 abbrev pub span : FileId → Range → LocalUse
@@ -77,16 +78,16 @@ abbrev pub used_in : World → List Process → ℕ → Option Tied → Option F
 used_in world ps pid tied None = None
 used_in world ps pid tied (Some used) = span_by used.range tied (stream_for world (process_at ps pid) used.fd)
 
-abbrev pub is_local_in : List (ℕ × ℕ) → ℕ → Entry → Bool
-is_local_in places kernel entry = is_whole entry.part && holds (λ at. at == kernel) (kernel_at places entry.pid)
+abbrev pub is_local_in : List (ℕ × Place) → ℕ → Entry → Bool
+is_local_in places kernel entry = is_whole entry.part && is_kernel_of kernel (place_kept places entry.pid)
 
-abbrev pub entry_local_in : List (ℕ × ℕ) → World → List Process → ℕ → Entry → Option Tied → Option LocalUse
+abbrev pub entry_local_in : List (ℕ × Place) → World → List Process → ℕ → Entry → Option Tied → Option LocalUse
 entry_local_in places world ps kernel entry tied =
     if is_local_in places kernel entry
     then used_in world ps entry.pid tied (use_of (Some (bare world)) entry.call entry.reply)
     else None
 
-abbrev pub local_in : List (ℕ × ℕ) → World → List Process → ℕ → Event → Option Tied → Option LocalUse
+abbrev pub local_in : List (ℕ × Place) → World → List Process → ℕ → Event → Option Tied → Option LocalUse
 local_in places world ps kernel (event.Enter entry) tied = entry_local_in places world ps kernel entry tied
 local_in places world ps kernel _ tied = None
 

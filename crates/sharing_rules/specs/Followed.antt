@@ -16,7 +16,8 @@ use Rattle.call_journal.specs.Past.{Past}
 use Rattle.trace_tables.specs.declared.Tied.{Tied}
 use Rattle.trace_tables.specs.Ties.{ties_from}
 use Rattle.sharing_rules.specs.declared.entry_facts.EntryFacts.{EntryFacts}
-use Rattle.sharing_rules.specs.Places.{kernel_at, kernel_in}
+use Rattle.trace_places.specs.declared.places.Place.{Place}
+use Rattle.trace_places.specs.Places.{TellsPlaces}
 use Rattle.sharing_rules.specs.Facts.{facts_from, facts_of}
 
 -- what is told of each record, where the journal is legal; nothing, where it isn't
@@ -40,12 +41,12 @@ EntersTo c left e world ps (Some way) world_after ps_after = (way ≡ 0) × (wor
 EntersTo c left e world ps None world_after ps_after = ⊥
 
 -- a place before the rest of a trace, with what is told so far, after so many instructions
-pub record Following (c : Description) (most : ℕ) (trace rest : List Rec) (ties : List (Option Tied)) (cost : ℕ) (world : World) (ps : List Process) (places : List (ℕ × ℕ)) (facts : List EntryFacts) : Type 0 where
+pub record Following (c : Description) (most : ℕ) (trace rest : List Rec) (ties : List (Option Tied)) (cost : ℕ) (world : World) (ps : List Process) (places : List (ℕ × Place)) (facts : List EntryFacts) : Type 0 where
   pub past : Past
   pub place : ℕ
   pub unix : past.unix ≡ Some (unix_of c world ps)
   pub ascends : Ascending ps
-  pub homes : (pid : ℕ) → kernel_at places pid ≡ kernel_in past.processes pid
+  pub homes : TellsPlaces places past.processes
   pub tied : ties ≡ ties_from c past rest
   pub all : facts ++ facts_from c past rest ≡ facts_of c trace
   pub verdict : verdict_from c most place cost (unix_of c world ps) (journal_of rest) ≡ verdict_of c most (journal_of trace)

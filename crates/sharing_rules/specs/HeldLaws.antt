@@ -1,7 +1,6 @@
 -- Whether a kernel holds a block is told record by record.
 use Rattle.std.proofs.Common.{◌≡◌, ◌∙◌, ℕ, ◌==◌, Bool, true, false, cond, not, ◌&&◌, ◌||◌, List, [], ◌∷◌, ◌++◌, map, filter, refl, sym, ap, ap₂}
 use Rattle.std.specs.List.{list_any}
-use Rattle.std.proofs.lemmas.Bool.{and_parts, eqb-true}
 use Rattle.sprite_ids.specs.declared.names.FileId.{FileId}
 use Rattle.sprite_ids.specs.declared.names.BlockNo.{BlockNo}
 use Rattle.unix_calls.specs.declared.event.Event.{Event}
@@ -10,6 +9,7 @@ use Rattle.unix_calls.specs.declared.event.Rec.{Rec}
 use Rattle.call_journal.specs.Matching.{same_file, same_block, has_event}
 use Rattle.call_journal.specs.Files.{HeldBlock, is_block, without_block, marked, all_clean, is_recall_to, blocks_by, held_of, holds_block}
 use Rattle.call_journal.proofs.GrowthLaws.{look_backs_grow}
+use Rattle.trace_rules.specs.PlaceLaws.{same_of}
 use Rattle.sharing_rules.specs.declared.keys.HeldAt.{HeldAt}
 use Rattle.sharing_rules.specs.Cached.{held_behind}
 
@@ -36,20 +36,6 @@ any_kept p q (x ∷ xs) = by (q x) (any_kept p q xs)
     by false more = more
 
 -- ---- names of blocks
-
--- what two names of a block have in common
-record Same (f g : FileId) (b c : BlockNo) : Type 0 where
-  pub files : f ≡ g
-  pub blocks : b ≡ c
-
-same_of : (f g : FileId) (b c : BlockNo) → same_block f b g c ≡ true → Same f g b c
-same_of f g b c h =
-    let parts = and_parts (same_file f g) (b.0 == c.0) h in
-    let file = and_parts (f.server == g.server) (f.number == g.number) parts.0 in
-    record {
-      files = ap₂ (λ s n. record { server = s; number = n }) (eqb-true f.server g.server file.0) (eqb-true f.number g.number file.1);
-      blocks = ap (λ n. record { 0 = n }) (eqb-true b.0 c.0 parts.1);
-    }
 
 not_and : (b : Bool) → (not b && b) ≡ false
 not_and true = refl

@@ -1,4 +1,3 @@
-pub mod Places
 pub mod Facts
 pub mod Followed
 pub mod Judging

@@ -7,10 +7,11 @@ ghost use Rattle.sharing_rules.specs.CachedLaws.{cached_breaks, cached_ends, cac
 
 use crate::entry_facts::{EntryFacts, LocalUse};
 use crate::judging::{Judges, each_is_paid};
-use crate::keys::{CallAt, FileAt, HeldAt};
+use crate::keys::{CallAt, HeldAt};
 use indexmap::{IndexMap, IndexSet};
 use sprite_ids::{CacheMode, FileId, Kernel, NoMemory};
 use std::alloc::Global;
+use trace_rules::FileAt;
 use trace_tables::Tied;
 use unix_calls::{About, Description, Event, Rec};
 

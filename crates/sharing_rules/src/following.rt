@@ -6,10 +6,10 @@ ghost use Rattle.sharing_rules.specs.Followed.{EntersTo, IsWithin, TellsEntries}
 
 use crate::entry_facts::EntryFacts;
 use crate::local::{local_use, truncates};
-use crate::places::{at_homes, keep_place};
 use one_kernel::{Applied, apply};
 use sprite_ids::{Items, NoMemory};
 use std::alloc::Global;
+use trace_places::{home_places, keep_place};
 use trace_tables::Tied;
 use unix_calls::{Description, Event, Process, Rec};
 use unix_world::{World, boot};
@@ -32,7 +32,7 @@ pub fn tell_entries(
     ensures { IfOk result (TellsEntries c.now most trace.now) }
 {
     let (mut world, mut processes) = boot(alloc, c)?;
-    let mut places = at_homes(alloc, processes.as_slice())?;
+    let mut places = home_places(alloc, processes.as_slice())?;
     let mut facts = Vec::new(alloc);
     let mut cost: u64 = 0;
     for (at, rec) in trace.iter().enumerate() {

@@ -7,13 +7,6 @@ pub(crate) struct CallAt {
     pub(crate) number: u32,
 }
 
-/// A file, as a kernel uses it (this project).
-#[derive(Clone, Copy, Debug, PartialEq, Eq, Hash)]
-pub(crate) struct FileAt {
-    pub(crate) kernel: Kernel,
-    pub(crate) file: FileId,
-}
-
 /// A block in a kernel's cache; its number may be any that a range of bytes leads to (this project).
 #[derive(Clone, Copy, Debug, PartialEq, Eq, Hash)]
 pub(crate) struct HeldAt {

@@ -7,7 +7,6 @@ mod following;
 mod judging;
 mod keys;
 mod local;
-mod places;
 
 pub use cached_calls::cached_calls_use_held_blocks;
 pub use entry_facts::{EntryFacts, LocalUse};

@@ -9,10 +9,10 @@ ghost use Rattle.trace_tables.specs.Known.{stream_for};
 ghost use Rattle.sharing_rules.specs.Facts.{is_file_made, is_local_in, local_in, span_by, truncates_in, used_in};
 
 use crate::entry_facts::LocalUse;
-use crate::places::is_at;
 use indexmap::IndexMap;
 use process_machine::{Call, Reply};
 use sprite_ids::{Kernel, Pid};
+use trace_places::{Place, is_kernel_of};
 use trace_tables::Tied;
 use unix_calls::{Entry, Event, Object, Part, Process, Rec, Stream};
 use unix_world::{Streams, World, find, stream_of};
@@ -20,7 +20,7 @@ use unix_world::{Streams, World, find, stream_of};
 /// The bytes that the entry of a record uses at its process's own kernel, in that state of the one-kernel Unix; its call goes by
 /// that file and stream.
 pub(crate) fn local_use(
-    places: &IndexMap<u64, Kernel>,
+    places: &IndexMap<u64, Place>,
     world: &World,
     ps: &[Process],
     rec: &Rec,
@@ -42,11 +42,11 @@ pub(crate) fn local_use(
 }
 
 // Whether it is a whole call that enters at its process's kernel.
-fn is_local(places: &IndexMap<u64, Kernel>, kernel: Kernel, entry: &Entry) -> bool
+fn is_local(places: &IndexMap<u64, Place>, kernel: Kernel, entry: &Entry) -> bool
     ensures { result ≡ is_local_in places.now.entries kernel entry.now }
 {
     match entry.part {
-        Part::Whole => is_at(places, entry.pid, kernel),
+        Part::Whole => is_kernel_of(places, entry.pid, kernel),
         _ => false,
     }
 }

@@ -2,12 +2,10 @@
 use Rattle.std.proofs.Common.{◌≡◌, ◌∙◌, ℕ, ◌+◌, ◌-◌, ◌==◌, Bool, true, false, cond, ◌&&◌, ◌||◌, not, List, [], ◌∷◌, ◌++◌, Option, Some, None, refl, sym, ap, ap₂, subst, take, drop, length}
 use Rattle.std.specs.List.{list_any}
 use Rattle.std.specs.Option.{is_some}
-use Rattle.std.proofs.lemmas.Bool.{and_parts, eqb-true, true≢false}
 use Rattle.std.proofs.lemmas.List.{take_rest}
 use Rattle.sprite_ids.specs.declared.names.FileId.{FileId}
 use Rattle.sprite_ids.specs.declared.names.StreamNo.{StreamNo}
 use Rattle.sprite_ids.specs.declared.names.Mode.{Mode}
-use Rattle.sprite_ids.specs.declared.names.Mode.TheVariants as mode
 use Rattle.unix_calls.specs.declared.description.Description.{Description}
 use Rattle.unix_calls.specs.declared.event.Event.{Event}
 use Rattle.unix_calls.specs.declared.event.Event.TheVariants as event
@@ -16,7 +14,7 @@ use Rattle.unix_calls.specs.declared.state.Stream.{Stream}
 use Rattle.unix_calls.specs.State.{Unix}
 use Rattle.call_journal.specs.Past.{Past, holds, state_by, last_event, event_before_last, opening_behind, no_past, past_with}
 use Rattle.call_journal.specs.Matching.{same_file, same_stream, same_mode, is_at, has_event}
-use Rattle.call_journal.specs.Files.{OpenStream, is_opened_at, without_open, opens_by, opens_of}
+use Rattle.call_journal.specs.Files.{is_opened_at, opens_of}
 use Rattle.call_journal.specs.Formed.{next_is, is_grant_to, is_opening_of, is_opening_as, is_closed_of, is_closed_for, is_source, is_any_shared, is_shared_stream, is_left_well, is_opened_well}
 use Rattle.call_journal.proofs.GrowthLaws.{look_backs_grow}
 use Rattle.trace_forms.specs.Openings.{openings_from, openings_of}
@@ -26,32 +24,10 @@ use Rattle.trace_forms.specs.declared.places.OpenAt.{OpenAt}
 use Rattle.trace_forms.specs.declared.uses.Last.{Last}
 use Rattle.trace_forms.specs.declared.uses.Streams.{Streams}
 use Rattle.trace_forms.specs.Parts.{is_use_well}
-use Rattle.trace_forms.specs.Uses.{mode_number, has_stream, same_opened, has_opened, same_open, has_open, granted_by, shared_by, last_behind, granted_in, shared_in, is_granted_in, is_that, first_opening, is_source_in, is_new_in, is_left_with, is_left_in, is_opened_in, use_fits, opened_behind, modes_behind, shared_behind, opens_behind, KeepsStreams, TellsLast, TellsStreams, TellsUses}
+use Rattle.trace_forms.specs.Opens.{has_open, has_stream, mode_number, opens_behind}
+use Rattle.trace_forms.proofs.OpenLaws.{number_same, shared_on, opens_on}
+use Rattle.trace_forms.specs.Uses.{same_opened, has_opened, granted_by, shared_by, last_behind, granted_in, shared_in, is_granted_in, is_that, first_opening, is_source_in, is_new_in, is_left_with, is_left_in, is_opened_in, use_fits, opened_behind, modes_behind, KeepsStreams, TellsLast, TellsStreams, TellsUses}
 use Rattle.trace_forms.proofs.ListLaws.{and_assoc, any_more, tail_of, tail_drop, last_more, before_more}
-
--- ---- modes by their numbers
-
-number_same : (a b : Mode) → (mode_number a == mode_number b) ≡ same_mode a b
-number_same mode.Read mode.Read = refl
-number_same mode.Read mode.Write = refl
-number_same mode.Read mode.Both = refl
-number_same mode.Write mode.Read = refl
-number_same mode.Write mode.Write = refl
-number_same mode.Write mode.Both = refl
-number_same mode.Both mode.Read = refl
-number_same mode.Both mode.Write = refl
-number_same mode.Both mode.Both = refl
-
-mode_is : (a b : Mode) → same_mode a b ≡ true → a ≡ b
-mode_is mode.Read mode.Read h = refl
-mode_is mode.Write mode.Write h = refl
-mode_is mode.Both mode.Both h = refl
-mode_is mode.Read mode.Write h = absurd (true≢false (sym h))
-mode_is mode.Read mode.Both h = absurd (true≢false (sym h))
-mode_is mode.Write mode.Read h = absurd (true≢false (sym h))
-mode_is mode.Write mode.Both h = absurd (true≢false (sym h))
-mode_is mode.Both mode.Read h = absurd (true≢false (sym h))
-mode_is mode.Both mode.Write h = absurd (true≢false (sym h))
 
 -- ---- the last records
 
@@ -141,87 +117,6 @@ modes_on (event.Opened f s kernel n) file stream m before =
     ap (λ b. cond b true before) (sym (and_assoc (same_file f file) (same_stream s stream) (mode_number n == mode_number m)))
     ∙ ap (λ b. cond (same_file f file && same_stream s stream && b) true before) (number_same n m)
 modes_on _ file stream m before = refl
-
-shared_on : (e : Event) (stream : StreamNo) (before : Bool) → shared_behind e stream before ≡ cond (is_shared_stream stream e) true before
-shared_on (event.Shared f s) stream before = refl
-shared_on _ stream before = refl
-
--- a stream that is open at a kernel, by what names it
-is_like : OpenStream → OpenStream → Bool
-is_like p x = is_opened_at p.stream p.kernel p.mode x
-
-like_is : (p x : OpenStream) → is_opened_at p.stream p.kernel p.mode x ≡ true → x ≡ p
-like_is p x h =
-    let one = and_parts (same_stream x.stream p.stream && x.kernel == p.kernel) (same_mode x.mode p.mode) h in
-    let two = and_parts (same_stream x.stream p.stream) (x.kernel == p.kernel) one.0 in
-    let stream = and_parts (x.stream.kernel == p.stream.kernel) (x.stream.number == p.stream.number) two.0 in
-    let stream_is : x.stream ≡ p.stream = ap₂ (λ k n. record { kernel = k; number = n }) (eqb-true x.stream.kernel p.stream.kernel stream.0) (eqb-true x.stream.number p.stream.number stream.1) in
-    ap (λ s. record { stream = s; kernel = x.kernel; mode = x.mode }) stream_is
-    ∙ ap₂ (λ k m. record { stream = p.stream; kernel = k; mode = m }) (eqb-true x.kernel p.kernel two.1) (mode_is x.mode p.mode one.1)
-
--- whether one is there where one is taken out
-without_is : (p q : OpenStream) (xs : List OpenStream) → list_any (is_opened_at q.stream q.kernel q.mode) (without_open p.stream p.kernel p.mode xs) ≡ cond (is_opened_at q.stream q.kernel q.mode p) false (list_any (is_opened_at q.stream q.kernel q.mode) xs)
-without_is p q [] = by (is_opened_at q.stream q.kernel q.mode p)
-  where
-    by : (b : Bool) → false ≡ cond b false false
-    by true = refl
-    by false = refl
-without_is p q (x ∷ xs) = by (is_opened_at p.stream p.kernel p.mode x) (without_is p q xs) refl
-  where
-    gone : (b y : Bool) → cond b false y ≡ cond b false (b || y)
-    gone true y = refl
-    gone false y = refl
-
-    kept : (here there y : Bool) → (here ≡ true → there ≡ true → false ≡ true) → (there || cond here false y) ≡ cond here false (there || y)
-    kept true true y apart = sym (apart refl refl)
-    kept true false y apart = refl
-    kept false there y apart = refl
-
-    apart_is : (is_opened_at p.stream p.kernel p.mode x ≡ false) → is_opened_at q.stream q.kernel q.mode p ≡ true → is_opened_at q.stream q.kernel q.mode x ≡ true → false ≡ true
-    apart_is other one two = sym other ∙ ap (λ (s : OpenStream). is_opened_at p.stream p.kernel p.mode s) (like_is q x two ∙ sym (like_is q p one)) ∙ ap (λ (s : OpenStream). is_opened_at s.stream s.kernel s.mode p) (like_is q p one) ∙ one
-
-    by : (b : Bool) → list_any (is_opened_at q.stream q.kernel q.mode) (without_open p.stream p.kernel p.mode xs) ≡ cond (is_opened_at q.stream q.kernel q.mode p) false (list_any (is_opened_at q.stream q.kernel q.mode) xs) → is_opened_at p.stream p.kernel p.mode x ≡ b → list_any (is_opened_at q.stream q.kernel q.mode) (cond (not b) (x ∷ without_open p.stream p.kernel p.mode xs) (without_open p.stream p.kernel p.mode xs)) ≡ cond (is_opened_at q.stream q.kernel q.mode p) false (is_opened_at q.stream q.kernel q.mode x || list_any (is_opened_at q.stream q.kernel q.mode) xs)
-    by true more is =
-        more
-        ∙ gone (is_opened_at q.stream q.kernel q.mode p) (list_any (is_opened_at q.stream q.kernel q.mode) xs)
-        ∙ ap (λ (s : OpenStream). cond (is_opened_at q.stream q.kernel q.mode p) false (is_opened_at q.stream q.kernel q.mode s || list_any (is_opened_at q.stream q.kernel q.mode) xs)) (sym (like_is p x is))
-    by false more is =
-        ap (λ b. is_opened_at q.stream q.kernel q.mode x || b) more
-        ∙ kept (is_opened_at q.stream q.kernel q.mode p) (is_opened_at q.stream q.kernel q.mode x) (list_any (is_opened_at q.stream q.kernel q.mode) xs) (apart_is is)
-
--- and where one is put first
-with_is : (p q : OpenStream) (xs : List OpenStream) → list_any (is_opened_at q.stream q.kernel q.mode) (p ∷ without_open p.stream p.kernel p.mode xs) ≡ cond (is_opened_at q.stream q.kernel q.mode p) true (list_any (is_opened_at q.stream q.kernel q.mode) xs)
-with_is p q xs =
-    ap (λ b. is_opened_at q.stream q.kernel q.mode p || b) (without_is p q xs)
-    ∙ by (is_opened_at q.stream q.kernel q.mode p) (list_any (is_opened_at q.stream q.kernel q.mode) xs)
-  where
-    by : (b y : Bool) → (b || cond b false y) ≡ cond b true y
-    by true y = refl
-    by false y = refl
-
-open_number : (f file : FileId) (s stream : StreamNo) (k kernel : ℕ) (n m : Mode) → same_open (record { file = f; stream = s; kernel = k; mode = mode_number n }) (record { file = file; stream = stream; kernel = kernel; mode = mode_number m }) ≡ (same_file f file && is_opened_at stream kernel m (record { stream = s; kernel = k; mode = n }))
-open_number f file s stream k kernel n m =
-    ap (λ b. same_file f file && (same_stream s stream && (k == kernel && b))) (number_same n m)
-    ∙ sym (ap (λ b. same_file f file && b) (and_assoc (same_stream s stream) (k == kernel) (same_mode n m)))
-
-put_in : (here there : Bool) (q : OpenStream) (os more : List OpenStream) → (list_any (is_opened_at q.stream q.kernel q.mode) more ≡ cond there true (list_any (is_opened_at q.stream q.kernel q.mode) os)) → cond (here && there) true (list_any (is_opened_at q.stream q.kernel q.mode) os) ≡ list_any (is_opened_at q.stream q.kernel q.mode) (cond here more os)
-put_in true there q os more is = sym is
-put_in false there q os more is = refl
-
-taken_out : (here there : Bool) (q : OpenStream) (os more : List OpenStream) → (list_any (is_opened_at q.stream q.kernel q.mode) more ≡ cond there false (list_any (is_opened_at q.stream q.kernel q.mode) os)) → cond (here && there) false (list_any (is_opened_at q.stream q.kernel q.mode) os) ≡ list_any (is_opened_at q.stream q.kernel q.mode) (cond here more os)
-taken_out true there q os more is = sym is
-taken_out false there q os more is = refl
-
-opens_on : (e : Event) (file : FileId) (q : OpenStream) (os : List OpenStream) → opens_behind e (record { file = file; stream = q.stream; kernel = q.kernel; mode = mode_number q.mode }) (list_any (is_opened_at q.stream q.kernel q.mode) os) ≡ list_any (is_opened_at q.stream q.kernel q.mode) (opens_by file e os)
-opens_on (event.Opened f s k n) file q os =
-    let p : OpenStream = record { stream = s; kernel = k; mode = n } in
-    ap (λ b. cond b true (list_any (is_opened_at q.stream q.kernel q.mode) os)) (open_number f file s q.stream k q.kernel n q.mode)
-    ∙ put_in (same_file f file) (is_opened_at q.stream q.kernel q.mode p) q os (p ∷ without_open s k n os) (with_is p q os)
-opens_on (event.Closed f s k n) file q os =
-    let p : OpenStream = record { stream = s; kernel = k; mode = n } in
-    ap (λ b. cond b false (list_any (is_opened_at q.stream q.kernel q.mode) os)) (open_number f file s q.stream k q.kernel n q.mode)
-    ∙ taken_out (same_file f file) (is_opened_at q.stream q.kernel q.mode p) q os (without_open s k n os) (without_is p q os)
-opens_on _ file q os = refl
 
 pub streams_on : (old new : Streams) (records : List Rec) (rec : Rec) → TellsStreams old records → KeepsStreams rec.event old new → TellsStreams new (records ++ rec ∷ [])
 streams_on old new records rec told keeps = record {

@@ -1,6 +1,7 @@
 pub mod Openings
 pub mod Parts
 pub mod Packets
+pub mod Opens
 pub mod Uses
 pub mod Entries
 pub mod Facing

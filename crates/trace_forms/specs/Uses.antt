@@ -5,7 +5,6 @@ use Rattle.std.specs.Option.{is_some}
 use Rattle.sprite_ids.specs.declared.names.FileId.{FileId}
 use Rattle.sprite_ids.specs.declared.names.StreamNo.{StreamNo}
 use Rattle.sprite_ids.specs.declared.names.Mode.{Mode}
-use Rattle.sprite_ids.specs.declared.names.Mode.TheVariants as mode
 use Rattle.unix_calls.specs.declared.description.Description.{Description}
 use Rattle.unix_calls.specs.declared.event.Event.{Event}
 use Rattle.unix_calls.specs.declared.event.Event.TheVariants as event
@@ -16,32 +15,19 @@ use Rattle.call_journal.specs.Matching.{same_file, same_stream, is_at, has_event
 use Rattle.call_journal.specs.Files.{is_opened_at, opens_of}
 use Rattle.call_journal.specs.Formed.{next_is, is_opened_for, is_grant_of, is_opening_of, is_opening_as, is_closed_of, is_closed_for, is_shared_stream}
 use Rattle.trace_forms.specs.Openings.{openings_from}
+use Rattle.trace_forms.specs.Opens.{mode_number, has_stream, same_open, has_open, shared_behind, opens_behind}
 use Rattle.trace_forms.specs.declared.places.FileFor.{FileFor}
 use Rattle.trace_forms.specs.declared.places.OpenedAs.{OpenedAs}
 use Rattle.trace_forms.specs.declared.places.OpenAt.{OpenAt}
 use Rattle.trace_forms.specs.declared.uses.Last.{Last}
 use Rattle.trace_forms.specs.declared.uses.Streams.{Streams}
 
-abbrev pub mode_number : Mode → ℕ
-mode_number mode.Read = 0
-mode_number mode.Write = 1
-mode_number mode.Both = 2
-
 -- whether they are among those kept
-abbrev pub has_stream : List StreamNo → StreamNo → Bool
-has_stream streams stream = list_any (same_stream stream) streams
-
 abbrev pub same_opened : OpenedAs → OpenedAs → Bool
 same_opened a b = same_file a.file b.file && (same_stream a.stream b.stream && a.mode == b.mode)
 
 abbrev pub has_opened : List OpenedAs → OpenedAs → Bool
 has_opened modes one = list_any (same_opened one) modes
-
-abbrev pub same_open : OpenAt → OpenAt → Bool
-same_open a b = same_file a.file b.file && (same_stream a.stream b.stream && (a.kernel == b.kernel && a.mode == b.mode))
-
-abbrev pub has_open : List OpenAt → OpenAt → Bool
-has_open opens at = list_any (same_open at) opens
 
 -- an open without its kernel
 abbrev pub opened_of : OpenAt → OpenedAs
@@ -138,17 +124,6 @@ abbrev pub modes_behind : Event → OpenedAs → Bool → Bool
 modes_behind (event.Opened f s kernel m) one before =
     if same_opened (record { file = f; stream = s; mode = mode_number m }) one then true else before
 modes_behind _ one before = before
-
-abbrev pub shared_behind : Event → StreamNo → Bool → Bool
-shared_behind (event.Shared f s) stream before = if same_stream s stream then true else before
-shared_behind _ stream before = before
-
-abbrev pub opens_behind : Event → OpenAt → Bool → Bool
-opens_behind (event.Opened f s kernel m) one before =
-    if same_open (record { file = f; stream = s; kernel = kernel; mode = mode_number m }) one then true else before
-opens_behind (event.Closed f s kernel m) one before =
-    if same_open (record { file = f; stream = s; kernel = kernel; mode = mode_number m }) one then false else before
-opens_behind _ one before = before
 
 pub record KeepsStreams (e : Event) (old new : Streams) : Type 0 where
   pub opened : (stream : StreamNo) → has_stream new.opened.keys stream ≡ opened_behind e stream (has_stream old.opened.keys stream)

@@ -13,4 +13,5 @@ pub use entries::entries_are_formed;
 pub use forms::formed;
 pub use making::openings;
 pub use packets::packets_are_formed;
+pub use places::{OpenAt, open_at};
 pub use uses::uses_are_formed;

@@ -1,4 +1,7 @@
-use sprite_ids::{FileId, Kernel, Pid, StreamNo};
+ghost use Rattle.std.specs.Prelude.{◌≡◌};
+ghost use Rattle.trace_forms.specs.Opens.{mode_number};
+
+use sprite_ids::{FileId, Kernel, Mode, Pid, StreamNo};
 
 /// A kernel to which a request of that number was sent (this project).
 #[derive(Clone, Copy, Debug, PartialEq, Eq, Hash)]
@@ -31,9 +34,32 @@ pub(crate) struct OpenedAs {
 
 /// A stream of a file that a kernel has open, with the mode of that number (this project).
 #[derive(Clone, Copy, Debug, PartialEq, Eq, Hash)]
-pub(crate) struct OpenAt {
-    pub(crate) file: FileId,
-    pub(crate) stream: StreamNo,
-    pub(crate) kernel: Kernel,
-    pub(crate) mode: u8,
+pub struct OpenAt {
+    pub file: FileId,
+    pub stream: StreamNo,
+    pub kernel: Kernel,
+    pub mode: u8,
+}
+
+/// That stream of the file, open at that kernel with that mode.
+pub fn open_at(file: &FileId, stream: &StreamNo, kernel: Kernel, mode: Mode) -> OpenAt
+    ensures { result ≡ record { file = file.now; stream = stream.now; kernel = kernel; mode = mode_number mode } }
+{
+    OpenAt {
+        file: *file,
+        stream: *stream,
+        kernel,
+        mode: mode_number(mode),
+    }
+}
+
+/// A mode's number.
+pub(crate) fn mode_number(mode: Mode) -> u8
+    ensures { result ≡ mode_number mode }
+{
+    match mode {
+        Mode::Read => 0,
+        Mode::Write => 1,
+        Mode::Both => 2,
+    }
 }

@@ -3,11 +3,12 @@ ghost use Rattle.call_journal.specs.Formed.{is_closed_for, is_closed_of, is_gran
 ghost use Rattle.call_journal.specs.Matching.{has_event, is_at, same_mode};
 ghost use Rattle.trace_forms.specs.Openings.{openings_of};
 ghost use Rattle.trace_forms.specs.Parts.{uses_are_formed};
-ghost use Rattle.trace_forms.specs.Uses.{KeepsOpened, KeepsStreams, first_opening, granted_by, is_granted_in, is_left_in, is_new_in, is_opened_in, is_source_in, is_that, last_behind, mode_number, shared_by, use_fits};
+ghost use Rattle.trace_forms.specs.Uses.{KeepsOpened, KeepsStreams, first_opening, granted_by, is_granted_in, is_left_in, is_new_in, is_opened_in, is_source_in, is_that, last_behind, shared_by, use_fits};
+ghost use Rattle.trace_forms.specs.Opens.{mode_number};
 
-use crate::places::{FileFor, OpenAt, OpenedAs};
+use crate::places::{FileFor, OpenAt, OpenedAs, mode_number};
 use indexmap::IndexSet;
-use sprite_ids::{FileId, Kernel, Mode, NoMemory, StreamNo};
+use sprite_ids::{FileId, Kernel, NoMemory, StreamNo};
 use std::alloc::Global;
 use unix_calls::{Description, Event, Rec, Stream};
 
@@ -279,17 +280,6 @@ fn is_source_next(opens: &IndexSet<OpenAt>, at: OpenAt, rest: &[Rec]) -> bool
             _ => false,
         },
         [] => false,
-    }
-}
-
-// A mode's number.
-fn mode_number(mode: Mode) -> u8
-    ensures { result ≡ mode_number mode }
-{
-    match mode {
-        Mode::Read => 0,
-        Mode::Write => 1,
-        Mode::Both => 2,
     }
 }
 

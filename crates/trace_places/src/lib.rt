@@ -3,4 +3,6 @@
 
 mod places;
 
-pub use places::{Place, boot_places, keep_place, place_in};
+pub use places::{
+    Place, boot_places, child_of, home_places, is_kernel_of, is_on_its_way, keep_place, place_in,
+};

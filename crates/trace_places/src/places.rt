@@ -1,7 +1,7 @@
 ghost use Rattle.std.specs.Prelude.{◌≡◌, ℕ, IfOk, OnOk};
 ghost use Rattle.unix_calls.specs.Lawful.{Lawful};
 ghost use Rattle.call_journal.specs.Past.{at_homes, child_of_entry, no_past};
-ghost use Rattle.trace_places.specs.Places.{MovesOn, PutsFirst, PutsPlace, TellsPlaces, moves_child, place_kept};
+ghost use Rattle.trace_places.specs.Places.{MovesOn, PutsFirst, PutsPlace, TellsPlaces, is_kernel_of, is_on_its_way, moves_child, place_kept};
 
 use indexmap::IndexMap;
 use process_machine::{Call, Reply};
@@ -25,10 +25,11 @@ pub fn boot_places(alloc: Global, c: &Description) -> Result<IndexMap<u64, Place
 {
     let (world, processes) = boot(alloc, c)?;
     drop(world);
-    homes(alloc, processes.as_slice())
+    home_places(alloc, processes.as_slice())
 }
 
-fn homes(alloc: Global, ps: &[Process]) -> Result<IndexMap<u64, Place>, NoMemory>
+/// Where these processes are by their numbers, if each is at its home. The one error is want of memory.
+pub fn home_places(alloc: Global, ps: &[Process]) -> Result<IndexMap<u64, Place>, NoMemory>
     ensures { IfOk result (λ places. TellsPlaces places.entries (at_homes ps.now)) }
 {
     let mut places = IndexMap::new(alloc);
@@ -61,6 +62,26 @@ pub fn place_in(places: &IndexMap<u64, Place>, pid: Pid) -> Option<Place>
     ensures { result ≡ place_kept places.now.entries pid }
 {
     places.get(&u64::from(pid.number())).copied()
+}
+
+/// Whether the process's kernel, or the one that froze it, is that one.
+pub fn is_kernel_of(places: &IndexMap<u64, Place>, pid: Pid, kernel: Kernel) -> bool
+    ensures { result ≡ is_kernel_of kernel (place_kept places.now.entries pid) }
+{
+    match place_in(places, pid) {
+        Some(place) => place.kernel == kernel,
+        None => false,
+    }
+}
+
+/// Whether the process is on its way.
+pub fn is_on_its_way(places: &IndexMap<u64, Place>, pid: Pid) -> bool
+    ensures { result ≡ is_on_its_way (place_kept places.now.entries pid) }
+{
+    match place_in(places, pid) {
+        Some(place) => place.moving,
+        None => false,
+    }
 }
 
 /// Keeps where an event of a kernel puts a process: a child begins where its parent is. The one error is want of memory.
@@ -113,8 +134,8 @@ fn keep_child(places: &mut IndexMap<u64, Place>, entry: &Entry) -> Result<(), No
     Ok(())
 }
 
-// The child that an entry makes, if it is a fork's.
-fn child_of(entry: &Entry) -> Option<u64>
+/// The number of the child that an entry makes, if it is a fork's.
+pub fn child_of(entry: &Entry) -> Option<u64>
     ensures { result ≡ child_of_entry entry.now }
 {
     match &entry.call {

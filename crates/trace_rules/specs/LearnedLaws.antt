@@ -1,5 +1,5 @@
 -- What kernels have learned is told record by record.
-use Rattle.std.proofs.Common.{◌≡◌, ◌∙◌, ℕ, true, cond, not, List, refl, sym, ap}
+use Rattle.std.proofs.Common.{◌≡◌, ◌∙◌, ℕ, true, cond, not, List, [], ◌∷◌, ◌++◌, refl, sym, ap}
 use Rattle.unix_calls.specs.declared.description.Description.{Description}
 use Rattle.unix_calls.specs.declared.event.SendKind.TheVariants as send
 use Rattle.unix_calls.specs.declared.event.Event.{Event}
@@ -23,8 +23,11 @@ pub learned_told : (c : Description) (judge : Broadcasts) (past : Past) (rec : R
 learned_told c judge past rec told = told_of judge.learned.keys past rec.kernel rec.event told
 
 -- one record more
-pub learns_on : (c : Description) (old new : Broadcasts) (past : Past) (rec : Rec) → TellsLearned old.learned.keys past.records → LearnsOn rec old.learned.keys new.learned.keys → TellsLearned new.learned.keys (past_with c rec past).records
-learns_on c old new past rec told more one =
+pub learns_more : (rec : Rec) (before after : List Learned) (records : List Rec) → TellsLearned before records → LearnsOn rec before after → TellsLearned after (records ++ rec ∷ [])
+learns_more rec before after records told more one =
     more one
     ∙ ap (λ b. cond (is_at one.kernel (is_learned one.prefix) rec) true b) (told one)
-    ∙ sym (any_more (is_at one.kernel (is_learned one.prefix)) past.records rec)
+    ∙ sym (any_more (is_at one.kernel (is_learned one.prefix)) records rec)
+
+pub learns_on : (c : Description) (old new : Broadcasts) (past : Past) (rec : Rec) → TellsLearned old.learned.keys past.records → LearnsOn rec old.learned.keys new.learned.keys → TellsLearned new.learned.keys (past_with c rec past).records
+learns_on c old new past rec told more = learns_more rec old.learned.keys new.learned.keys past.records told more

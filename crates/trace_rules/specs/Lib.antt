@@ -1,5 +1,8 @@
 pub mod Judging
 pub mod Lists
+pub mod EachLaws
+pub mod Greatest
+pub mod GreatestLaws
 pub mod Learned
 pub mod LearnedLaws
 pub mod Places

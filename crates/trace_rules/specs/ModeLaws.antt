@@ -1,5 +1,5 @@
 -- The modes that kernels took, and the shared streams, are told record by record.
-use Rattle.std.proofs.Common.{◌≡◌, ◌∙◌, ℕ, ◌==◌, Bool, true, false, cond, ◌&&◌, ◌||◌, List, Option, Some, None, refl, sym, ap, ap₂}
+use Rattle.std.proofs.Common.{◌≡◌, ◌∙◌, ℕ, ◌==◌, Bool, true, cond, ◌||◌, List, Option, Some, None, refl, sym, ap, ap₂}
 use Rattle.std.specs.Option.{option_map}
 use Rattle.sprite_ids.specs.declared.caching.CacheMode.{CacheMode}
 use Rattle.sprite_ids.specs.declared.caching.CacheMode.TheVariants as cache
@@ -18,7 +18,7 @@ use Rattle.call_journal.proofs.GrowthLaws.{look_backs_grow}
 use Rattle.trace_tables.specs.Ties.{tied_by, tied_at}
 use Rattle.trace_rules.specs.declared.operations.Operations.{Operations}
 use Rattle.trace_rules.specs.declared.place.FileAt.{FileAt}
-use Rattle.trace_rules.specs.Lists.{any_more}
+use Rattle.trace_rules.specs.Lists.{any_more, same_both, taken}
 use Rattle.trace_rules.specs.Modes.{mode_at, mode_or, is_off_or, has_stream, is_shared_tied, may_go_out, mode_behind, shared_behind, GoesOut, TellsUses}
 
 off_or : (o : Option CacheMode) → is_off (mode_or o) ≡ is_off_or o
@@ -43,17 +43,8 @@ operations_told c judge past rec told = told_of judge past rec.kernel rec.event 
 
 -- ---- one record more
 
-same_both : (b : Bool) (mode : CacheMode) → mode ≡ cond b mode mode
-same_both true mode = refl
-same_both false mode = refl
-
-taken : (b d : Bool) (mode : CacheMode) (o : Option CacheMode) → mode_or (cond (b && d) (Some mode) o) ≡ cond b (cond d mode (mode_or o)) (mode_or o)
-taken true true mode o = refl
-taken true false mode o = refl
-taken false d mode o = refl
-
-mode_more : (kernel : ℕ) (e : Event) (at : FileAt) (o : Option CacheMode) → mode_or (mode_behind kernel e at o) ≡ cond (kernel == at.kernel) (mode_by at.file e (mode_or o)) (mode_or o)
-mode_more kernel (event.Mode f stamp mode) at o = taken (kernel == at.kernel) (same_file f at.file) mode o
+pub mode_more : (kernel : ℕ) (e : Event) (at : FileAt) (o : Option CacheMode) → mode_or (mode_behind kernel e at o) ≡ cond (kernel == at.kernel) (mode_by at.file e (mode_or o)) (mode_or o)
+mode_more kernel (event.Mode f stamp mode) at o = taken mode_or (kernel == at.kernel) (same_file f at.file) mode o
 mode_more kernel _ at o = same_both (kernel == at.kernel) (mode_or o)
 
 shared_more : (e : Event) (tie : Tie) (before : Bool) → shared_behind e tie.stream before ≡ cond (is_shared_record tie e) true before

@@ -1,5 +1,5 @@
 -- The modes that kernels took last, and the streams that are shared.
-use Rattle.std.specs.Prelude.{◌≡◌, ℕ, ◌==◌, Bool, true, false, ◌&&◌, ◌||◌, if◌then◌else◌, List, Option, Some, None}
+use Rattle.std.specs.Prelude.{◌≡◌, ℕ, Bool, true, false, ◌||◌, if◌then◌else◌, List, Option, Some, None}
 use Rattle.std.specs.List.{list_any}
 use Rattle.std.specs.Map.{lookup}
 use Rattle.sprite_ids.specs.declared.caching.CacheMode.{CacheMode}
@@ -10,15 +10,12 @@ use Rattle.unix_calls.specs.declared.event.Event.{Event}
 use Rattle.unix_calls.specs.declared.event.Event.TheVariants as event
 use Rattle.unix_calls.specs.declared.event.Rec.{Rec}
 use Rattle.call_journal.specs.Past.{Past, Tie}
-use Rattle.call_journal.specs.Matching.{same_file, same_stream}
+use Rattle.call_journal.specs.Matching.{same_stream}
 use Rattle.call_journal.specs.Files.{mode_of}
 use Rattle.call_journal.specs.EntryPlaces.{is_shared}
 use Rattle.trace_tables.specs.declared.Tied.{Tied}
 use Rattle.trace_rules.specs.declared.place.FileAt.{FileAt}
-
--- the same file at the same kernel
-abbrev pub same_use : FileAt → FileAt → Bool
-same_use a b = a.kernel == b.kernel && same_file a.file b.file
+use Rattle.trace_rules.specs.Places.{same_use}
 
 -- the mode that is kept of a file at a kernel
 abbrev pub mode_at : List (FileAt × CacheMode) → FileAt → Option CacheMode

@@ -1,5 +1,5 @@
 -- What kernels hold is told record by record.
-use Rattle.std.proofs.Common.{◌≡◌, ◌∙◌, ℕ, ◌==◌, Bool, true, false, cond, not, ◌&&◌, ◌||◌, List, [], ◌∷◌, refl, sym, ap, ap₂}
+use Rattle.std.proofs.Common.{◌≡◌, ◌∙◌, ℕ, ◌==◌, Bool, true, false, cond, not, ◌&&◌, ◌||◌, List, [], ◌∷◌, ◌++◌, refl, sym, ap, ap₂}
 use Rattle.std.specs.List.{list_any}
 use Rattle.std.proofs.lemmas.Bool.{and_parts, eqb-true}
 use Rattle.sprite_ids.specs.declared.names.FileId.{FileId}
@@ -16,7 +16,8 @@ use Rattle.call_journal.specs.Fetches.{fetches_well}
 use Rattle.call_journal.proofs.GrowthLaws.{look_backs_grow}
 use Rattle.trace_rules.specs.declared.fetches.Fetches.{Fetches}
 use Rattle.trace_rules.specs.declared.place.BlockAt.{BlockAt}
-use Rattle.trace_rules.specs.Places.{is_due_fetch, held_behind, HoldsOn, TellsHeld}
+use Rattle.trace_rules.specs.declared.place.FileAt.{FileAt}
+use Rattle.trace_rules.specs.Places.{same_place, same_use, is_due_fetch, held_behind, HoldsOn, TellsHeld}
 
 told_of : (held : List BlockAt) (past : Past) (kernel : ℕ) (e : Event) → TellsHeld held past.records → fetches_well past kernel e ≡ is_due_fetch held kernel e
 told_of held past kernel (event.Send tx to about (send.Fetch file block)) told = sym (ap not (told (record { kernel = kernel; file = file; block = block })))
@@ -27,21 +28,37 @@ told_of held past kernel _ told = refl
 pub fetches_told : (c : Description) (judge : Fetches) (past : Past) (rec : Rec) → TellsHeld judge.held.keys past.records → fetches_well past rec.kernel rec.event ≡ is_due_fetch judge.held.keys rec.kernel rec.event
 fetches_told c judge past rec told = told_of judge.held.keys past rec.kernel rec.event told
 
--- ---- blocks that are equal
+-- ---- names that are equal
+
+pub file_is : (f g : FileId) → same_file f g ≡ true → f ≡ g
+file_is f g h =
+    let parts = and_parts (f.server == g.server) (f.number == g.number) h in
+    ap₂ (λ s n. record { server = s; number = n }) (eqb-true f.server g.server parts.0) (eqb-true f.number g.number parts.1)
+
+pub block_is : (b c : BlockNo) → (b.0 == c.0) ≡ true → b ≡ c
+block_is b c h = ap (λ n. record { 0 = n }) (eqb-true b.0 c.0 h)
 
 -- what two names of a block have in common
-record Same (f g : FileId) (b c : BlockNo) : Type 0 where
+pub record Same (f g : FileId) (b c : BlockNo) : Type 0 where
   pub files : f ≡ g
   pub blocks : b ≡ c
 
-same_of : (f g : FileId) (b c : BlockNo) → same_block f b g c ≡ true → Same f g b c
+pub same_of : (f g : FileId) (b c : BlockNo) → same_block f b g c ≡ true → Same f g b c
 same_of f g b c h =
     let parts = and_parts (same_file f g) (b.0 == c.0) h in
-    let file = and_parts (f.server == g.server) (f.number == g.number) parts.0 in
-    record {
-      files = ap₂ (λ s n. record { server = s; number = n }) (eqb-true f.server g.server file.0) (eqb-true f.number g.number file.1);
-      blocks = ap (λ n. record { 0 = n }) (eqb-true b.0 c.0 parts.1);
-    }
+    record { files = file_is f g parts.0; blocks = block_is b c parts.1 }
+
+-- a file and a block of a kernel
+pub use_is : (a b : FileAt) → same_use a b ≡ true → a ≡ b
+use_is a b same =
+    let parts = and_parts (a.kernel == b.kernel) (same_file a.file b.file) same in
+    ap₂ (λ k f. record { kernel = k; file = f }) (eqb-true a.kernel b.kernel parts.0) (file_is a.file b.file parts.1)
+
+pub place_is : (a b : BlockAt) → same_place a b ≡ true → a ≡ b
+place_is a b same =
+    let parts = and_parts (a.kernel == b.kernel) (same_block a.file a.block b.file b.block) same in
+    let more = and_parts (same_file a.file b.file) (a.block.0 == b.block.0) parts.1 in
+    ap₂ (λ k (x : FileId × BlockNo). record { kernel = k; file = x.0; block = x.1 }) (eqb-true a.kernel b.kernel parts.0) (ap₂ (λ f b. (f, b)) (file_is a.file b.file more.0) (block_is a.block b.block more.1))
 
 -- ---- the blocks of one kernel
 
@@ -135,8 +152,11 @@ step_at : (kernel : ℕ) (e : Event) (at : BlockAt) (records : List Rec) (bs : L
 step_at kernel e at records bs true is = here kernel e at records bs is
 step_at kernel e at records bs false is = elsewhere kernel e at (list_any (is_block at.file at.block) bs) is
 
-pub holds_on : (c : Description) (old new : Fetches) (past : Past) (rec : Rec) → TellsHeld old.held.keys past.records → HoldsOn rec old.held.keys new.held.keys → TellsHeld new.held.keys (past_with c rec past).records
-holds_on c old new past rec told more at =
+pub holds_more : (rec : Rec) (before after : List BlockAt) (records : List Rec) → TellsHeld before records → HoldsOn rec before after → TellsHeld after (records ++ rec ∷ [])
+holds_more rec before after records told more at =
     more at
     ∙ ap (λ b. held_behind rec.kernel rec.event at b) (told at)
-    ∙ sym (ap (list_any (is_block at.file at.block)) (look_backs_grow.blocks at.kernel past.records rec) ∙ step_at rec.kernel rec.event at past.records (held_of at.kernel past.records) (rec.kernel == at.kernel) refl)
+    ∙ sym (ap (list_any (is_block at.file at.block)) (look_backs_grow.blocks at.kernel records rec) ∙ step_at rec.kernel rec.event at records (held_of at.kernel records) (rec.kernel == at.kernel) refl)
+
+pub holds_on : (c : Description) (old new : Fetches) (past : Past) (rec : Rec) → TellsHeld old.held.keys past.records → HoldsOn rec old.held.keys new.held.keys → TellsHeld new.held.keys (past_with c rec past).records
+holds_on c old new past rec told more = holds_more rec old.held.keys new.held.keys past.records told more

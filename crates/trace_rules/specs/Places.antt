@@ -1,17 +1,36 @@
--- The blocks that kernels hold.
+-- Blocks, files and stamps, as kernels have them, and the blocks that kernels hold.
 use Rattle.std.specs.Prelude.{◌≡◌, ℕ, ◌==◌, Bool, true, false, ◌&&◌, not, if◌then◌else◌, List}
 use Rattle.std.specs.List.{list_any}
 use Rattle.unix_calls.specs.declared.event.SendKind.TheVariants as send
 use Rattle.unix_calls.specs.declared.event.Event.{Event}
 use Rattle.unix_calls.specs.declared.event.Event.TheVariants as event
 use Rattle.unix_calls.specs.declared.event.Rec.{Rec}
-use Rattle.call_journal.specs.Matching.{same_block}
+use Rattle.call_journal.specs.Matching.{same_file, same_block}
 use Rattle.call_journal.specs.Files.{holds_block}
 use Rattle.trace_rules.specs.declared.place.BlockAt.{BlockAt}
+use Rattle.trace_rules.specs.declared.place.FileAt.{FileAt}
+use Rattle.trace_rules.specs.declared.place.StampAt.{StampAt}
 
--- the same block at the same kernel
+-- the same block, file and stamp at the same kernel
 abbrev pub same_place : BlockAt → BlockAt → Bool
 same_place a b = a.kernel == b.kernel && same_block a.file a.block b.file b.block
+
+abbrev pub same_use : FileAt → FileAt → Bool
+same_use a b = a.kernel == b.kernel && same_file a.file b.file
+
+abbrev pub same_stamp : StampAt → StampAt → Bool
+same_stamp a b = a.kernel == b.kernel && (same_file a.file b.file && a.stamp == b.stamp)
+
+-- the file of a block, and of a stamp
+abbrev pub file_of : BlockAt → FileAt
+file_of at = record { kernel = at.kernel; file = at.file }
+
+abbrev pub stamped_file : StampAt → FileAt
+stamped_file at = record { kernel = at.kernel; file = at.file }
+
+-- whether a stamp is among some
+abbrev pub has_stamp : List StampAt → StampAt → Bool
+has_stamp stamps at = list_any (same_stamp at) stamps
 
 -- whether a block is among those held
 abbrev pub has_block : List BlockAt → BlockAt → Bool

@@ -1,13 +1,12 @@
-ghost use Rattle.std.specs.Prelude.{◌≡◌, IfOk, OnOk, not};
+ghost use Rattle.std.specs.Prelude.{◌≡◌, IfOk, OnOk};
 ghost use Rattle.call_journal.specs.PrefixBroadcasts.{broadcasts_well, prefixes_are_broadcast_until_learned};
-ghost use Rattle.trace_rules.specs.Learned.{LearnsOn, TellsLearned, is_new, is_new_broadcast};
+ghost use Rattle.trace_rules.specs.Learned.{LearnsOn, TellsLearned, is_new_broadcast};
 ghost use Rattle.trace_rules.specs.LearnedLaws.{learned_told, learns_on};
 
 use crate::judging::{LooksBack, each_keeps};
-use crate::learned::Learned;
+use crate::learned::{Learned, is_new_prefix, keep_learned};
 use indexmap::IndexSet;
-use sprite_ids::{Copying, Kernel, NoMemory};
-use sprite_paths::Path;
+use sprite_ids::NoMemory;
 use std::alloc::Global;
 use unix_calls::{Description, Event, Rec, SendKind};
 
@@ -46,37 +45,16 @@ impl LooksBack for Broadcasts {
             Event::Send {
                 kind: SendKind::Broadcast { prefix },
                 ..
-            } => is_new(alloc, &self.learned, rec.kernel, prefix),
+            } => is_new_prefix(alloc, &self.learned, rec.kernel, prefix),
             _ => Ok(true),
         }
     }
 
     fn go_on(&mut self, alloc: Global, rec: &Rec) -> Result<(), NoMemory> {
-        if let Event::Learned { prefix, .. } = &rec.event {
-            let prefix = prefix.copy(alloc)?;
-            self.learned.insert(Learned {
-                kernel: rec.kernel,
-                prefix,
-            })?;
-        }
-        Ok(())
+        keep_learned(alloc, &mut self.learned, rec)
     }
 
     ghost is_told = { learned_told };
 
     ghost tells_on = { learns_on };
-}
-
-// Whether the kernel has not learned the prefix so far.
-fn is_new(
-    alloc: Global,
-    learned: &IndexSet<Learned>,
-    kernel: Kernel,
-    prefix: &Path,
-) -> Result<bool, NoMemory>
-    ensures { IfOk result (λ fit. fit ≡ is_new learned.now.keys kernel prefix.now) }
-{
-    let prefix = prefix.copy(alloc)?;
-    let asked = Learned { kernel, prefix };
-    Ok(!learned.contains(&asked))
 }

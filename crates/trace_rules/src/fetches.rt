@@ -4,7 +4,7 @@ ghost use Rattle.trace_rules.specs.Places.{HoldsOn, TellsHeld, is_due_fetch};
 ghost use Rattle.trace_rules.specs.PlaceLaws.{fetches_told, holds_on};
 
 use crate::judging::{LooksBack, each_keeps};
-use crate::place::BlockAt;
+use crate::place::{BlockAt, keep_block};
 use indexmap::IndexSet;
 use sprite_ids::NoMemory;
 use std::alloc::Global;
@@ -57,25 +57,7 @@ impl LooksBack for Fetches {
     }
 
     fn go_on(&mut self, _alloc: Global, rec: &Rec) -> Result<(), NoMemory> {
-        let kernel = rec.kernel;
-        match &rec.event {
-            Event::Filled { file, block } => {
-                self.held.insert(BlockAt {
-                    kernel,
-                    file: *file,
-                    block: *block,
-                })?;
-            }
-            Event::Dropped { file, block, .. } => {
-                self.held.swap_remove(&BlockAt {
-                    kernel,
-                    file: *file,
-                    block: *block,
-                });
-            }
-            _ => {}
-        }
-        Ok(())
+        keep_block(&mut self.held, rec)
     }
 
     ghost is_told = { fetches_told };

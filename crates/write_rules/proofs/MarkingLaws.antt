@@ -18,7 +18,7 @@ use Rattle.unix_world.specs.Among.{Ascending}
 use Rattle.unix_world.specs.Worlds.{unix_of}
 use Rattle.one_kernel.specs.declared.Verdict.TheVariants as verdict
 use Rattle.one_kernel.specs.Verdicts.{verdict_from, verdict_of, way_of}
-use Rattle.one_kernel.proofs.CheckLaws.{check_made, check_not_made, check_far}
+use Rattle.one_kernel.proofs.CheckLaws.{check_applied, check_not_made, check_far}
 use Rattle.call_journal.specs.Journal.{journal_of}
 use Rattle.call_journal.specs.Past.{Past, Tie, entry_count, file_stream, last_event, no_past, past_with, state_by, stream_made, tie_at}
 use Rattle.write_rules.specs.declared.marking.Taken.TheVariants as taken
@@ -96,21 +96,16 @@ other_by c most cost way trace rest rec mark world world_after ps ps_after syncs
 -- behind a record
 on_by : (c : Description) (most cost way kernel : ℕ) (mark : Bool) (trace rest : List Rec) (e : Event) (world world_after : World) (ps ps_after : List Process) (syncs new : Syncs) (marks : List Bool) → Going c most trace (record { kernel = kernel; event = e } ∷ rest) cost world ps syncs marks → Takes c (most - cost) kernel e world ps syncs (taken.On way mark) world_after ps_after new → Going c most trace rest (cost + way) world_after ps_after new (marks ++ mark ∷ [])
 on_by c most cost way kernel mark trace rest (event.Enter entry) world world_after ps ps_after syncs new marks going takes =
-    let u = unix_of c world ps in
-    let v = unix_of c world_after ps_after in
     let rec : Rec = record { kernel = kernel; event = event.Enter entry } in
     let applies = takes.0 in
-    let way_is : way_of c u entry ≡ way = applies.0 in
-    let short : way ≤ most - cost = applies.1 in
-    let within = going.within in
-    let few : cost + way ≤ most = omega (arith, short, within) in
+    let made = check_applied c most going.place cost way (unix_of c world ps) world_after ps_after entry (journal_of rest) going.within applies in
     record {
       past = past_with c rec going.past;
       tells = told_entry c world world_after ps ps_after syncs new going.past kernel entry going.tells applies.2 applies.3 takes.2;
       all = marks_on c going.past rec rest trace marks mark (entry_mark c world world_after ps ps_after going.past kernel entry mark going.tells.unix applies.2 takes.1) going.all;
       place = going.place + 1;
-      verdict = sym (check_made c most going.place cost way u v entry (journal_of rest) way_is few applies.2) ∙ going.verdict;
-      within = few;
+      verdict = sym made.1 ∙ going.verdict;
+      within = made.0;
     }
 on_by c most cost way kernel mark trace rest (event.Send tx to about (send.WriteBack file block)) world world_after ps ps_after syncs new marks going takes =
     other_by c most cost way trace rest (record { kernel = kernel; event = event.Send tx to about (send.WriteBack file block) }) mark world world_after ps ps_after syncs new marks going refl refl refl (takes.other.1 ∙ due_told c world ps syncs going.past kernel file going.tells) takes.other.0 takes.world_stays takes.processes_stay takes.keeps

@@ -23,7 +23,7 @@ use Rattle.call_journal.specs.Calls.{or_else}
 use Rattle.call_journal.specs.WriteBacks.{is_sync_of, is_synced}
 use Rattle.write_rules.specs.declared.syncs.Pending.{Pending}
 use Rattle.write_rules.specs.declared.syncs.Syncs.{Syncs}
-use Rattle.write_rules.specs.Lists.{any_more}
+use Rattle.trace_rules.specs.Lists.{any_more}
 use Rattle.write_rules.specs.Syncs.{TellsSyncs, due_behind, due_by, due_of, file_at, file_for, is_due_by, is_due_in, is_file_stream, is_other, made_with, opened_last, opened_where, stream_for}
 
 -- ---- looking

@@ -11,8 +11,8 @@ use Rattle.call_journal.specs.Past.{since_last}
 use Rattle.call_journal.specs.Matching.{is_at}
 use Rattle.call_journal.specs.WriteBacks.{is_counted_step, is_dirtied, is_old}
 use Rattle.call_journal.proofs.GrowthLaws.{look_backs_grow}
-use Rattle.write_rules.specs.declared.place.BlockAt.{BlockAt}
-use Rattle.write_rules.specs.Lists.{any_more}
+use Rattle.trace_rules.specs.declared.place.BlockAt.{BlockAt}
+use Rattle.trace_rules.specs.Lists.{any_more}
 use Rattle.write_rules.specs.Ages.{steps_kept, steps_or, steps_at, dirtied_at, is_aged, is_old_in, steps_behind, dirtied_behind, AgesOn, counted, counted_since, was_dirtied, Aged, TellsAges}
 
 -- ---- looking

@@ -8,8 +8,8 @@ use Rattle.unix_calls.specs.declared.event.Rec.{Rec}
 use Rattle.call_journal.specs.Past.{since_last}
 use Rattle.call_journal.specs.Matching.{is_at}
 use Rattle.call_journal.specs.WriteBacks.{is_counted_step, is_dirtied}
-use Rattle.write_rules.specs.declared.place.BlockAt.{BlockAt}
-use Rattle.write_rules.specs.Places.{same_place}
+use Rattle.trace_rules.specs.declared.place.BlockAt.{BlockAt}
+use Rattle.trace_rules.specs.Places.{same_place}
 
 -- the counted steps that are kept of a kernel; a kernel of which none are kept made none
 abbrev pub steps_kept : List (ℕ × ℕ) → ℕ → Option ℕ

@@ -1,10 +1,11 @@
 -- How many blocks of a scope are held, and how many are dirty, where one is put, taken out or marked.
 use Rattle.std.proofs.Common.{◌≡◌, ◌∙◌, ℕ, ◌+◌, ◌==◌, Bool, true, false, cond, not, ◌&&◌, List, [], ◌∷◌, refl, sym, ap, ap₂, arith}
-use Rattle.std.proofs.lemmas.Bool.{and_parts, eqb-true}
+use Rattle.std.proofs.lemmas.Bool.{and_parts}
 use Rattle.sprite_ids.specs.declared.names.FileId.{FileId}
 use Rattle.sprite_ids.specs.declared.names.BlockNo.{BlockNo}
 use Rattle.call_journal.specs.Matching.{same_file}
 use Rattle.call_journal.specs.Files.{HeldBlock, is_block, without_block, marked, all_clean}
+use Rattle.trace_rules.specs.PlaceLaws.{file_is, block_is}
 use Rattle.write_rules.specs.declared.held.State.{State}
 use Rattle.write_rules.specs.declared.held.State.TheVariants as state
 use Rattle.write_rules.specs.Held.{one_if, held_in, dirty_in, any_block, of_file, of_block, held_one, dirty_one, dirtied, cleaned}
@@ -23,14 +24,6 @@ none_out true = refl
 none_out false = refl
 
 -- ---- names that are the same
-
-pub file_is : (f g : FileId) → same_file f g ≡ true → f ≡ g
-file_is f g h =
-    let parts = and_parts (f.server == g.server) (f.number == g.number) h in
-    ap₂ (λ s n. record { server = s; number = n }) (eqb-true f.server g.server parts.0) (eqb-true f.number g.number parts.1)
-
-pub block_is : (b c : BlockNo) → (b.0 == c.0) ≡ true → b ≡ c
-block_is b c h = ap (λ n. record { 0 = n }) (eqb-true b.0 c.0 h)
 
 -- what is told of a scope at a block that is this one
 scope_at : (scope : FileId → BlockNo → Bool) (f : FileId) (b : BlockNo) (x : HeldBlock) → is_block f b x ≡ true → scope x.file x.block ≡ scope f b

@@ -12,10 +12,10 @@ use Rattle.call_journal.specs.Past.{Past, past_with}
 use Rattle.call_journal.specs.Matching.{is_off}
 use Rattle.call_journal.specs.Drops.{drops_well, has_missed, is_cause}
 use Rattle.write_rules.specs.declared.drops.Drops.{Drops}
-use Rattle.write_rules.specs.declared.place.BlockAt.{BlockAt}
+use Rattle.trace_rules.specs.declared.place.BlockAt.{BlockAt}
 use Rattle.write_rules.specs.declared.versions.Taken.{Taken}
 use Rattle.write_rules.specs.declared.versions.Versions.{Versions}
-use Rattle.write_rules.specs.Places.{file_of}
+use Rattle.trace_rules.specs.Places.{file_of}
 use Rattle.write_rules.specs.Drops.{DropsOn, TellsDrops, has_drop_cause, is_drop_cause}
 use Rattle.write_rules.specs.HeldLaws.{count_told, held_told_on}
 use Rattle.write_rules.specs.Marks.{mark_of}

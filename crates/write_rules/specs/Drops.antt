@@ -8,8 +8,8 @@ use Rattle.unix_calls.specs.declared.event.Event.TheVariants as event
 use Rattle.unix_calls.specs.declared.event.Rec.{Rec}
 use Rattle.call_journal.specs.Past.{Past}
 use Rattle.write_rules.specs.declared.drops.Drops.{Drops}
-use Rattle.write_rules.specs.declared.place.BlockAt.{BlockAt}
-use Rattle.write_rules.specs.Places.{file_of}
+use Rattle.trace_rules.specs.declared.place.BlockAt.{BlockAt}
+use Rattle.trace_rules.specs.Places.{file_of}
 use Rattle.write_rules.specs.Held.{HeldOn, TellsHeld, counts_at}
 use Rattle.write_rules.specs.Versions.{TellsVersions, VersionsOn, is_off_in, is_old_version}
 

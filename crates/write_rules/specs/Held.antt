@@ -16,10 +16,10 @@ use Rattle.write_rules.specs.declared.held.FileCounts.{FileCounts}
 use Rattle.write_rules.specs.declared.held.Held.{Held}
 use Rattle.write_rules.specs.declared.held.State.{State}
 use Rattle.write_rules.specs.declared.held.State.TheVariants as state
-use Rattle.write_rules.specs.declared.place.BlockAt.{BlockAt}
-use Rattle.write_rules.specs.declared.place.FileAt.{FileAt}
-use Rattle.write_rules.specs.declared.place.StampAt.{StampAt}
-use Rattle.write_rules.specs.Places.{same_place, same_use, same_stamp, file_of, stamped_file, has_stamp}
+use Rattle.trace_rules.specs.declared.place.BlockAt.{BlockAt}
+use Rattle.trace_rules.specs.declared.place.FileAt.{FileAt}
+use Rattle.trace_rules.specs.declared.place.StampAt.{StampAt}
+use Rattle.trace_rules.specs.Places.{same_place, same_use, same_stamp, file_of, stamped_file, has_stamp}
 
 -- ---- looking
 

@@ -18,13 +18,14 @@ use Rattle.write_rules.specs.declared.held.FileCounts.{FileCounts}
 use Rattle.write_rules.specs.declared.held.Held.{Held}
 use Rattle.write_rules.specs.declared.held.State.{State}
 use Rattle.write_rules.specs.declared.held.State.TheVariants as state
-use Rattle.write_rules.specs.declared.place.BlockAt.{BlockAt}
-use Rattle.write_rules.specs.declared.place.FileAt.{FileAt}
-use Rattle.write_rules.specs.declared.place.StampAt.{StampAt}
-use Rattle.write_rules.specs.Lists.{any_more}
-use Rattle.write_rules.specs.Places.{same_place, same_use, file_of, has_stamp}
+use Rattle.trace_rules.specs.declared.place.BlockAt.{BlockAt}
+use Rattle.trace_rules.specs.declared.place.FileAt.{FileAt}
+use Rattle.trace_rules.specs.declared.place.StampAt.{StampAt}
+use Rattle.trace_rules.specs.Lists.{any_more}
+use Rattle.trace_rules.specs.PlaceLaws.{file_is, use_is, place_is}
+use Rattle.trace_rules.specs.Places.{same_place, same_use, file_of, has_stamp}
 use Rattle.write_rules.specs.Held.{mark_at, file_kept, file_or, file_counts, counts_kept, counts_or, counts_at, state_by, state_in, is_pressed_in, dirtied, cleaned, held_one, dirty_one, counts_moved, file_moved, mark_for, Puts, Cleans, Notes, Keeps, TakesBy, HeldBy, HeldOn, one_if, held_in, dirty_in, any_block, of_file, of_block, mark_or, TellsHeld}
-use Rattle.write_rules.specs.BlockLaws.{where_so, file_is, block_is, held_clean, dirty_clean, clean_in, Moves, filled_moves, dropped_moves, dirtied_moves, wrote_moves}
+use Rattle.write_rules.specs.BlockLaws.{where_so, held_clean, dirty_clean, clean_in, Moves, filled_moves, dropped_moves, dirtied_moves, wrote_moves}
 
 -- ---- looking
 
@@ -59,19 +60,6 @@ pressed_told c held records kernel told =
     let clean = clean_ones (held_of kernel records) in
     let few : (counts_at held.kernels.entries kernel).held - (counts_at held.kernels.entries kernel).dirty ≡ count_by is_clean (held_of kernel records) = omega (arith, all, dirty, clean) in
     ap₂ (λ n m. n == c.cache && nat_le m 4) all few
-
--- ---- names that are the same
-
-pub use_is : (a b : FileAt) → same_use a b ≡ true → a ≡ b
-use_is a b same =
-    let parts = and_parts (a.kernel == b.kernel) (same_file a.file b.file) same in
-    ap₂ (λ k f. record { kernel = k; file = f }) (eqb-true a.kernel b.kernel parts.0) (file_is a.file b.file parts.1)
-
-pub place_is : (a b : BlockAt) → same_place a b ≡ true → a ≡ b
-place_is a b same =
-    let parts = and_parts (a.kernel == b.kernel) (same_block a.file a.block b.file b.block) same in
-    let more = and_parts (same_file a.file b.file) (a.block.0 == b.block.0) parts.1 in
-    ap₂ (λ k (x : FileId × BlockNo). record { kernel = k; file = x.0; block = x.1 }) (eqb-true a.kernel b.kernel parts.0) (ap₂ (λ f b. (f, b)) (file_is a.file b.file more.0) (block_is a.block b.block more.1))
 
 -- ---- a block's state is another
 

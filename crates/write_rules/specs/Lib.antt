@@ -1,5 +1,3 @@
-pub mod Lists
-pub mod Places
 pub mod Ages
 pub mod AgeLaws
 pub mod Held

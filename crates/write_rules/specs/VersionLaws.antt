@@ -14,19 +14,18 @@ use Rattle.call_journal.specs.Files.{mode_by}
 use Rattle.call_journal.specs.Calls.{is_truncating}
 use Rattle.call_journal.specs.Drops.{before_filled, has_missed, is_filled, is_given, is_never_taken, is_opened_of, is_opened_to_write, is_outdated, is_taken, is_truncated, is_truncating_event, is_untaken, is_written_elsewhere, last_seen, last_stamp, missed_step, stamp_by}
 use Rattle.call_journal.proofs.GrowthLaws.{look_backs_grow}
-use Rattle.write_rules.specs.declared.place.BlockAt.{BlockAt}
-use Rattle.write_rules.specs.declared.place.FileAt.{FileAt}
-use Rattle.write_rules.specs.declared.place.StampAt.{StampAt}
+use Rattle.trace_rules.specs.declared.place.BlockAt.{BlockAt}
+use Rattle.trace_rules.specs.declared.place.FileAt.{FileAt}
+use Rattle.trace_rules.specs.declared.place.StampAt.{StampAt}
 use Rattle.write_rules.specs.declared.versions.Change.{Change}
 use Rattle.write_rules.specs.declared.versions.Filling.{Filling}
 use Rattle.write_rules.specs.declared.versions.Last.{Last}
 use Rattle.write_rules.specs.declared.versions.Last.TheVariants as last
 use Rattle.write_rules.specs.declared.versions.Taken.{Taken}
 use Rattle.write_rules.specs.declared.versions.Versions.{Versions}
-use Rattle.write_rules.specs.Lists.{or_false}
-use Rattle.write_rules.specs.Places.{same_place, same_use, same_stamp, file_of, has_stamp}
-use Rattle.write_rules.specs.BlockLaws.{file_is}
-use Rattle.write_rules.specs.HeldLaws.{place_is, use_is}
+use Rattle.trace_rules.specs.Lists.{or_false}
+use Rattle.trace_rules.specs.Places.{same_place, same_use, same_stamp, file_of, has_stamp}
+use Rattle.trace_rules.specs.PlaceLaws.{file_is, place_is, use_is}
 use Rattle.write_rules.specs.Marks.{mark_by, mark_of}
 use Rattle.write_rules.specs.Versions.{taken_at, stamp_or, stamp_at, mode_or, filled_at, filling_place, filling_stamp, change_of, change_for, place_or, given_at, missed_at, stamp_of, has_missed_in, ModesBy, FillsBy, PutsPlace, GivesBy, next_change, OpensIf, TruncatesIf, ChangesBy, is_untaken_in, MissesIf, MissesBy, VersionsOn, StartsOn, last_or, TellsVersions}
 

@@ -15,16 +15,16 @@ use Rattle.call_journal.specs.Matching.{same_file, is_at, writes}
 use Rattle.call_journal.specs.Files.{mode_of}
 use Rattle.call_journal.specs.Calls.{is_truncating}
 use Rattle.call_journal.specs.Drops.{before_filled, has_missed, is_outdated, is_taken, last_seen, last_stamp}
-use Rattle.write_rules.specs.declared.place.BlockAt.{BlockAt}
-use Rattle.write_rules.specs.declared.place.FileAt.{FileAt}
-use Rattle.write_rules.specs.declared.place.StampAt.{StampAt}
+use Rattle.trace_rules.specs.declared.place.BlockAt.{BlockAt}
+use Rattle.trace_rules.specs.declared.place.FileAt.{FileAt}
+use Rattle.trace_rules.specs.declared.place.StampAt.{StampAt}
 use Rattle.write_rules.specs.declared.versions.Change.{Change}
 use Rattle.write_rules.specs.declared.versions.Filling.{Filling}
 use Rattle.write_rules.specs.declared.versions.Last.{Last}
 use Rattle.write_rules.specs.declared.versions.Last.TheVariants as last
 use Rattle.write_rules.specs.declared.versions.Taken.{Taken}
 use Rattle.write_rules.specs.declared.versions.Versions.{Versions}
-use Rattle.write_rules.specs.Places.{same_place, same_use, same_stamp, file_of, has_stamp}
+use Rattle.trace_rules.specs.Places.{same_place, same_use, same_stamp, file_of, has_stamp}
 
 -- ---- looking
 

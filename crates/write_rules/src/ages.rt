@@ -1,9 +1,9 @@
 ghost use Rattle.std.specs.Prelude.{◌≡◌, ◌+◌, IfOk, OnOk};
 ghost use Rattle.write_rules.specs.Ages.{AgesOn, is_old_in, steps_at};
 
-use crate::place::BlockAt;
 use indexmap::IndexMap;
 use sprite_ids::{Kernel, NoMemory};
+use trace_rules::BlockAt;
 use unix_calls::{Event, Rec};
 
 /// How many steps each kernel made so far that count for a block's age, and how many it had made where a block was last made dirty

@@ -6,10 +6,10 @@ ghost use Rattle.write_rules.specs.Marks.{marks_of};
 
 use crate::held::{Held, counts_at, hold_on};
 use crate::judging::{LooksBackMarked, each_keeps_marked};
-use crate::place::{BlockAt, FileAt};
 use crate::versions::{Versions, is_off, is_old_version, no_versions, version_on};
 use sprite_ids::NoMemory;
 use std::alloc::Global;
+use trace_rules::{BlockAt, FileAt};
 use unix_calls::{Description, DropCause, Event, Rec};
 
 /// Whether a block leaves a kernel's cache in the trace only for its cause: with a full cache, with the file's mode off, or with an

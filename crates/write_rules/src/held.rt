@@ -1,10 +1,10 @@
 ghost use Rattle.std.specs.Prelude.{◌≡◌, ◌+◌, ◌-◌, [], IfOk, OnOk};
 ghost use Rattle.write_rules.specs.Held.{Cleans, HeldOn, Puts, PutsMark, Takes, cleaned, counts_at, dirtied, dirty_one, file_counts, held_one, is_pressed_in, state_by, state_in};
 
-use crate::place::{BlockAt, FileAt, StampAt};
 use indexmap::{IndexMap, IndexSet};
-use sprite_ids::{BlockNo, CallKind, FileId, Kernel, NoMemory};
+use sprite_ids::{CallKind, Kernel, NoMemory};
 use std::alloc::Global;
+use trace_rules::{BlockAt, FileAt, StampAt, block_at, stamp_at};
 use unix_calls::{Description, Event, Rec};
 
 /// How many blocks a kernel holds, and how many of them are dirty (this project).
@@ -81,26 +81,6 @@ pub(crate) fn hold_on(held: &mut Held, rec: &Rec) -> Result<(), NoMemory>
         }
         Event::Mode { file, stamp, .. } => take(held, &stamp_at(kernel, file, *stamp)),
         _ => Ok(()),
-    }
-}
-
-fn block_at(kernel: Kernel, file: &FileId, block: &BlockNo) -> BlockAt
-    ensures { result ≡ record { kernel = kernel; file = file.now; block = block.now } }
-{
-    BlockAt {
-        kernel,
-        file: *file,
-        block: *block,
-    }
-}
-
-fn stamp_at(kernel: Kernel, file: &FileId, stamp: u32) -> StampAt
-    ensures { result ≡ record { kernel = kernel; file = file.now; stamp = stamp } }
-{
-    StampAt {
-        kernel,
-        file: *file,
-        stamp,
     }
 }
 

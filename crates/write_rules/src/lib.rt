@@ -6,7 +6,6 @@ mod drops;
 mod held;
 mod judging;
 mod marking;
-mod place;
 mod syncs;
 mod versions;
 mod write_backs;

@@ -3,14 +3,15 @@ ghost use Rattle.std.specs.List.{list_any};
 ghost use Rattle.call_journal.specs.Calls.{is_truncating};
 ghost use Rattle.call_journal.specs.Drops.{is_taken};
 ghost use Rattle.call_journal.specs.Matching.{is_at, writes};
-ghost use Rattle.write_rules.specs.Places.{file_of, has_stamp};
+ghost use Rattle.trace_rules.specs.declared.place.StampAt.{StampAt};
+ghost use Rattle.trace_rules.specs.Places.{file_of, has_stamp};
 ghost use Rattle.write_rules.specs.Versions.{ChangesBy, FillsBy, GivesBy, MissesBy, ModesBy, OpensBy, StampsBy, StartsOn, TruncatesBy, VersionsOn, change_for, change_of, has_missed_in, is_off_in, is_old_version, is_untaken_in, last_of, next_change, place_or, stamp_at};
 
-use crate::place::{BlockAt, FileAt, StampAt};
 use indexmap::{IndexMap, IndexSet};
 use process_machine::{Call, Reply};
 use sprite_ids::{CacheMode, FileId, Kernel, Mode, NoMemory};
 use std::alloc::Global;
+use trace_rules::{BlockAt, FileAt, StampAt};
 use unix_calls::{Entry, Event, Rec};
 
 /// What a kernel took of a file last (this project).

@@ -7,10 +7,10 @@ ghost use Rattle.write_rules.specs.WriteBackLaws.{write_backs_told, writes_told_
 use crate::ages::Ages;
 use crate::held::{Held, counts_at, hold_on, is_pressed};
 use crate::judging::{LooksBackMarked, each_keeps_marked};
-use crate::place::BlockAt;
 use indexmap::IndexMap;
 use sprite_ids::NoMemory;
 use std::alloc::Global;
+use trace_rules::BlockAt;
 use unix_calls::{Description, Event, Rec, SendKind};
 
 /// Whether a kernel of the trace writes a block back only for a cause: its cache is full and at most four of its blocks are clean,

@@ -3,7 +3,7 @@ use Rattle.std.proofs.lemmas.List.{drop_all}
 use Rattle.unix_calls.specs.declared.event.Rec.{Rec}
 use Rattle.call_journal.specs.Matching.{has_event}
 use Rattle.call_journal.specs.WorthRecords.{is_any_freeze}
-use Rattle.open_worth.specs.Lists.{one_if, counted_on, counted_all}
+use Rattle.trace_rules.specs.Lists.{one_if, counted_on, counted_all}
 use Rattle.open_worth.proofs.moved_opens.freezes.Goals as goal
 
 pub loop-rec-preserved : goal.loop-rec-preserved

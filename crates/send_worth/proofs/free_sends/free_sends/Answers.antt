@@ -3,7 +3,7 @@ use Rattle.std.proofs.lemmas.List.{drop_all}
 use Rattle.unix_calls.specs.declared.event.Rec.{Rec}
 use Rattle.call_journal.specs.Matching.{has_event}
 use Rattle.call_journal.specs.WorthSends.{is_free_send}
-use Rattle.send_worth.specs.Lists.{one_if, counted_on, counted_all}
+use Rattle.trace_rules.specs.Lists.{one_if, counted_on, counted_all}
 use Rattle.send_worth.proofs.free_sends.free_sends.Goals as goal
 
 pub loop-rec-preserved : goal.loop-rec-preserved

@@ -4,7 +4,8 @@ use Rattle.unix_calls.specs.declared.state.Process.{Process}
 use Rattle.trace_tables.specs.declared.Tied.{Tied}
 use Rattle.sharing_rules.specs.declared.entry_facts.EntryFacts.{EntryFacts}
 use Rattle.sharing_rules.specs.declared.entry_facts.LocalUse.{LocalUse}
-use Rattle.sharing_rules.specs.Places.{home_in}
+use Rattle.call_journal.specs.Past.{at_homes}
+use Rattle.trace_places.specs.Places.{place_among}
 use Rattle.sharing_rules.specs.Facts.{local_in}
 use Rattle.sharing_rules.specs.Followed.{EntersTo, IsWithin, Following}
 use Rattle.sharing_rules.proofs.FactLaws.{fact_in}
@@ -14,7 +15,7 @@ use Rattle.sharing_rules.proofs.following.tell_entries.Goals as goal
 pub loop-at-init : goal.loop-at-init
 loop-at-init c =
     subst (λ (fs : List EntryFacts). Following c.args.c.now c.args.most c.args.trace.now c.args.trace.now c.args.ties.now 0 c.in_ok-world.world c.in_ok-world.processes c.in_ok-places.places.entries fs) (sym c.new-facts.ensures.items)
-    (begins c.args.c.now c.args.most c.args.trace.now c.args.ties.now c.in_ok-world.world c.in_ok-world.processes c.in_ok-places.places.entries c.requires.tied c.in_ok-world.ensures.state c.in_ok-world.ensures.ascends (λ pid. c.in_ok-places.ensures pid ∙ ap (λ (ps : List Process). home_in ps pid) c.as_slice.ensures))
+    (begins c.args.c.now c.args.most c.args.trace.now c.args.ties.now c.in_ok-world.world c.in_ok-world.processes c.in_ok-places.places.entries c.requires.tied c.in_ok-world.ensures.state c.in_ok-world.ensures.ascends (λ pid. c.in_ok-places.ensures pid ∙ ap (λ (ps : List Process). place_among (at_homes ps) pid) c.as_slice.ensures))
 
 pub returns-in-None : goal.returns-in-None
 returns-in-None c =

@@ -17,4 +17,4 @@ boot-requires-clause-files c = (lawful_boots c.args.c.now c.requires).1
 pub returns : goal.returns
 returns c =
     let boots : c.as_slice.result.now ≡ (boot_of c.args.c.now).processes = c.as_slice.ensures ∙ ap (λ (u : Unix). u.processes) c.in_ok-world.ensures.state in
-    subst (λ (ps : List Process). IfOk c.homes.result (λ places. TellsPlaces places.entries (at_homes ps))) boots c.homes.ensures
+    subst (λ (ps : List Process). IfOk c.home_places.result (λ places. TellsPlaces places.entries (at_homes ps))) boots c.home_places.ensures

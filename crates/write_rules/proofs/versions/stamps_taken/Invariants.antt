@@ -2,8 +2,8 @@ use Rattle.std.proofs.Common.{◌≡◌, take}
 use Rattle.std.specs.List.{list_any}
 use Rattle.call_journal.specs.Drops.{is_taken}
 use Rattle.call_journal.specs.Matching.{is_at}
-use Rattle.write_rules.specs.declared.place.StampAt.{StampAt}
-use Rattle.write_rules.specs.Places.{has_stamp}
+use Rattle.trace_rules.specs.declared.place.StampAt.{StampAt}
+use Rattle.trace_rules.specs.Places.{has_stamp}
 use Rattle.write_rules.proofs.versions.stamps_taken.Given as goal
 
 -- those of the records so far

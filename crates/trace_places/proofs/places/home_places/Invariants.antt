@@ -2,7 +2,7 @@ use Rattle.std.proofs.Common.{◌≡◌, ℕ, drop}
 use Rattle.call_journal.specs.Calls.{or_else}
 use Rattle.call_journal.specs.Past.{at_homes}
 use Rattle.trace_places.specs.Places.{place_kept, place_among}
-use Rattle.trace_places.proofs.places.homes.Given as goal
+use Rattle.trace_places.proofs.places.home_places.Given as goal
 
 -- what was put, and else what is left to be put, is the home of each
 abbrev pub invariant-loop-p : goal.invariant-loop-p

@@ -5,7 +5,7 @@ use Rattle.call_journal.specs.Calls.{or_else}
 use Rattle.call_journal.specs.Past.{at_homes}
 use Rattle.trace_places.specs.Places.{place_kept, place_among}
 use Rattle.trace_places.specs.PlaceLaws.{home_more, or_nothing}
-use Rattle.trace_places.proofs.places.homes.Goals as goal
+use Rattle.trace_places.proofs.places.home_places.Goals as goal
 
 pub loop-p-preserved : goal.loop-p-preserved
 loop-p-preserved c = λ pid.

@@ -1,7 +1,0 @@
-use Rattle.std.proofs.Common.{◌≡◌, drop}
-use Rattle.unix_calls.specs.Domains.{begins_domain, roots_of}
-use Rattle.record_worth.proofs.prefixes.begins_domain.Given as goal
-
--- none so far has it
-abbrev pub invariant-loop-line : goal.invariant-loop-line
-invariant-loop-line l = begins_domain (roots_of (drop l.line-index l.c.kernels)) l.path ≡ begins_domain (roots_of l.c.kernels) l.path
