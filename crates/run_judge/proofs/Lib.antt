@@ -1,3 +1,4 @@
 mod WaitLaws
 mod HaltLaws
 mod EndLaws
+mod ReplayLaws

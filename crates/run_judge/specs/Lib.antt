@@ -2,3 +2,4 @@ pub mod Waiting
 pub mod Halts
 pub mod Ends
 pub mod Judged
+pub mod Replays

@@ -2,6 +2,7 @@ ghost use Rattle.std.specs.Prelude.{◌≡◌, ◌≤◌, IfOk, true};
 ghost use Rattle.unix_calls.specs.Lawful.{Lawful};
 ghost use Rattle.unix_world.specs.Worlds.{unix_of};
 ghost use Rattle.call_journal.specs.Once.{Once};
+ghost use Rattle.call_journal.specs.PrefixBroadcasts.{prefixes_are_broadcast_until_learned};
 ghost use Rattle.call_journal.specs.Unreachable.{unreachable_for_cause};
 ghost use Rattle.run_judge.specs.declared.ending.Stop.TheVariants.{Good};
 ghost use Rattle.run_judge.specs.Ends.{end_of};
@@ -9,10 +10,11 @@ ghost use Rattle.run_judge.specs.Judged.{IsLegal, JudgesTo};
 
 use crate::ending::{Stop, end_of};
 use crate::judged::{JudgedRun, Refutation};
+use crate::replaying::replay;
 use call_journal::Trace;
 use calls_once::calls_are_once;
 use cause_judge::are_for_cause;
-use one_kernel::{Replayed, replay};
+use one_kernel::Replayed;
 use report_print::{output, tally_of};
 use sprite_ids::{Bytes, Finish, NoMemory};
 use std::alloc::Global;
@@ -25,8 +27,9 @@ use unix_world::World;
 /// It is `Judged` where all of these hold, and else `Refuted` by the first that doesn't: one Unix kernel gives the journal; each call is
 /// issued, entered and returned once, in this order; for each entry that calls a server unreachable, a send for its call was given up
 /// before at the same kernel, after eight lost packets; by the state of the journal each process has ended where the run ended so, and one
-/// lives where the budget was spent or it stalled; where it stalled each process that lives is blocked; and the trace keeps the rules that
-/// are judged. The processes may do at most
+/// lives where the budget was spent or it stalled; where it stalled each process that lives is blocked; and the trace's records are written as
+/// they should be, it keeps the nine rules and is worth its units; that its prefixes are broadcast until they are learned is known of each run
+/// and not asked. The processes may do at most
 /// `most` instructions in all up to the calls of the entries, and as many from there up to their next calls where the run stalled; past
 /// that the answer is `Steps`. The one error is want of memory, which is also the answer where the entries would be more than 2^32.
 pub fn judge_run(
@@ -38,10 +41,10 @@ pub fn judge_run(
 ) -> Result<JudgedRun, NoMemory>
     requires lawful { Lawful c.now }
     requires bound { most ≤ 40000000000 }
+    requires broadcasts { prefixes_are_broadcast_until_learned c.now trace.now ≡ true }
     ensures { IfOk result (JudgesTo c.now most trace.now finish) }
 {
-    let journal = trace.journal(alloc)?;
-    match replay(alloc, c, journal.as_slice(), most)? {
+    match replay(alloc, c, trace.records(), most)? {
         Replayed::NotLegal(place) => Ok(JudgedRun::Refuted(Refutation::Legal(place))),
         Replayed::Steps(place) => Ok(JudgedRun::Steps(place)),
         Replayed::Legal(world, ps) => {
@@ -62,6 +65,7 @@ fn judge_legal(
 ) -> Result<JudgedRun, NoMemory>
     requires lawful { Lawful c.now }
     requires bound { most ≤ 40000000000 }
+    requires broadcasts { prefixes_are_broadcast_until_learned c.now trace.now ≡ true }
     requires legal { IsLegal c.now most trace.now (unix_of c.now world.now ps.now) }
     ensures { IfOk result (JudgesTo c.now most trace.now finish) }
 {
@@ -86,6 +90,7 @@ fn judge_end(
 ) -> Result<JudgedRun, NoMemory>
     requires lawful { Lawful c.now }
     requires bound { most ≤ 40000000000 }
+    requires broadcasts { prefixes_are_broadcast_until_learned c.now trace.now ≡ true }
     requires legal { IsLegal c.now most trace.now (unix_of c.now world.now ps.now) }
     requires once { Once trace.now }
     requires for_cause { unreachable_for_cause c.now trace.now ≡ true }
@@ -114,6 +119,7 @@ fn judge_rules(
 ) -> Result<JudgedRun, NoMemory>
     requires lawful { Lawful c.now }
     requires bound { most ≤ 40000000000 }
+    requires broadcasts { prefixes_are_broadcast_until_learned c.now trace.now ≡ true }
     requires legal { IsLegal c.now most trace.now (unix_of c.now world.now ps.now) }
     requires once { Once trace.now }
     requires for_cause { unreachable_for_cause c.now trace.now ≡ true }

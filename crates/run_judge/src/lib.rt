@@ -8,6 +8,7 @@ mod ending;
 mod halting;
 mod judged;
 mod judging;
+mod replaying;
 mod waiting;
 
 pub use judged::{JudgedRun, Refutation};

@@ -8,24 +8,30 @@ ghost use Rattle.trace_tables.specs.Callers.{callers_of};
 ghost use Rattle.trace_tables.specs.Ties.{ties_of};
 ghost use Rattle.write_rules.specs.Marks.{marks_of};
 ghost use Rattle.sharing_rules.specs.Facts.{facts_of};
-ghost use Rattle.trace_judge.specs.Rules.{first_broken};
+ghost use Rattle.call_journal.specs.PrefixBroadcasts.{prefixes_are_broadcast_until_learned};
+ghost use Rattle.call_journal.specs.Sharing.{caching_stops_only_for_sharing};
+ghost use Rattle.trace_judge.specs.Cuts.{cuts_in};
+ghost use Rattle.trace_forms.specs.Openings.{openings_of};
+ghost use Rattle.trace_judge.specs.Rules.{broken_rule, broken_when_formed, first_broken, unless_worth};
 
 use crate::rule::Rule;
+use move_rules::processes_run_where_they_are;
 use place_rules::entries_stand_at_their_kernels;
 use sharing_rules::{EntryFacts, cached_calls_use_held_blocks, tell_entries};
 use sprite_ids::NoMemory;
 use std::alloc::Global;
 use trace_forms::{formed, openings};
-use trace_rules::{
-    fetches_are_of_absent_blocks, operations_go_out_uncached, prefixes_are_broadcast_until_learned,
-};
+use trace_rules::{fetches_are_of_absent_blocks, operations_go_out_uncached};
 use trace_tables::{Caller, Tied, ToldCallers, tell_callers};
-use unix_calls::{Description, Rec};
+use trace_worth::is_worth;
+use unix_calls::{Description, Rec, Stream};
 use write_rules::{blocks_are_dropped_for_a_cause, blocks_are_written_back_for_a_cause, mark};
+use write_sharing::caching_stops_only_for_sharing;
 
 /// The first rule, in their order, that a trace breaks whose journal one Unix kernel gives, where its processes do at most `most`
-/// instructions up to their calls; None exactly where it keeps them all (this project). The one error is want of memory, which is also
-/// the answer where the entries would be more than 2^32.
+/// instructions up to their calls; None exactly where it keeps them all: its records are written as they should be, it keeps the nine
+/// rules, and each record is worth its units (this project). That its prefixes are broadcast until they are learned is known, as it is of
+/// each run. The one error is want of memory, which is also the answer where the entries would be more than 2^32.
 pub fn first_broken(
     alloc: Global,
     c: &Description,
@@ -35,32 +41,95 @@ pub fn first_broken(
     requires lawful { Lawful c.now }
     requires bound { most ≤ 40000000000 }
     requires legal { verdict_of c.now most (journal_of trace.now) ≡ Legal }
+    requires broadcasts { prefixes_are_broadcast_until_learned c.now trace.now ≡ true }
     ensures { IfOk result (λ broken. broken ≡ first_broken c.now trace.now) }
 {
-    if !is_formed(alloc, c, trace, most)? {
+    let openings = openings(alloc, c, trace, most)?;
+    if !formed(alloc, c, trace, openings.as_slice())? {
         return Ok(Some(Rule::Formed));
     }
+    broken_when_formed(alloc, c, trace, openings.as_slice(), most, true)
+}
+
+/// The first of the nine rules, in their order, that such a trace breaks whose records are written as they should be, and `Worth` where
+/// it keeps these and a record isn't worth its units; None exactly where it keeps all (this project). `openings` are the streams of files
+/// that its records make; `broadcasts` tells whether its prefixes are broadcast until they are learned. The one error is want of memory,
+/// which is also the answer where the entries would be more than 2^32.
+pub fn broken_when_formed(
+    alloc: Global,
+    c: &Description,
+    trace: &[Rec],
+    openings: &[Option<Stream>],
+    most: u64,
+    broadcasts: bool,
+) -> Result<Option<Rule>, NoMemory>
+    requires lawful { Lawful c.now }
+    requires bound { most ≤ 40000000000 }
+    requires legal { verdict_of c.now most (journal_of trace.now) ≡ Legal }
+    requires openings { openings.now ≡ openings_of c.now trace.now }
+    requires formed { formed c.now trace.now ≡ true }
+    requires broadcasts { broadcasts ≡ prefixes_are_broadcast_until_learned c.now trace.now }
+    ensures { IfOk result (λ broken. broken ≡ broken_when_formed c.now trace.now) }
+{
+    match broken_rule(alloc, c, trace, most, broadcasts)? {
+        Some(rule) => Ok(Some(rule)),
+        None => unless_worth(alloc, c, trace, openings, most),
+    }
+}
+
+// What is broken by a trace that keeps the rules.
+fn unless_worth(
+    alloc: Global,
+    c: &Description,
+    trace: &[Rec],
+    openings: &[Option<Stream>],
+    most: u64,
+) -> Result<Option<Rule>, NoMemory>
+    requires lawful { Lawful c.now }
+    requires bound { most ≤ 40000000000 }
+    requires legal { verdict_of c.now most (journal_of trace.now) ≡ Legal }
+    requires openings { openings.now ≡ openings_of c.now trace.now }
+    ensures { IfOk result (λ broken. broken ≡ unless_worth c.now trace.now) }
+{
+    if is_worth(alloc, c, trace, openings, most)? {
+        return Ok(None);
+    }
+    Ok(Some(Rule::Worth))
+}
+
+// The first of the nine rules that is broken by a trace whose records are written as they should be.
+fn broken_rule(
+    alloc: Global,
+    c: &Description,
+    trace: &[Rec],
+    most: u64,
+    broadcasts: bool,
+) -> Result<Option<Rule>, NoMemory>
+    requires lawful { Lawful c.now }
+    requires bound { most ≤ 40000000000 }
+    requires legal { verdict_of c.now most (journal_of trace.now) ≡ Legal }
+    requires formed { formed c.now trace.now ≡ true }
+    requires broadcasts { broadcasts ≡ prefixes_are_broadcast_until_learned c.now trace.now }
+    ensures { IfOk result (λ broken. broken ≡ broken_rule c.now trace.now) }
+{
     match tell_callers(alloc, c, trace, most)? {
         ToldCallers::Legal(ties, callers) => {
-            broken_tied(alloc, c, trace, most, ties.as_slice(), callers.as_slice())
+            broken_tied(
+                alloc,
+                c,
+                trace,
+                most,
+                ties.as_slice(),
+                callers.as_slice(),
+                broadcasts,
+            )
         }
         ToldCallers::NotLegal(_) => Ok(None),
         ToldCallers::Steps(_) => Ok(None),
     }
 }
 
-// Whether its records are written as they should be.
-fn is_formed(alloc: Global, c: &Description, trace: &[Rec], most: u64) -> Result<bool, NoMemory>
-    requires lawful { Lawful c.now }
-    requires bound { most ≤ 40000000000 }
-    requires legal { verdict_of c.now most (journal_of trace.now) ≡ Legal }
-    ensures { IfOk result (λ kept. kept ≡ formed c.now trace.now) }
-{
-    let openings = openings(alloc, c, trace, most)?;
-    formed(alloc, c, trace, openings.as_slice())
-}
-
-// The same, where its records are, and where it is told what each record's call goes by, and what its process is.
+// The same, where it is told what each record's call goes by, and what its process is.
 fn broken_tied(
     alloc: Global,
     c: &Description,
@@ -68,6 +137,7 @@ fn broken_tied(
     most: u64,
     ties: &[Option<Tied>],
     callers: &[Caller],
+    broadcasts: bool,
 ) -> Result<Option<Rule>, NoMemory>
     requires lawful { Lawful c.now }
     requires bound { most ≤ 40000000000 }
@@ -75,10 +145,20 @@ fn broken_tied(
     requires formed { formed c.now trace.now ≡ true }
     requires ties { ties.now ≡ ties_of c.now trace.now }
     requires callers { callers.now ≡ callers_of c.now trace.now }
-    ensures { IfOk result (λ broken. broken ≡ first_broken c.now trace.now) }
+    requires broadcasts { broadcasts ≡ prefixes_are_broadcast_until_learned c.now trace.now }
+    ensures { IfOk result (λ broken. broken ≡ broken_rule c.now trace.now) }
 {
     match mark(alloc, c, trace, most)? {
-        Some(marks) => broken_marked(alloc, c, trace, most, ties, callers, marks.as_slice()),
+        Some(marks) => broken_marked(
+            alloc,
+            c,
+            trace,
+            most,
+            ties,
+            callers,
+            marks.as_slice(),
+            broadcasts,
+        ),
         None => Ok(None),
     }
 }
@@ -92,6 +172,7 @@ fn broken_marked(
     ties: &[Option<Tied>],
     callers: &[Caller],
     marks: &[bool],
+    broadcasts: bool,
 ) -> Result<Option<Rule>, NoMemory>
     requires lawful { Lawful c.now }
     requires bound { most ≤ 40000000000 }
@@ -100,10 +181,20 @@ fn broken_marked(
     requires ties { ties.now ≡ ties_of c.now trace.now }
     requires callers { callers.now ≡ callers_of c.now trace.now }
     requires marks { marks.now ≡ marks_of c.now trace.now }
-    ensures { IfOk result (λ broken. broken ≡ first_broken c.now trace.now) }
+    requires broadcasts { broadcasts ≡ prefixes_are_broadcast_until_learned c.now trace.now }
+    ensures { IfOk result (λ broken. broken ≡ broken_rule c.now trace.now) }
 {
     match tell_entries(alloc, c, trace, ties, most)? {
-        Some(facts) => broken_told(alloc, c, trace, ties, callers, marks, facts.as_slice()),
+        Some(facts) => broken_told(
+            alloc,
+            c,
+            trace,
+            ties,
+            callers,
+            marks,
+            facts.as_slice(),
+            broadcasts,
+        ),
         None => Ok(None),
     }
 }
@@ -117,6 +208,7 @@ fn broken_told(
     callers: &[Caller],
     marks: &[bool],
     facts: &[EntryFacts],
+    broadcasts: bool,
 ) -> Result<Option<Rule>, NoMemory>
     requires lawful { Lawful c.now }
     requires formed { formed c.now trace.now ≡ true }
@@ -124,7 +216,8 @@ fn broken_told(
     requires callers { callers.now ≡ callers_of c.now trace.now }
     requires marks { marks.now ≡ marks_of c.now trace.now }
     requires facts { facts.now ≡ facts_of c.now trace.now }
-    ensures { IfOk result (λ broken. broken ≡ first_broken c.now trace.now) }
+    requires broadcasts { broadcasts ≡ prefixes_are_broadcast_until_learned c.now trace.now }
+    ensures { IfOk result (λ broken. broken ≡ broken_rule c.now trace.now) }
 {
     if !entries_stand_at_their_kernels(alloc, c, trace, callers)? {
         return Ok(Some(Rule::Entries));
@@ -141,11 +234,44 @@ fn broken_told(
     if !blocks_are_dropped_for_a_cause(alloc, c, trace, marks)? {
         return Ok(Some(Rule::Drops));
     }
-    if !prefixes_are_broadcast_until_learned(alloc, c, trace)? {
+    if !is_shared_well(alloc, c, trace, ties, facts)? {
+        return Ok(Some(Rule::Sharing));
+    }
+    if !broadcasts {
         return Ok(Some(Rule::Broadcasts));
+    }
+    if !processes_run_where_they_are(alloc, c, trace, callers)? {
+        return Ok(Some(Rule::Moves));
     }
     if !blocks_are_written_back_for_a_cause(alloc, c, trace, marks)? {
         return Ok(Some(Rule::WriteBacks));
     }
     Ok(None)
+}
+
+// Whether kernels stop caching files only where these are shared.
+fn is_shared_well(
+    alloc: Global,
+    c: &Description,
+    trace: &[Rec],
+    ties: &[Option<Tied>],
+    facts: &[EntryFacts],
+) -> Result<bool, NoMemory>
+    requires ties { ties.now ≡ ties_of c.now trace.now }
+    requires facts { facts.now ≡ facts_of c.now trace.now }
+    ensures { IfOk result (λ kept. kept ≡ caching_stops_only_for_sharing c.now trace.now) }
+{
+    let cuts = cuts_in(alloc, facts)?;
+    caching_stops_only_for_sharing(alloc, c, trace, ties, cuts.as_slice())
+}
+
+// Of each record whether its entry opens a file and truncates it.
+fn cuts_in(alloc: Global, facts: &[EntryFacts]) -> Result<Vec<bool>, NoMemory>
+    ensures { IfOk result (λ cuts. cuts.items ≡ cuts_in facts.now) }
+{
+    let mut cuts = Vec::new(alloc);
+    for fact in facts {
+        cuts.push(fact.truncates)?;
+    }
+    Ok(cuts)
 }

@@ -4,5 +4,5 @@
 mod judging;
 mod rule;
 
-pub use judging::first_broken;
+pub use judging::{broken_when_formed, first_broken};
 pub use rule::Rule;

@@ -17,10 +17,16 @@ pub enum Rule {
     Fetches,
     /// Blocks are dropped for a cause (Nelson, Welch and Ousterhout 1988).
     Drops,
+    /// A kernel stops caching a file only where it is shared for writing, or truncated while it is open (Nelson, Welch and Ousterhout 1988).
+    Sharing,
     /// Prefixes are broadcast until they are learned (Welch and Ousterhout 1986).
     Broadcasts,
+    /// Processes run where they are, and move for a cause (Douglis and Ousterhout 1991).
+    Moves,
     /// Blocks are written back for a cause (Nelson, Welch and Ousterhout 1988).
     WriteBacks,
+    /// No record stands for nothing: each is worth the units that it costs (this project).
+    Worth,
 }
 
 impl Rule {
@@ -35,8 +41,11 @@ impl Rule {
             Rule::Operations => "P3",
             Rule::Fetches => "P4",
             Rule::Drops => "P5",
+            Rule::Sharing => "P6",
             Rule::Broadcasts => "P7",
+            Rule::Moves => "P8",
             Rule::WriteBacks => "P9",
+            Rule::Worth => "worth",
         }
     }
 }
