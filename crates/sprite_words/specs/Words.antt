@@ -71,6 +71,7 @@ IsSpelled command.RunStats words = words ≡ codes "run" ∷ codes "--stats" ∷
 IsSpelled command.History words = words ≡ codes "history" ∷ []
 IsSpelled (command.Load count) words = IsLoad words count
 IsSpelled command.Check words = words ≡ codes "check" ∷ []
+IsSpelled command.Audit words = words ≡ codes "audit" ∷ []
 IsSpelled command.Trace words = words ≡ codes "trace" ∷ []
 IsSpelled command.Frames words = words ≡ codes "frames" ∷ []
 IsSpelled command.File words = words ≡ codes "file" ∷ []

@@ -18,6 +18,8 @@ pub enum Command {
     Load(u8),
     /// `check`: a history is judged.
     Check,
+    /// `audit`: a trace is asked for every promise of a run.
+    Audit,
     /// `trace`: the same as `run`, with the trace printed.
     Trace,
     /// `frames`: packets are sent in frames over the link of a cluster file, and what came of each is told.
@@ -54,6 +56,9 @@ fn one_word(word: &String) -> Option<Command>
     }
     if is_word(word, "check") {
         return Some(Command::Check);
+    }
+    if is_word(word, "audit") {
+        return Some(Command::Audit);
     }
     if is_word(word, "trace") {
         return Some(Command::Trace);
