@@ -22,6 +22,7 @@ use Rattle.client_file_tables.specs.declared.pending.Pending.TheVariants as oper
 use Rattle.client_file_tables.specs.declared.states.NameState.{NameState}
 use Rattle.client_file_tables.specs.declared.states.NameState.TheVariants as name_states
 use Rattle.client_file_tables.specs.Rows.{first_call, first_of, less_call, less_of, same_call}
+use Rattle.client_names.specs.Answers.{takes_end}
 use Rattle.client_file_tables.specs.Says as says
 use Rattle.client_file_tables.specs.Says.{about_of}
 use Rattle.client_file_tables.specs.Steps.{owns}
@@ -100,13 +101,19 @@ module _ (domains : List Domain) where
   operation_learns (Some (operations.Move work)) pid source body s q = no_more (answering.answered_by (Some (operations.Move work)) pid source body s) (files_side.answers_move Q (learned_so domains) body pid work s q)
   operation_learns None pid source body s q = no_more s q
 
-  process_learns : (o : Option ℕ) (source : ℕ) (body : ReplyBody) (s : ClientFiles) → Q s.prefixes s.out.events → Told (answering.answered_first o source body s) (learned_by_process o source s.pending s.prefixes)
-  process_learns (Some pid) source body s q = operation_learns (first_of pid s.pending) pid source body (record s { pending = less_of pid s.pending }) q
-  process_learns None source body s q = no_more s q
+  -- where the operation takes the answer, it learns, and else nobody
+  taken_learns : (b : Bool) (s t : ClientFiles) (more : List Domain) → Told t more → Told s [] → Told (cond b t s) (cond b more [])
+  taken_learns true s t more learns stays = learns
+  taken_learns false s t more learns stays = stays
 
-  answer_by : (b : Bool) (tx : TxNo) (source : ℕ) (body : ReplyBody) (s t : ClientFiles) → Q t.prefixes t.out.events → Q s.prefixes s.out.events → Told (cond b t (answering.answered_first (first_call tx s.txs) source body (record s { txs = less_call tx s.txs }))) (cond b [] (learned_by_process (first_call tx s.txs) source s.pending s.prefixes))
+  process_learns : (o : Option ℕ) (tx : TxNo) (source : ℕ) (body : ReplyBody) (s : ClientFiles) → Q s.prefixes s.out.events → Told (answering.answered_first o tx source body s) (learned_by_process o tx source s.pending s.prefixes)
+  process_learns (Some pid) tx source body s q =
+      taken_learns (takes_end tx (first_of pid s.pending)) s _ _ (operation_learns (first_of pid s.pending) pid source body (record s { pending = less_of pid s.pending }) q) (no_more s q)
+  process_learns None tx source body s q = no_more s q
+
+  answer_by : (b : Bool) (tx : TxNo) (source : ℕ) (body : ReplyBody) (s t : ClientFiles) → Q t.prefixes t.out.events → Q s.prefixes s.out.events → Told (cond b t (answering.answered_first (first_call tx s.txs) tx source body (record s { txs = less_call tx s.txs }))) (cond b [] (learned_by_process (first_call tx s.txs) tx source s.pending s.prefixes))
   answer_by true tx source body s t back q = no_more t back
-  answer_by false tx source body s t back q = process_learns (first_call tx s.txs) source body (record s { txs = less_call tx s.txs }) q
+  answer_by false tx source body s t back q = process_learns (first_call tx s.txs) tx source body (record s { txs = less_call tx s.txs }) q
 
   pub answer_learns : (tx : TxNo) (source : ℕ) (body : ReplyBody) (s : ClientFiles) → learned_in s.out.events ≡ domains → learned_in (answering.answered tx source body s).out.events ≡ domains ++ learned_from_answer tx source s
   answer_learns tx source body s q = answer_by (list_any (is_under same_call tx) s.write_backs) tx source body s _ (data_side.written_back Q (learned_so domains) tx body s q) q

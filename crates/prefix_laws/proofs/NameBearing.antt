@@ -319,12 +319,12 @@ module _ (Q : List Domain → List Event → Type 0) (bears : BearsTelling Q) wh
   gives_up_by (Some operation) pid s p = p
   gives_up_by None pid s p = p
 
-  gives_up_first : (o : Option ℕ) (s : ClientFiles) → P s → P (name_answers.gives_up_first o s)
-  gives_up_first (Some pid) s p = gives_up_by (first_of pid s.pending) pid (record s { pending = less_of pid s.pending }) p
-  gives_up_first None s p = p
+  gives_up_first : (o : Option ℕ) (tx : TxNo) (s : ClientFiles) → P s → P (name_answers.gives_up_first o tx s)
+  gives_up_first (Some pid) tx s p = on_if (name_answers.takes_end tx (first_of pid s.pending)) _ s (gives_up_by (first_of pid s.pending) pid (record s { pending = less_of pid s.pending }) p) p
+  gives_up_first None tx s p = p
 
   pub gives_up : (tx : TxNo) (s : ClientFiles) → P s → P (name_answers.gives_up tx s)
-  gives_up tx s p = gives_up_first (first_call tx s.txs) (record s { txs = less_call tx s.txs }) p
+  gives_up tx s p = gives_up_first (first_call tx s.txs) tx (record s { txs = less_call tx s.txs }) p
 
   -- Turns
 
@@ -393,10 +393,11 @@ module _ (Q : List Domain → List Event → Type 0) (bears : Bears Q) where
   answered_by (Some (operations.Move work)) pid source body s p = answers_move Q bears.telling body pid work s p
   answered_by None pid source body s p = p
 
-  answered_first : (o : Option ℕ) (source : ℕ) (body : ReplyBody) (s : ClientFiles) → PQ s → PQ (answering.answered_first o source body s)
-  answered_first (Some pid) source body s p = answered_by (first_of pid s.pending) pid source body (record s { pending = less_of pid s.pending }) p
-  answered_first None source body s p = p
+  answered_first : (o : Option ℕ) (tx : TxNo) (source : ℕ) (body : ReplyBody) (s : ClientFiles) → PQ s → PQ (answering.answered_first o tx source body s)
+  answered_first (Some pid) tx source body s p =
+      on_if Q bears.telling (name_answers.takes_end tx (first_of pid s.pending)) _ s (answered_by (first_of pid s.pending) pid source body (record s { pending = less_of pid s.pending }) p) p
+  answered_first None tx source body s p = p
 
   pub answered : (tx : TxNo) (source : ℕ) (body : ReplyBody) (s : ClientFiles) → PQ s → PQ (answering.answered tx source body s)
   answered tx source body s p =
-      on_if Q bears.telling (list_any (is_under same_call tx) s.write_backs) _ _ (data_side.written_back Q bears.telling tx body s p) (answered_first (first_call tx s.txs) source body (record s { txs = less_call tx s.txs }) p)
+      on_if Q bears.telling (list_any (is_under same_call tx) s.write_backs) _ _ (data_side.written_back Q bears.telling tx body s p) (answered_first (first_call tx s.txs) tx source body (record s { txs = less_call tx s.txs }) p)

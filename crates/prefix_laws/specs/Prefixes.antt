@@ -16,6 +16,7 @@ use Rattle.client_file_tables.specs.declared.NameState.TheVariants.{Broadcasting
 use Rattle.client_file_tables.specs.declared.Pending.{Pending}
 use Rattle.client_file_tables.specs.declared.Pending.TheVariants.{Name}
 use Rattle.client_file_tables.specs.Rows.{first_call, first_of, same_call}
+use Rattle.client_names.specs.Answers.{takes_end}
 use Rattle.client_file_tables.specs.Steps.{owns}
 
 -- the domain of which an event tells that it was learned, where it tells that
@@ -61,14 +62,14 @@ abbrev pub learned_by_operation : Option Pending → ℕ → List Domain → Lis
 learned_by_operation (Some (Name call)) server known = learned_by_call call.state server known
 learned_by_operation operation server known = []
 
--- and that of a looked-up process
-abbrev pub learned_by_process : Option ℕ → ℕ → List (ℕ × Pending) → List Domain → List Domain
-learned_by_process None server operations known = []
-learned_by_process (Some pid) server operations known = learned_by_operation (first_of pid operations) server known
+-- and that of a looked-up process, where it takes the answer to that call
+abbrev pub learned_by_process : Option ℕ → TxNo → ℕ → List (ℕ × Pending) → List Domain → List Domain
+learned_by_process None tx server operations known = []
+learned_by_process (Some pid) tx server operations known = if takes_end tx (first_of pid operations) then learned_by_operation (first_of pid operations) server known else []
 
 -- what the answer to a remote call teaches, which isn't a write-back: the operation for which it went learns
 abbrev pub learned_from_answer : TxNo → ℕ → ClientFiles → List Domain
-learned_from_answer tx server s = if list_any (is_under same_call tx) s.write_backs then [] else learned_by_process (first_call tx s.txs) server s.pending s.prefixes
+learned_from_answer tx server s = if list_any (is_under same_call tx) s.write_backs then [] else learned_by_process (first_call tx s.txs) tx server s.pending s.prefixes
 
 -- what a client learns from what comes: from an answer to a remote call of its files' side, and from nothing else
 abbrev pub learned_from : Input → ClientFiles → List Domain

@@ -12,7 +12,7 @@ use Rattle.call_journal.specs.Past.{no_past}
 use Rattle.call_journal.specs.PrefixBroadcasts.{broadcasts_well}
 use Rattle.prefix_table.specs.declared.prefixes.Domain.{Domain}
 use Rattle.prefix_table.specs.Prefixes.{knows}
-use Rattle.cluster_wire_laws.specs.Orders.{records_by}
+use Rattle.call_journal.specs.Journal.{records_by}
 use Rattle.cluster_kernels.specs.declared.KernelState.{KernelState}
 use Rattle.cluster_kernels.specs.declared.KernelState.TheVariants as kernels
 use Rattle.cluster_kernels.specs.declared.State.{State}

@@ -11,7 +11,7 @@ use Rattle.call_journal.specs.Past.{Past, each_from, past_with}
 use Rattle.call_journal.specs.PrefixBroadcasts.{broadcasts_well, has_learned, is_learned}
 use Rattle.prefix_table.specs.declared.prefixes.Domain.{Domain}
 use Rattle.prefix_table.specs.Prefixes.{knows}
-use Rattle.cluster_wire_laws.specs.Orders.{records_by}
+use Rattle.call_journal.specs.Journal.{records_by}
 use Rattle.prefix_laws.specs.Prefixes.{AreOfUnknown, domain_in, is_of_unknown, learned_in}
 use Rattle.prefix_laws.proofs.TellsLaws.{learned_append}
 use Rattle.reached_prefixes.specs.Known.{is_learned_first, learned_by, told_by}

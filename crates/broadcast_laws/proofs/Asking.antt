@@ -1,0 +1,155 @@
+-- What a fact of the operations that wait, and of the requests that a step has begun so far, must bear: that requests go out, that operations
+-- wait and are taken out, and that one waits in a broadcast that went out for it.
+use Rattle.std.proofs.Common.{◌≡◌, ℕ, ◌+◌, ◌⊎◌, Bool, true, false, cond, List, [], ◌∷◌, ◌++◌, length, length-append, slice_get, zero, suc, Option, Some, option_map, inl, inr, arith, refl, subst}
+use Rattle.std.specs.List.{AllByRecursion, find}
+use Rattle.sprite_ids.specs.declared.TxNo.{TxNo}
+use Rattle.sprite_ids.specs.Lists.{less}
+use Rattle.sprite_ids.proofs.ListLaws.{each_push, each_weaken, some_is}
+use Rattle.packet_bodies.specs.declared.Request.TheVariants.{Prefix}
+use Rattle.kernel_steps.specs.declared.Sending.{Sending}
+use Rattle.kernel_steps.specs.Outs.{number_after}
+use Rattle.kernel_steps.specs.Rows.{is_under}
+use Rattle.client_file_tables.specs.declared.names.NameWork.{NameWork}
+use Rattle.client_file_tables.specs.declared.pending.Pending.{Pending}
+use Rattle.client_file_tables.specs.declared.pending.Pending.TheVariants as operations
+use Rattle.client_file_tables.specs.declared.states.NameState.{NameState}
+use Rattle.client_file_tables.specs.declared.states.NameState.TheVariants as states
+use Rattle.client_file_tables.specs.Rows.{first_of, less_of, same_pid}
+use Rattle.broadcast_laws.specs.Broadcasts.{AsksNow, Parts}
+
+-- whether a name call waits in no broadcast, and an operation
+abbrev pub is_plain_state : NameState → Bool
+is_plain_state (states.Broadcasting tx prefix) = false
+is_plain_state (states.Echoing tx server) = true
+is_plain_state (states.Asking tx) = true
+
+abbrev pub is_plain : Pending → Bool
+is_plain (operations.Name call) = is_plain_state call.state
+is_plain (operations.Data call) = true
+is_plain (operations.Sync call) = true
+is_plain (operations.Close work) = true
+is_plain (operations.Move work) = true
+
+-- the operation of a name call that waits so
+abbrev pub waiting_so : NameWork → NameState → Pending
+waiting_so work state = operations.Name (record { work = work; state = state })
+
+pub record BearsAsking (Q : List (ℕ × Pending) → TxNo → List Sending → Type 0) : Type 0 where
+  pub says : (rows : List (ℕ × Pending)) (next : TxNo) (sends : List Sending) (sending : Sending) → Q rows next sends → Q rows (number_after next) (sends ++ sending ∷ [])
+  pub keeps : (rows : List (ℕ × Pending)) (next : TxNo) (sends : List Sending) (pid : ℕ) (operation : Pending) → is_plain operation ≡ true → Q rows next sends → Q (rows ++ (pid, operation) ∷ []) next sends
+  pub puts_back : (rows : List (ℕ × Pending)) (next : TxNo) (sends : List Sending) (pid : ℕ) (operation : Pending) → first_of pid rows ≡ Some operation → Q rows next sends → Q (less_of pid rows ++ (pid, operation) ∷ []) next sends
+  pub left : (rows : List (ℕ × Pending)) (next : TxNo) (sends : List Sending) (pid : ℕ) → Q rows next sends → Q (less_of pid rows) next sends
+  pub broadcasts : (rows : List (ℕ × Pending)) (next : TxNo) (sends : List Sending) (pid : ℕ) (work : NameWork) (prefix : Parts) (sending : Sending) → sending.body ≡ Prefix prefix → Q rows next sends
+      → Q (rows ++ (pid, waiting_so work (states.Broadcasting next prefix)) ∷ []) (number_after next) (sends ++ sending ∷ [])
+
+-- ---- what each operation that waits in a broadcast asked before, or asks now
+
+-- the call of that number asked for the prefix before, or is one of these
+abbrev pub Known : (TxNo → Parts → Type 0) → ℕ → List Sending → TxNo → Parts → Type 0
+Known Old first sends tx prefix = Old tx prefix ⊎ AsksNow first sends tx prefix
+
+abbrev pub StateAsks : (TxNo → Parts → Type 0) → NameState → Type 0
+StateAsks Asks (states.Broadcasting tx prefix) = Asks tx prefix
+StateAsks Asks (states.Echoing tx server) = Unit {0}
+StateAsks Asks (states.Asking tx) = Unit {0}
+
+abbrev pub OperationAsks : (TxNo → Parts → Type 0) → Pending → Type 0
+OperationAsks Asks (operations.Name call) = StateAsks Asks call.state
+OperationAsks Asks (operations.Data call) = Unit {0}
+OperationAsks Asks (operations.Sync call) = Unit {0}
+OperationAsks Asks (operations.Close work) = Unit {0}
+OperationAsks Asks (operations.Move work) = Unit {0}
+
+abbrev pub RowsAsk : (TxNo → Parts → Type 0) → List (ℕ × Pending) → Type 0
+RowsAsk Asks rows = AllByRecursion (λ (row : ℕ × Pending). OperationAsks Asks row.1) rows
+
+-- that of all operations, and the next number is the first one and so many
+pub record AskSo (Old : TxNo → Parts → Type 0) (first : ℕ) (rows : List (ℕ × Pending)) (next : TxNo) (sends : List Sending) : Type 0 where
+  pub numbered : next.0 ≡ first + length sends
+  pub asks : RowsAsk (Known Old first sends) rows
+
+-- ---- lists
+
+got_before : {X : Type 0} (xs ys : List X) (i : ℕ) (x : X) → slice_get xs i ≡ Some x → slice_get (xs ++ ys) i ≡ Some x
+got_before [] ys i x e = absurd (cc)
+got_before (y ∷ xs) ys zero x e = e
+got_before (y ∷ xs) ys (suc i) x e = got_before xs ys i x e
+
+got_last : {X : Type 0} (xs : List X) (x : X) → slice_get (xs ++ x ∷ []) (length xs) ≡ Some x
+got_last [] x = refl
+got_last (y ∷ xs) x = got_last xs x
+
+more_length : {X : Type 0} (first n : ℕ) (xs : List X) (x : X) → n ≡ first + length xs → n + 1 ≡ first + length (xs ++ x ∷ [])
+more_length first n xs x h = (let many : length (xs ++ x ∷ []) ≡ length xs + 1 = length-append xs (x ∷ []) in omega (arith, h, many))
+
+each_less : {X : Type 0} (F : X → Type 0) (p : X → Bool) (xs : List X) → AllByRecursion F xs → AllByRecursion F (less p xs)
+each_less F p [] h = tt
+each_less F p (x ∷ xs) h = elim (p x) as (λ b. AllByRecursion F (cond b xs (x ∷ less p xs))) [ true ↦ h.1 | false ↦ (h.0, each_less F p xs h.1) ]
+
+-- what was found among the operations is so
+found_by : (F : Pending → Type 0) (b : Bool) (row : ℕ × Pending) (rest : Option (ℕ × Pending)) (operation : Pending) → F row.1 → (option_map (λ (row : ℕ × Pending). row.1) rest ≡ Some operation → F operation) → option_map (λ (row : ℕ × Pending). row.1) (cond b (Some row) rest) ≡ Some operation → F operation
+found_by F true row rest operation here later e = subst F (some_is row.1 operation e) here
+found_by F false row rest operation here later e = later e
+
+pub found_so : (F : Pending → Type 0) (p : ℕ × Pending → Bool) (rows : List (ℕ × Pending)) (operation : Pending) → AllByRecursion (λ (row : ℕ × Pending). F row.1) rows → option_map (λ (row : ℕ × Pending). row.1) (find p rows) ≡ Some operation → F operation
+found_so F p [] operation h e = absurd (cc)
+found_so F p (row ∷ rows) operation h e = found_by F (p row) row (find p rows) operation h.0 (found_so F p rows operation h.1) e
+
+-- ---- it bears these
+
+plain_asks : (Asks : TxNo → Parts → Type 0) (state : NameState) → is_plain_state state ≡ true → StateAsks Asks state
+plain_asks Asks (states.Broadcasting tx prefix) e = absurd (cc)
+plain_asks Asks (states.Echoing tx server) e = tt
+plain_asks Asks (states.Asking tx) e = tt
+
+plain_so : (Asks : TxNo → Parts → Type 0) (operation : Pending) → is_plain operation ≡ true → OperationAsks Asks operation
+plain_so Asks (operations.Name call) e = plain_asks Asks call.state e
+plain_so Asks (operations.Data call) e = tt
+plain_so Asks (operations.Sync call) e = tt
+plain_so Asks (operations.Close work) e = tt
+plain_so Asks (operations.Move work) e = tt
+
+state_weaken : (Asks Others : TxNo → Parts → Type 0) → ((tx : TxNo) (prefix : Parts) → Asks tx prefix → Others tx prefix) → (state : NameState) → StateAsks Asks state → StateAsks Others state
+state_weaken Asks Others weaken (states.Broadcasting tx prefix) h = weaken tx prefix h
+state_weaken Asks Others weaken (states.Echoing tx server) h = tt
+state_weaken Asks Others weaken (states.Asking tx) h = tt
+
+operation_weaken : (Asks Others : TxNo → Parts → Type 0) → ((tx : TxNo) (prefix : Parts) → Asks tx prefix → Others tx prefix) → (operation : Pending) → OperationAsks Asks operation → OperationAsks Others operation
+operation_weaken Asks Others weaken (operations.Name call) h = state_weaken Asks Others weaken call.state h
+operation_weaken Asks Others weaken (operations.Data call) h = tt
+operation_weaken Asks Others weaken (operations.Sync call) h = tt
+operation_weaken Asks Others weaken (operations.Close work) h = tt
+operation_weaken Asks Others weaken (operations.Move work) h = tt
+
+pub rows_weaken : (Asks Others : TxNo → Parts → Type 0) → ((tx : TxNo) (prefix : Parts) → Asks tx prefix → Others tx prefix) → (rows : List (ℕ × Pending)) → RowsAsk Asks rows → RowsAsk Others rows
+rows_weaken Asks Others weaken rows h = each_weaken (λ (row : ℕ × Pending). OperationAsks Asks row.1) (λ (row : ℕ × Pending). OperationAsks Others row.1) rows (λ row k. operation_weaken Asks Others weaken row.1 k) h
+
+module _ (Old : TxNo → Parts → Type 0) (first : ℕ) where
+  known_more : (sends : List Sending) (sending : Sending) (tx : TxNo) (prefix : Parts) → Known Old first sends tx prefix → Known Old first (sends ++ sending ∷ []) tx prefix
+  known_more sends sending tx prefix (inl old) = inl old
+  known_more sends sending tx prefix (inr now) = inr (record { at = now.at; sending = now.sending; there = got_before sends (sending ∷ []) now.at now.sending now.there; number = now.number; asks = now.asks })
+
+  asks_more : (sends : List Sending) (sending : Sending) (rows : List (ℕ × Pending)) → RowsAsk (Known Old first sends) rows → RowsAsk (Known Old first (sends ++ sending ∷ [])) rows
+  asks_more sends sending rows h = rows_weaken (Known Old first sends) (Known Old first (sends ++ sending ∷ [])) (λ tx prefix k. known_more sends sending tx prefix k) rows h
+
+  kept_asks : (rows : List (ℕ × Pending)) (sends : List Sending) (pid : ℕ) (operation : Pending) → OperationAsks (Known Old first sends) operation → RowsAsk (Known Old first sends) rows → RowsAsk (Known Old first sends) (rows ++ (pid, operation) ∷ [])
+  kept_asks rows sends pid operation here h = each_push (λ (row : ℕ × Pending). OperationAsks (Known Old first sends) row.1) rows (pid, operation) h here
+
+  left_asks : (rows : List (ℕ × Pending)) (sends : List Sending) (pid : ℕ) → RowsAsk (Known Old first sends) rows → RowsAsk (Known Old first sends) (less_of pid rows)
+  left_asks rows sends pid h = each_less (λ (row : ℕ × Pending). OperationAsks (Known Old first sends) row.1) (is_under same_pid pid) rows h
+
+  pub asking : BearsAsking (AskSo Old first)
+  asking = record {
+    says = λ rows next sends sending q. record { numbered = more_length first next.0 sends sending q.numbered; asks = asks_more sends sending rows q.asks };
+    keeps = λ rows next sends pid operation plain q. record { numbered = q.numbered; asks = kept_asks rows sends pid operation (plain_so (Known Old first sends) operation plain) q.asks };
+    puts_back = λ rows next sends pid operation e q. record {
+      numbered = q.numbered;
+      asks = kept_asks (less_of pid rows) sends pid operation (found_so (OperationAsks (Known Old first sends)) (is_under same_pid pid) rows operation q.asks e) (left_asks rows sends pid q.asks);
+    };
+    left = λ rows next sends pid q. record { numbered = q.numbered; asks = left_asks rows sends pid q.asks };
+    broadcasts = λ rows next sends pid work prefix sending e q. record {
+      numbered = more_length first next.0 sends sending q.numbered;
+      asks = kept_asks rows (sends ++ sending ∷ []) pid (waiting_so work (states.Broadcasting next prefix))
+          (inr (record { at = length sends; sending = sending; there = got_last sends sending; number = q.numbered; asks = e })) (asks_more sends sending rows q.asks);
+    };
+  }

@@ -1,0 +1,5 @@
+pub mod Asking
+pub mod DataAsking
+pub mod NameAsking
+pub mod StepAsking
+pub mod AskLaws

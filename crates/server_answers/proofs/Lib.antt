@@ -1,0 +1,4 @@
+pub mod Answering
+pub mod ServerAnswers
+pub mod RootLaws
+pub mod ServerLaws
