@@ -18,7 +18,10 @@ use Rattle.cause_laws.proofs.LossLaws.{follows_losses}
 use Rattle.sprite_cluster.specs.Logs.{faults_between}
 use Rattle.sprite_ids.specs.declared.no_memory.NoMemory.{NoMemory}
 use Rattle.sprite_top.specs.declared.top.Answer.{Answer}
-use Rattle.sprite_top.specs.Top.{AllWereReached, IsRunOver, RoseForCause, RunsOver, TellsFaultsOf, TellsWireOf}
+use Rattle.sprite_cluster.specs.Reached.{At}
+use Rattle.reached_prefixes.proofs.KnownLaws.{asked_until, learned_once}
+use Rattle.reached_domains.proofs.LearnedLaws.{learned_domains}
+use Rattle.sprite_top.specs.Top.{AllWereReached, IsRun, IsRunOver, KeepsPrefixesOf, RoseForCause, RunsOver, TellsFaultsOf, TellsWireOf}
 
 -- the same pair, whichever is told first
 eq_swap : (m n : ℕ) → (m == n) ≡ true → (n == m) ≡ true
@@ -85,11 +88,28 @@ counted_over faults asked before after closed over = over.counted
 pub wire_over : {L : Type 0} (faults asked : L → ℕ → ℕ → ℕ) (before after : L) (closed : Option Closed) → RunsOver faults asked before after closed → TellsWireOf faults asked before after closed
 wire_over faults asked before after closed over = over.wire
 
+prefixes_over : {L : Type 0} (faults asked : L → ℕ → ℕ → ℕ) (before after : L) (closed : Option Closed) → RunsOver faults asked before after closed → KeepsPrefixesOf closed
+prefixes_over faults asked before after None over = tt
+prefixes_over {L} faults asked before after (Some run) over =
+    (let made : IsRun faults asked before after run = over.run in
+    let at : At L = record { wire = made.wire; state = made.state; trace = run.trace } in
+    record {
+      asked = asked_until faults asked run.description before at made.reached;
+      once = learned_once faults asked run.description before at made.reached;
+      domains = learned_domains faults asked run.description before at made.reached;
+    })
+
 -- of an answer: before each entry that calls a server unreachable the link's count of faults rose
 pub answer_rose : {L : Type 0} (faults asked : L → ℕ → ℕ → ℕ) (before after : L) (r : Result Answer NoMemory) (a : Answer) → r ≡ Ok a → IfOk r (λ (b : Answer). RunsOver faults asked before after b.closed) → RoseForCause faults before after a.closed
 answer_rose faults asked before after r a is over =
     (let runs : RunsOver faults asked before after a.closed = subst (λ (x : Result Answer NoMemory). IfOk x (λ (b : Answer). RunsOver faults asked before after b.closed)) is over in
     rose_for_cause faults before after a.closed runs.counted)
+
+-- and prefixes are asked for and learned as they should be
+pub answer_prefixes : {L : Type 0} (faults asked : L → ℕ → ℕ → ℕ) (before after : L) (r : Result Answer NoMemory) (a : Answer) → r ≡ Ok a → IfOk r (λ (b : Answer). RunsOver faults asked before after b.closed) → KeepsPrefixesOf a.closed
+answer_prefixes faults asked before after r a is over =
+    (let runs : RunsOver faults asked before after a.closed = subst (λ (x : Result Answer NoMemory). IfOk x (λ (b : Answer). RunsOver faults asked before after b.closed)) is over in
+    prefixes_over faults asked before after a.closed runs)
 
 -- an entry that passes a test stands in a trace
 abbrev StandsIn : (Entry → Bool) → List Rec → Type 0

@@ -5,6 +5,7 @@ use Rattle.std.specs.List.{list_all}
 use Rattle.std.proofs.lemmas.Bool.{leb-false, leb-true}
 use Rattle.sprite_ids.specs.declared.running.Finish.{Finish}
 use Rattle.sprite_ids.specs.declared.running.Finish.TheVariants as finish
+use Rattle.call_journal.specs.PrefixBroadcasts.{prefixes_are_broadcast_until_learned}
 use Rattle.call_journal.specs.Units.{units_of}
 use Rattle.kernel_rpc.specs.Machine.{Machine}
 use Rattle.unix_calls.specs.declared.description.Description.{Description}
@@ -22,6 +23,8 @@ use Rattle.sprite_cluster.specs.declared.Cluster.{Cluster}
 use Rattle.sprite_cluster.specs.declared.Origin.{Origin}
 use Rattle.kernel_threads.specs.Steps.{Ran}
 use Rattle.call_journal.specs.declared.closed.Closed.{Closed}
+use Rattle.reached_prefixes.proofs.KnownLaws.{asked_until}
+use Rattle.sprite_ids.specs.declared.no_memory.NoMemory.{NoMemory}
 use Rattle.sprite_top.specs.Top.{IsRun, IsSameRun, RunsOver, is_out_of_memory}
 
 -- how a run with enough memory stands: it is open, and its budget is spent where it says so
@@ -88,3 +91,10 @@ same_of {L} faults asked kernels old now ran over = record { described = ap (λ 
 pub same_run : {L : Type 0} (faults asked : L → ℕ → ℕ → ℕ) (kernels : ℕ) (old : Cluster L) (r : Result (Cluster L) (Cluster L)) → IfOk r (λ now. Ran {O = Origin L} (λ (v : Cluster L). record { description = v.description; link = v.begun }) (λ (v : Cluster L). log_of v.trace) (λ (v : Cluster L). Holds faults asked v.description v.closed v.begun.value v.wire v.state v.trace) kernels old now) → IfOk r (λ now. stands_so now.closed now.description now.trace now.wire.machine now.state ≢ finish.Running) → IfOk r (IsSameRun faults asked old)
 same_run faults asked kernels old (Ok now) ran over = same_of faults asked kernels old now ran over
 same_run faults asked kernels old (Err e) ran over = tt
+
+-- of a run its prefixes are broadcast until they are learned
+pub broadcasts_of : {L : Type 0} (faults asked : L → ℕ → ℕ → ℕ) (before after : L) (r : Result Closed NoMemory) (run : Closed) → r ≡ Ok run → IfOk r (λ (x : Closed). RunsOver faults asked before after (Some x)) → prefixes_are_broadcast_until_learned run.description run.trace ≡ true
+broadcasts_of faults asked before after r run is over =
+    (let runs : RunsOver faults asked before after (Some run) = subst (λ (x : Result Closed NoMemory). IfOk x (λ (y : Closed). RunsOver faults asked before after (Some y))) is over in
+    let made : IsRun faults asked before after run = runs.run in
+    asked_until faults asked run.description before (record { wire = made.wire; state = made.state; trace = run.trace }) made.reached)

@@ -20,7 +20,10 @@ use Rattle.report_print.specs.declared.Tally.{Tally}
 use Rattle.one_kernel.specs.declared.verdict.Verdict.TheVariants as verdict
 use Rattle.history_check.specs.declared.judgement.Judgement.{Judgement}
 use Rattle.history_check.specs.declared.judgement.Judgement.TheVariants as judgement
-use Rattle.sprite_top.specs.Judged.{TextCauses, judgement_status, numbered_line}
+use Rattle.trace_audit.specs.declared.outcome.Audit.TheVariants as audit
+use Rattle.trace_audit.specs.declared.audited_text.AuditedText.{AuditedText}
+use Rattle.trace_audit.specs.declared.audited_text.AuditedText.TheVariants as text_audit
+use Rattle.sprite_top.specs.Judged.{AuditCauses, TextCauses, audited_status, judgement_status, numbered_line}
 use Rattle.sprite_words.specs.declared.Command.TheVariants as command
 use Rattle.lend_text.specs.Bodies.{answer_text}
 use Rattle.restart_text.specs.FileTexts.{file_text}
@@ -28,7 +31,7 @@ use Rattle.sprite_words.specs.Words.{IsSpelled}
 use Rattle.frames_text.specs.declared.FramesAnswer.{FramesAnswer}
 use Rattle.frames_text.specs.declared.FramesAnswer.TheVariants.{Lines, Refused}
 use Rattle.frames_text.specs.Texts.{Answers, AreTold}
-use Rattle.sprite_top.specs.Top.{Telling, PacketsCauses, told_answer, AsksFor, IsCommand, RunsOver, LoadCauses, LinesCauses, Reading, fault_line, printed, status_of, Causes, FileCauses, ClusterCauses}
+use Rattle.sprite_top.specs.Top.{Telling, PacketsCauses, told_answer, AsksFor, IsChecked, IsCommand, RunsOver, LoadCauses, LinesCauses, Reading, fault_line, printed, status_of, Causes, FileCauses, ClusterCauses}
 use Rattle.sprite_ids.specs.declared.running.Finish.{Finish}
 use Rattle.sprite_ids.specs.declared.running.Finish.TheVariants as finish
 use Rattle.run_judge.specs.Judged.{IsJudged}
@@ -49,9 +52,9 @@ of_file told print status.Budget words left left_after faults faults_after came 
 of_file told print status.Usage words left left_after faults faults_after came closed due are read end short why = absurd why
 of_file told print status.ReadFault words left left_after faults faults_after came closed due are read end short why = absurd why
 of_file told print status.NoMemory words left left_after faults faults_after came closed due are read end short why = absurd why
-of_file told print status.Legal words left left_after faults faults_after came closed due are read end short why = absurd why
+of_file told print status.Holds words left left_after faults faults_after came closed due are read end short why = absurd why
 of_file told print status.Answered words left left_after faults faults_after came closed due are read end short why = absurd why
-of_file told print status.NotLegal words left left_after faults faults_after came closed due are read end short why = absurd why
+of_file told print status.Fails words left left_after faults faults_after came closed due are read end short why = absurd why
 of_file told print status.Steps words left left_after faults faults_after came closed due are read end short why = absurd why
 of_file told print status.WriteFault words left left_after faults faults_after came closed due are read end short why = absurd why
 
@@ -69,9 +72,9 @@ of_cluster print status.Refused bytes c closed due describes why = absurd why
 of_cluster print status.Usage bytes c closed due describes why = absurd why
 of_cluster print status.ReadFault bytes c closed due describes why = absurd why
 of_cluster print status.NoMemory bytes c closed due describes why = absurd why
-of_cluster print status.Legal bytes c closed due describes why = absurd why
+of_cluster print status.Holds bytes c closed due describes why = absurd why
 of_cluster print status.Answered bytes c closed due describes why = absurd why
-of_cluster print status.NotLegal bytes c closed due describes why = absurd why
+of_cluster print status.Fails bytes c closed due describes why = absurd why
 of_cluster print status.Steps bytes c closed due describes why = absurd why
 of_cluster print status.WriteFault bytes c closed due describes why = absurd why
 
@@ -89,9 +92,9 @@ of_workload count status.Refused c closed due describes why = absurd why
 of_workload count status.Usage c closed due describes why = absurd why
 of_workload count status.ReadFault c closed due describes why = absurd why
 of_workload count status.NoMemory c closed due describes why = absurd why
-of_workload count status.Legal c closed due describes why = absurd why
+of_workload count status.Holds c closed due describes why = absurd why
 of_workload count status.Answered c closed due describes why = absurd why
-of_workload count status.NotLegal c closed due describes why = absurd why
+of_workload count status.Fails c closed due describes why = absurd why
 of_workload count status.Steps c closed due describes why = absurd why
 of_workload count status.WriteFault c closed due describes why = absurd why
 
@@ -109,9 +112,9 @@ of_load told count status.Refused words left left_after faults faults_after clos
 of_load told count status.Usage words left left_after faults faults_after closed due are same why = absurd why
 of_load told count status.ReadFault words left left_after faults faults_after closed due are same why = absurd why
 of_load told count status.NoMemory words left left_after faults faults_after closed due are same why = absurd why
-of_load told count status.Legal words left left_after faults faults_after closed due are same why = absurd why
+of_load told count status.Holds words left left_after faults faults_after closed due are same why = absurd why
 of_load told count status.Answered words left left_after faults faults_after closed due are same why = absurd why
-of_load told count status.NotLegal words left left_after faults faults_after closed due are same why = absurd why
+of_load told count status.Fails words left left_after faults faults_after closed due are same why = absurd why
 of_load told count status.Steps words left left_after faults faults_after closed due are same why = absurd why
 of_load told count status.WriteFault words left left_after faults faults_after closed due are same why = absurd why
 
@@ -127,8 +130,8 @@ from_refusal print bytes refusal (Err e) refuses made = made
 
 -- a text's status is one of four
 is_of_text : Status → Bool
-is_of_text status.Legal = true
-is_of_text status.NotLegal = true
+is_of_text status.Holds = true
+is_of_text status.Fails = true
 is_of_text status.Steps = true
 is_of_text status.Refused = true
 is_of_text other = false
@@ -142,33 +145,48 @@ of_judgement (judgement.Judged verdict.Legal) = refl
 of_judgement (judgement.Judged (verdict.NotLegal n)) = refl
 of_judgement (judgement.Judged (verdict.Steps n)) = refl
 
-no_other : (state : Status) (j : Judgement) → state ≡ judgement_status j → is_of_text state ≡ false → ⊥
-no_other state j is other = (let both : true ≡ false = sym (of_judgement j) ∙ (ap is_of_text (sym is) ∙ other) in absurd (cc (both)))
-
--- what is due for a text is due for the words `check`, whose source was read to its end
-of_text : (told : Telling) (state : Status) (words : List (List ℕ)) (left left_after : Option (List ℕ)) (faults faults_after : ℕ) (came : List ℕ) (closed : Option Closed) (due : List ℕ) → IsSpelled command.Check words → Consumes left left_after came → IsAtEnd left_after → length came ≤ 67108864 → TextCauses state came closed due → Causes told state words left left_after faults faults_after closed due
+-- nor is that of a trace any other
+of_audited : (a : AuditedText) → is_of_text (audited_status a) ≡ true
 unfolding is_of_text
-of_text told status.Legal words left left_after faults faults_after came closed due are read end short why =
-    record { words_are = are; came = came; read = read; at_end = end; short = short; text = why }
-of_text told status.NotLegal words left left_after faults faults_after came closed due are read end short why =
-    record { words_are = are; came = came; read = read; at_end = end; short = short; text = why }
-of_text told status.Steps words left left_after faults faults_after came closed due are read end short why =
-    record { words_are = are; came = came; read = read; at_end = end; short = short; text = why }
-of_text told status.Refused words left left_after faults faults_after came closed due are read end short why =
-    inr (inl (record { words_are = are; came = came; read = read; at_end = end; short = short; text = why }))
-of_text told status.Ended words left left_after faults faults_after came closed due are read end short why = absurd (no_other status.Ended why.judgement why.state_is refl)
-of_text told status.Budget words left left_after faults faults_after came closed due are read end short why = absurd (no_other status.Budget why.judgement why.state_is refl)
-of_text told status.Stalled words left left_after faults faults_after came closed due are read end short why = absurd (no_other status.Stalled why.judgement why.state_is refl)
-of_text told status.Refuted words left left_after faults faults_after came closed due are read end short why = absurd (no_other status.Refuted why.judgement why.state_is refl)
-of_text told status.Usage words left left_after faults faults_after came closed due are read end short why = absurd (no_other status.Usage why.judgement why.state_is refl)
-of_text told status.ReadFault words left left_after faults faults_after came closed due are read end short why = absurd (no_other status.ReadFault why.judgement why.state_is refl)
-of_text told status.NoMemory words left left_after faults faults_after came closed due are read end short why = absurd (no_other status.NoMemory why.judgement why.state_is refl)
-of_text told status.Answered words left left_after faults faults_after came closed due are read end short why = absurd (no_other status.Answered why.judgement why.state_is refl)
-of_text told status.WriteFault words left left_after faults faults_after came closed due are read end short why = absurd (no_other status.WriteFault why.judgement why.state_is refl)
+of_audited text_audit.NoTrace = refl
+of_audited (text_audit.Refused r) = refl
+of_audited (text_audit.BadLine n) = refl
+of_audited (text_audit.Audited audit.Holds) = refl
+of_audited (text_audit.Audited (audit.Fails promise)) = refl
+of_audited (text_audit.Audited (audit.Steps n)) = refl
+
+-- what is due for a text is due for words that ask for it to be judged
+of_text : (told : Telling) (state : Status) (words : List (List ℕ)) (left left_after : Option (List ℕ)) (faults faults_after : ℕ) (closed : Option Closed) (due : List ℕ) → is_of_text state ≡ true → IsChecked state words left left_after closed due → Causes told state words left left_after faults faults_after closed due
+unfolding is_of_text
+of_text told status.Holds words left left_after faults faults_after closed due one why = why
+of_text told status.Fails words left left_after faults faults_after closed due one why = why
+of_text told status.Steps words left left_after faults faults_after closed due one why = why
+of_text told status.Refused words left left_after faults faults_after closed due one why = inr (inl why)
+of_text told status.Ended words left left_after faults faults_after closed due one why = absurd (cc (one))
+of_text told status.Budget words left left_after faults faults_after closed due one why = absurd (cc (one))
+of_text told status.Stalled words left left_after faults faults_after closed due one why = absurd (cc (one))
+of_text told status.Refuted words left left_after faults faults_after closed due one why = absurd (cc (one))
+of_text told status.Usage words left left_after faults faults_after closed due one why = absurd (cc (one))
+of_text told status.ReadFault words left left_after faults faults_after closed due one why = absurd (cc (one))
+of_text told status.NoMemory words left left_after faults faults_after closed due one why = absurd (cc (one))
+of_text told status.Answered words left left_after faults faults_after closed due one why = absurd (cc (one))
+of_text told status.WriteFault words left left_after faults faults_after closed due one why = absurd (cc (one))
+
+of_history : (told : Telling) (state : Status) (words : List (List ℕ)) (left left_after : Option (List ℕ)) (faults faults_after : ℕ) (came : List ℕ) (closed : Option Closed) (due : List ℕ) → IsSpelled command.Check words → Consumes left left_after came → IsAtEnd left_after → length came ≤ 67108864 → TextCauses state came closed due → Causes told state words left left_after faults faults_after closed due
+of_history told state words left left_after faults faults_after came closed due are read end short why =
+    of_text told state words left left_after faults faults_after closed due (ap is_of_text why.state_is ∙ of_judgement why.judgement) (inl (record { words_are = are; came = came; read = read; at_end = end; short = short; text = why }))
+
+of_trace : (told : Telling) (state : Status) (words : List (List ℕ)) (left left_after : Option (List ℕ)) (faults faults_after : ℕ) (came : List ℕ) (closed : Option Closed) (due : List ℕ) → IsSpelled command.Audit words → Consumes left left_after came → IsAtEnd left_after → length came ≤ 67108864 → AuditCauses state came closed due → Causes told state words left left_after faults faults_after closed due
+of_trace told state words left left_after faults faults_after came closed due are read end short why =
+    of_text told state words left left_after faults faults_after closed due (ap is_of_text why.state_is ∙ of_audited why.audited) (inr (record { words_are = are; came = came; read = read; at_end = end; short = short; text = why }))
 
 pub from_text : (told : Telling) (words : List (List ℕ)) (left left_after : Option (List ℕ)) (faults faults_after : ℕ) (came : List ℕ) (r : Result Answer NoMemory) → IsSpelled command.Check words → Consumes left left_after came → IsAtEnd left_after → length came ≤ 67108864 → IfOk r (λ a. TextCauses a.status came a.closed a.due) → IfOk r (λ a. Causes told a.status words left left_after faults faults_after a.closed a.due)
-from_text told words left left_after faults faults_after came (Ok a) are read end short why = of_text told a.status words left left_after faults faults_after came a.closed a.due are read end short why
+from_text told words left left_after faults faults_after came (Ok a) are read end short why = of_history told a.status words left left_after faults faults_after came a.closed a.due are read end short why
 from_text told words left left_after faults faults_after came (Err e) are read end short why = why
+
+pub from_audit : (told : Telling) (words : List (List ℕ)) (left left_after : Option (List ℕ)) (faults faults_after : ℕ) (came : List ℕ) (r : Result Answer NoMemory) → IsSpelled command.Audit words → Consumes left left_after came → IsAtEnd left_after → length came ≤ 67108864 → IfOk r (λ a. AuditCauses a.status came a.closed a.due) → IfOk r (λ a. Causes told a.status words left left_after faults faults_after a.closed a.due)
+from_audit told words left left_after faults faults_after came (Ok a) are read end short why = of_trace told a.status words left left_after faults faults_after came a.closed a.due are read end short why
+from_audit told words left left_after faults faults_after came (Err e) are read end short why = why
 
 -- a run that is what was promised of it has the causes of its end
 accepted_at : (print : Printing) (c : Description) (run : Closed) (output due : List ℕ) (tally : Tally) (end : Finish) → run.description ≡ c → run.finish ≡ end → IsSpent c run.trace end → IsJudged c 40000000000 run.trace end output tally → due ≡ printed print c run.trace end → ClusterCauses print (status_of end) c (Some run) due
@@ -197,8 +215,8 @@ of_events told status.Refuted words left left_after faults faults_after came clo
 of_events told status.Usage words left left_after faults faults_after came closed due are read end short why = absurd why
 of_events told status.ReadFault words left left_after faults faults_after came closed due are read end short why = absurd why
 of_events told status.NoMemory words left left_after faults faults_after came closed due are read end short why = absurd why
-of_events told status.Legal words left left_after faults faults_after came closed due are read end short why = absurd why
-of_events told status.NotLegal words left left_after faults faults_after came closed due are read end short why = absurd why
+of_events told status.Holds words left left_after faults faults_after came closed due are read end short why = absurd why
+of_events told status.Fails words left left_after faults faults_after came closed due are read end short why = absurd why
 of_events told status.Steps words left left_after faults faults_after came closed due are read end short why = absurd why
 of_events told status.WriteFault words left left_after faults faults_after came closed due are read end short why = absurd why
 
@@ -219,8 +237,8 @@ of_steps told status.Refuted words left left_after faults faults_after came clos
 of_steps told status.Usage words left left_after faults faults_after came closed due are read end short why = absurd why
 of_steps told status.ReadFault words left left_after faults faults_after came closed due are read end short why = absurd why
 of_steps told status.NoMemory words left left_after faults faults_after came closed due are read end short why = absurd why
-of_steps told status.Legal words left left_after faults faults_after came closed due are read end short why = absurd why
-of_steps told status.NotLegal words left left_after faults faults_after came closed due are read end short why = absurd why
+of_steps told status.Holds words left left_after faults faults_after came closed due are read end short why = absurd why
+of_steps told status.Fails words left left_after faults faults_after came closed due are read end short why = absurd why
 of_steps told status.Steps words left left_after faults faults_after came closed due are read end short why = absurd why
 of_steps told status.WriteFault words left left_after faults faults_after came closed due are read end short why = absurd why
 
@@ -249,8 +267,8 @@ of_packets told status.Refuted words left left_after faults faults_after came cl
 of_packets told status.Usage words left left_after faults faults_after came closed due are read end short why = absurd why
 of_packets told status.ReadFault words left left_after faults faults_after came closed due are read end short why = absurd why
 of_packets told status.NoMemory words left left_after faults faults_after came closed due are read end short why = absurd why
-of_packets told status.Legal words left left_after faults faults_after came closed due are read end short why = absurd why
-of_packets told status.NotLegal words left left_after faults faults_after came closed due are read end short why = absurd why
+of_packets told status.Holds words left left_after faults faults_after came closed due are read end short why = absurd why
+of_packets told status.Fails words left left_after faults faults_after came closed due are read end short why = absurd why
 of_packets told status.Steps words left left_after faults faults_after came closed due are read end short why = absurd why
 of_packets told status.WriteFault words left left_after faults faults_after came closed due are read end short why = absurd why
 

@@ -26,10 +26,15 @@ use Rattle.frames_text.specs.declared.FramesAnswer.TheVariants.{Lines, Refused}
 use Rattle.frames_text.specs.Texts.{HoldsPackets, IsTextRefusal}
 use Rattle.history_check.specs.declared.judgement.Judgement.{Judgement}
 use Rattle.history_check.specs.Judged.{ComesTo}
-use Rattle.sprite_top.specs.Judged.{TextCauses, judgement_status}
+use Rattle.trace_audit.specs.declared.audited_text.AuditedText.{AuditedText}
+use Rattle.trace_audit.specs.Texts.{TextComesTo}
+use Rattle.sprite_top.specs.Judged.{AuditCauses, TextCauses, audited_status, judgement_status}
 use Rattle.call_journal.specs.Journal.{journal_of}
 use Rattle.unix_calls.specs.After.{legal, state_of}
 use Rattle.call_journal.specs.Once.{Once}
+use Rattle.call_journal.specs.PrefixBroadcasts.{prefixes_are_broadcast_until_learned}
+use Rattle.reached_prefixes.specs.Known.{prefixes_are_learned_once}
+use Rattle.reached_domains.specs.Domains.{LearnsDomains}
 use Rattle.call_journal.specs.Unreachable.{is_unreachable_entry, unreachable_for_cause}
 use Rattle.trace_judge.specs.Rules.{KeepsJudged, name_of}
 use Rattle.run_judge.specs.declared.JudgedRun.{JudgedRun}
@@ -63,6 +68,7 @@ printing_of command.RunStats = Some printing.Stats
 printing_of command.History = Some printing.History
 printing_of (command.Load count) = None
 printing_of command.Check = None
+printing_of command.Audit = None
 printing_of command.Trace = Some printing.Trace
 printing_of command.Frames = None
 printing_of command.File = None
@@ -89,7 +95,7 @@ printed printing.Trace c trace end = trace_of trace ++ last_line end
 
 -- the lines that are written where nothing was run
 abbrev pub usage_line : List ℕ
-usage_line = codes "usage: sprite run | run --seed N | run --stats | history | load N | check | trace | frames | file | lend\n"
+usage_line = codes "usage: sprite run | run --seed N | run --stats | history | load N | check | audit | trace | frames | file | lend\n"
 
 abbrev pub too_long_line : List ℕ
 too_long_line = codes "refused: 1\n"
@@ -184,6 +190,17 @@ pub record IsRun {L : Type 0} (faults asked : L → ℕ → ℕ → ℕ) (before
   pub spent : IsSpent run.description run.trace run.finish
   pub still : run.finish ≡ finish.Stalled → IsStill (length run.description.kernels) wire.machine state
 
+-- of a run that was made: each kernel asks for the server of a prefix only until it learned that prefix, it learns each once, and what is
+-- learned are domains of the description, each with its server
+pub record KeepsPrefixes (run : Closed) : Type 0 where
+  pub asked : prefixes_are_broadcast_until_learned run.description run.trace ≡ true
+  pub once : prefixes_are_learned_once run.description run.trace ≡ true
+  pub domains : LearnsDomains run.description run.trace
+
+abbrev pub KeepsPrefixesOf : Option Closed → Type 0
+KeepsPrefixesOf None = Unit {0}
+KeepsPrefixesOf (Some run) = KeepsPrefixes run
+
 -- of a run that was made: it is one of its cluster
 abbrev pub IsRunOver : {L : Type 0} → (L → ℕ → ℕ → ℕ) → (L → ℕ → ℕ → ℕ) → L → L → Option Closed → Type 0
 IsRunOver faults asked before after None = Unit {0}
@@ -262,14 +279,27 @@ pub record IsLoadRefuted (words : List (List ℕ)) (left left_after : Option (Li
 abbrev pub IsRefuted : List (List ℕ) → Option (List ℕ) → Option (List ℕ) → Option Closed → List ℕ → Type 0
 IsRefuted words left left_after closed due = IsReadRefuted words left left_after closed due ⊎ IsLoadRefuted words left left_after closed due
 
--- the words are `check`, the source was read to its end, and what came is a text that comes to something of that status
-pub record IsChecked (state : Status) (words : List (List ℕ)) (left left_after : Option (List ℕ)) (closed : Option Closed) (due : List ℕ) : Type 0 where
-  pub words_are : IsSpelled command.Check words
+-- what a text comes to of that status, with what is due for it
+abbrev pub Judging : Type 1
+Judging = Status → List ℕ → Option Closed → List ℕ → Type 0
+
+-- the words are that command, the source was read to its end, and what came is a text that comes to something of that status
+pub record IsJudgedText (command : Command) (judging : Judging) (state : Status) (words : List (List ℕ)) (left left_after : Option (List ℕ)) (closed : Option Closed) (due : List ℕ) : Type 0 where
+  pub words_are : IsSpelled command words
   pub came : List ℕ
   pub read : Consumes left left_after came
   pub at_end : IsAtEnd left_after
   pub short : length came ≤ 67108864
-  pub text : TextCauses state came closed due
+  pub text : judging state came closed due
+
+-- a history was checked, or a trace audited
+abbrev pub IsChecked : Status → List (List ℕ) → Option (List ℕ) → Option (List ℕ) → Option Closed → List ℕ → Type 0
+IsChecked state words left left_after closed due =
+    IsJudgedText command.Check TextCauses state words left left_after closed due ⊎ IsJudgedText command.Audit AuditCauses state words left left_after closed due
+
+-- the words are `check` or `audit`
+abbrev pub AsksForJudging : List (List ℕ) → Type 0
+AsksForJudging words = IsSpelled command.Check words ⊎ IsSpelled command.Audit words
 
 -- the bytes have a refusal, and its line is due
 pub record IsRefusal (bytes due : List ℕ) : Type 0 where
@@ -291,9 +321,9 @@ pub record IsRunRefused (words : List (List ℕ)) (left left_after : Option (Lis
   pub cause : AreRefused left_after came due
   pub no_run : closed ≡ None
 
--- the words are `check`, and more came than may be checked
+-- the words are `check` or `audit`, and more came than may be judged
 pub record IsTextTooLong (words : List (List ℕ)) (left left_after : Option (List ℕ)) (closed : Option Closed) (due : List ℕ) : Type 0 where
-  pub words_are : IsSpelled command.Check words
+  pub words_are : AsksForJudging words
   pub came : List ℕ
   pub read : Consumes left left_after came
   pub long : 67108864 < length came
@@ -364,7 +394,7 @@ pub record IsFramesRefused (words : List (List ℕ)) (left left_after : Option (
   pub cause : AreNoPackets left_after came due
   pub no_run : closed ≡ None
 
--- what was read is refused: as a cluster file, as a text that is to be checked, since it is too long, as a text of events, as one of steps of
+-- what was read is refused: as a cluster file, as a text that is to be judged, since it is too long, as a text of events, as one of steps of
 -- a file, or as one of packets
 abbrev pub IsRefused : List (List ℕ) → Option (List ℕ) → Option (List ℕ) → Option Closed → List ℕ → Type 0
 IsRefused words left left_after closed due =
@@ -389,8 +419,8 @@ Causes told status.Ended words left left_after faults faults_after closed due = 
 Causes told status.Budget words left left_after faults faults_after closed due = IsEnded finish.Budget words left left_after closed due
 Causes told status.Stalled words left left_after faults faults_after closed due = IsEnded finish.Stalled words left left_after closed due
 Causes told status.Refuted words left left_after faults faults_after closed due = IsRefuted words left left_after closed due
-Causes told status.Legal words left left_after faults faults_after closed due = IsChecked status.Legal words left left_after closed due
-Causes told status.NotLegal words left left_after faults faults_after closed due = IsChecked status.NotLegal words left left_after closed due
+Causes told status.Holds words left left_after faults faults_after closed due = IsChecked status.Holds words left left_after closed due
+Causes told status.Fails words left left_after faults faults_after closed due = IsChecked status.Fails words left left_after closed due
 Causes told status.Steps words left left_after faults faults_after closed due = IsChecked status.Steps words left left_after closed due
 Causes told status.Answered words left left_after faults faults_after closed due = IsAnswered told words left left_after closed due
 Causes told status.Refused words left left_after faults faults_after closed due = IsRefused words left left_after closed due
@@ -464,7 +494,7 @@ status_of finish.Budget = status.Budget
 status_of finish.Stalled = status.Stalled
 status_of _ = status.Refuted
 
--- what a run of a described cluster, the check of a history, an answer to events, to steps of a file or to packets, a refused file, and words that are no command may come to
+-- what a run of a described cluster, the check of a history or of a trace, an answer to events, to steps of a file or to packets, a refused file, and words that are no command may come to
 abbrev pub IsOfRun : Status → Type 0
 IsOfRun status.Ended = Unit {0}
 IsOfRun status.Budget = Unit {0}
@@ -474,8 +504,8 @@ IsOfRun status.NoMemory = Unit {0}
 IsOfRun other = ⊥
 
 abbrev pub IsOfCheck : Status → Type 0
-IsOfCheck status.Legal = Unit {0}
-IsOfCheck status.NotLegal = Unit {0}
+IsOfCheck status.Holds = Unit {0}
+IsOfCheck status.Fails = Unit {0}
 IsOfCheck status.Steps = Unit {0}
 IsOfCheck status.NoMemory = Unit {0}
 IsOfCheck other = ⊥
@@ -507,6 +537,7 @@ pub record Completes (state : Status) (words : List (List ℕ)) (left : Option (
   pub runs : (print : Printing) (bytes : List ℕ) (c : Description) → AsksFor print words → left ≡ Some bytes → Describes bytes c → NoFault faults faults_after → NoFault sunk sunk_after → IsOfRun state
   pub loads : (count : ℕ) → IsSpelled (command.Load count) words → NoFault faults faults_after → NoFault sunk sunk_after → IsOfRun state
   pub checks : (bytes : List ℕ) → IsSpelled command.Check words → left ≡ Some bytes → length bytes ≤ 67108864 → ((j : Judgement) → ComesTo bytes j → judgement_status j ≢ status.Refused) → NoFault faults faults_after → NoFault sunk sunk_after → IsOfCheck state
+  pub audits : (bytes : List ℕ) → IsSpelled command.Audit words → left ≡ Some bytes → length bytes ≤ 67108864 → ((a : AuditedText) → TextComesTo bytes a → audited_status a ≢ status.Refused) → NoFault faults faults_after → NoFault sunk sunk_after → IsOfCheck state
   pub answers : (bytes lines : List ℕ) → IsSpelled command.Lend words → left ≡ Some bytes → length bytes ≤ 1048576 → answer_text bytes ≡ Ok lines → NoFault faults faults_after → NoFault sunk sunk_after → IsOfAnswer state
   pub plays : (bytes lines : List ℕ) → IsSpelled command.File words → left ≡ Some bytes → length bytes ≤ 1048576 → file_text bytes ≡ Ok lines → NoFault faults faults_after → NoFault sunk sunk_after → IsOfAnswer state
   pub tells : (bytes : List ℕ) → IsSpelled command.Frames words → left ≡ Some bytes → length bytes ≤ 67108864 → HoldsPackets bytes → NoFault faults faults_after → NoFault sunk sunk_after → IsOfAnswer state
@@ -516,7 +547,7 @@ pub record Completes (state : Status) (words : List (List ℕ)) (left : Option (
 -- the exit status of the program
 abbrev pub status_number : Status → ℕ
 status_number status.Ended = 0
-status_number status.Legal = 0
+status_number status.Holds = 0
 status_number status.Answered = 0
 status_number status.Refused = 1
 status_number status.Usage = 2
@@ -525,6 +556,6 @@ status_number status.Budget = 4
 status_number status.Stalled = 5
 status_number status.NoMemory = 6
 status_number status.WriteFault = 7
-status_number status.NotLegal = 8
+status_number status.Fails = 8
 status_number status.Steps = 9
 status_number status.Refuted = 10

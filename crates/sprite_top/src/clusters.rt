@@ -1,9 +1,10 @@
-ghost use Rattle.std.specs.Prelude.{◌≡◌, ◌≢◌, ◌++◌, [], IfOk, Some};
+ghost use Rattle.std.specs.Prelude.{◌≡◌, ◌≢◌, ◌++◌, [], true, IfOk, Some};
 ghost use Rattle.trace_text.specs.Traces.{trace_of};
 ghost use Rattle.report_print.specs.Stats.{stats_of};
 ghost use Rattle.unix_calls.specs.Output.{last_line};
 ghost use Rattle.unix_calls.specs.Lawful.{Lawful};
 ghost use Rattle.call_journal.specs.Journal.{journal_of};
+ghost use Rattle.call_journal.specs.PrefixBroadcasts.{prefixes_are_broadcast_until_learned};
 ghost use Rattle.run_judge.specs.Judged.{IsJudged, JudgesTo};
 ghost use Rattle.sprite_cluster.specs.Finishing.{IsSpent, stands_so};
 ghost use Rattle.sprite_cluster.specs.Logs.{Holds};
@@ -83,7 +84,7 @@ fn run_booted<R: Threads + Wait + Sync, L: Link + Send, W: Watch + Sync>(
     ensures over { IfOk result.0 (λ run. RunsOver L.faults L.asked cluster.begun.value result.1 (Some run)) }
 {
     match run_by(rt, alloc, cluster, turns, watch) {
-        Ok(cluster) => close(alloc, cluster),
+        Ok(cluster) => close(cluster),
         Err(cluster) => {
             let link = cluster.into_link();
             (Err(NoMemory), link)
@@ -114,14 +115,14 @@ fn run_by<R: Threads + Wait + Sync, L: Link + Send, W: Watch + Sync>(
 }
 
 // The run of a cluster that came to its end. The one error is want of memory.
-fn close<L: Link>(alloc: Global, cluster: Cluster<L>) -> (Result<Closed, NoMemory>, L)
+fn close<L: Link>(cluster: Cluster<L>) -> (Result<Closed, NoMemory>, L)
     requires holds { Holds L.faults L.asked cluster.description cluster.closed cluster.begun.value cluster.wire cluster.state cluster.trace }
     requires over { stands_so cluster.closed cluster.description cluster.trace cluster.wire.machine cluster.state ≢ Finish.Running }
     ensures same { IfOk result.0 (λ run. run.description ≡ cluster.description) }
     ensures over { IfOk result.0 (λ run. RunsOver L.faults L.asked cluster.begun.value result.1 (Some run)) }
 {
     let mut cluster = cluster;
-    let finish = cluster.finish(alloc);
+    let finish = cluster.finish();
     let (closed, link) = cluster.close(finish);
     if is_out_of_memory(finish) {
         return (Err(NoMemory), link);
@@ -143,6 +144,7 @@ fn is_out_of_memory(finish: Finish) -> bool
 fn judge_closed(alloc: Global, closed: Closed, print: Printing) -> Result<Answer, NoMemory>
     requires lawful { Lawful closed.description }
     requires spent { IsSpent closed.description closed.trace closed.finish }
+    requires broadcasts { prefixes_are_broadcast_until_learned closed.description closed.trace ≡ true }
     ensures causes { IfOk result (λ a. ClusterCauses print a.status closed.description a.closed a.due) }
     ensures kept { IfOk result (λ a. a.closed ≡ Some closed) }
 {

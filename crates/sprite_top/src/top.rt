@@ -1,16 +1,16 @@
 ghost use Rattle.std.specs.Prelude.{codes, ◌≡◌, ◌≤◌, ℕ, List, None, IfOk, length};
 ghost use Rattle.sprite_words.specs.Words.{spelled, IsSpelled};
-ghost use Rattle.sprite_words.specs.declared.Command.TheVariants.{Check, File, Frames, Lend};
+ghost use Rattle.sprite_words.specs.declared.Command.TheVariants.{Audit as AuditWord, Check, File, Frames, Lend};
 ghost use Rattle.sprite_ids.specs.declared.running.Finish.TheVariants.{AllEnded, Budget as Spent, Stalled as Stopped};
 ghost use Rattle.frames_text.specs.Texts.{AreTold};
 ghost use Rattle.lend_text.specs.Bodies.{answer_text};
 ghost use Rattle.restart_text.specs.FileTexts.{file_text};
 ghost use Rattle.report_print.specs.Refused.{refusal_line};
-ghost use Rattle.sprite_top.specs.Judged.{TextCauses, judgement_status, numbered_line, verdict_status};
-ghost use Rattle.sprite_top.specs.Top.{AllWereReached, Completes, IsRunOver, RunsOver, TellsFaultsOf, TellsWireOf, AsksFor, LoadCauses, LinesCauses, PacketsCauses, told_answer, RoseForCause, IsEnded, IsChecked, IsAnswered, IsRefuted, IsRefused, IsUsage, IsReadFault, Causes, FileCauses, Wrote, Broke, status_number};
+ghost use Rattle.sprite_top.specs.Judged.{AuditCauses, TextCauses, audit_status, audited_status, judgement_status, numbered_line, verdict_status};
+ghost use Rattle.sprite_top.specs.Top.{AllWereReached, Completes, IsRunOver, KeepsPrefixesOf, RunsOver, TellsFaultsOf, TellsWireOf, AsksFor, LoadCauses, LinesCauses, PacketsCauses, told_answer, RoseForCause, IsEnded, IsChecked, IsAnswered, IsRefuted, IsRefused, IsUsage, IsReadFault, Causes, FileCauses, Wrote, Broke, status_number};
 
 use crate::clusters::answer_cluster;
-use crate::judged::{judgement_line, numbered_line};
+use crate::judged::{audited_line, judgement_line, numbered_line};
 use call_journal::Closed;
 use cluster_file::{FileEnd, Refusal, read_description};
 use frames_text::{FramesAnswer, send_text};
@@ -27,17 +27,18 @@ use sprite_words::{Command, command_of};
 use std::alloc::Global;
 use std::sync::Wait;
 use std::thread::Threads;
+use trace_audit::{Audit, AuditedText, audit_text};
 use workload_maker::workload;
 
 /// How many bytes a cluster file, a text of events, or one of steps of a file, may have.
 const FILE_BYTES: usize = 1_048_576;
 
-/// How many bytes a cluster file, a line `=====` and a history, or packets, may have.
+/// How many bytes a cluster file, a line `=====` and a history, a trace, or packets, may have.
 const TEXT_BYTES: usize = 67_108_864;
 
 /// What is written where the words are no command.
 const USAGE_LINE: &[u8] =
-    b"usage: sprite run | run --seed N | run --stats | history | load N | check | trace | frames | file | lend\n";
+    b"usage: sprite run | run --seed N | run --stats | history | load N | check | audit | trace | frames | file | lend\n";
 
 /// What is written for more bytes than the command may read.
 const TOO_LONG_LINE: &[u8] = b"refused: 1\n";
@@ -50,8 +51,8 @@ const FAULT_LINE: &[u8] = b"read fault\n";
 pub enum Status {
     /// 0: a cluster was run, every process has ended, and the output was written.
     Ended,
-    /// 0: a history was checked, and one Unix kernel gives it.
-    Legal,
+    /// 0: a history was checked, and one Unix kernel gives it; or a trace was audited, and it keeps every promise.
+    Holds,
     /// 0: a text was read whose lines are of their form, and what answers it was written.
     Answered,
     /// 1: the bytes read are not of the command's form.
@@ -68,9 +69,9 @@ pub enum Status {
     NoMemory,
     /// 7: the sink failed; a prefix of what was due was written.
     WriteFault,
-    /// 8: a history was checked, and one Unix kernel doesn't give it.
-    NotLegal,
-    /// 9: a history was checked, and its processes do too many instructions to find out.
+    /// 8: a history was checked, and one Unix kernel doesn't give it; or a trace was audited, and it breaks a promise.
+    Fails,
+    /// 9: a history was checked, or a trace audited, whose processes do too many instructions to find out.
     Steps,
     /// 10: a cluster was run, and the run isn't what was promised of it; a line that says why was written. It would be a fault of
     /// this program.
@@ -123,7 +124,8 @@ pub struct Answer {
 ///
 /// The words are those behind the program's name: `run`, `run --seed N`, `run --stats`, `history` and `trace` run the cluster of a
 /// cluster file and print its output, that and the counts of its trace, its journal or its trace, and `check` judges a history, which
-/// stands behind a cluster file and a line `=====`, against the one-kernel Unix, without running a cluster; `load N` runs a workload of N
+/// stands behind a cluster file and a line `=====`, against the one-kernel Unix, without running a cluster; `audit` asks a trace, which
+/// stands there so, for every promise of a run; `load N` runs a workload of N
 /// processes and prints its summary; `frames` sends packets, which stand behind a cluster file and a line `=====`, in frames over the
 /// link, without running a cluster; `file` plays a text of steps of one file whose server may stop and come back; `lend` answers a text
 /// of events of hosts that are lent. A cluster is run by a thread for each of its kernels, which tell `watch` where they are; by one
@@ -144,8 +146,8 @@ pub fn sprite<R: Threads + Wait + Sync, S: Source, K: Sink, L: Link + Send, W: W
     ensures budget { result.status ≡ Status.Budget → Wrote (K.held sink.old) (K.held sink.new) (IsEnded Spent (spelled words.now) (S.left source.old) (S.left source.new) result.closed) }
     ensures stalled { result.status ≡ Status.Stalled → Wrote (K.held sink.old) (K.held sink.new) (IsEnded Stopped (spelled words.now) (S.left source.old) (S.left source.new) result.closed) }
     ensures refuted { result.status ≡ Status.Refuted → Wrote (K.held sink.old) (K.held sink.new) (IsRefuted (spelled words.now) (S.left source.old) (S.left source.new) result.closed) }
-    ensures legal { result.status ≡ Status.Legal → Wrote (K.held sink.old) (K.held sink.new) (IsChecked Status.Legal (spelled words.now) (S.left source.old) (S.left source.new) result.closed) }
-    ensures not_legal { result.status ≡ Status.NotLegal → Wrote (K.held sink.old) (K.held sink.new) (IsChecked Status.NotLegal (spelled words.now) (S.left source.old) (S.left source.new) result.closed) }
+    ensures holds { result.status ≡ Status.Holds → Wrote (K.held sink.old) (K.held sink.new) (IsChecked Status.Holds (spelled words.now) (S.left source.old) (S.left source.new) result.closed) }
+    ensures fails { result.status ≡ Status.Fails → Wrote (K.held sink.old) (K.held sink.new) (IsChecked Status.Fails (spelled words.now) (S.left source.old) (S.left source.new) result.closed) }
     ensures steps { result.status ≡ Status.Steps → Wrote (K.held sink.old) (K.held sink.new) (IsChecked Status.Steps (spelled words.now) (S.left source.old) (S.left source.new) result.closed) }
     ensures answered { result.status ≡ Status.Answered → Wrote (K.held sink.old) (K.held sink.new) (IsAnswered (AreTold L.faults L.asked link result.link) (spelled words.now) (S.left source.old) (S.left source.new) result.closed) }
     ensures refused { result.status ≡ Status.Refused → Wrote (K.held sink.old) (K.held sink.new) (IsRefused (spelled words.now) (S.left source.old) (S.left source.new) result.closed) }
@@ -156,6 +158,7 @@ pub fn sprite<R: Threads + Wait + Sync, S: Source, K: Sink, L: Link + Send, W: W
     ensures run { IsRunOver L.faults L.asked link result.link result.closed }
     ensures faults { TellsFaultsOf L.faults link result.link result.closed }
     ensures wire { TellsWireOf L.faults L.asked link result.link result.closed }
+    ensures prefixes { KeepsPrefixesOf result.closed }
     ensures rose { RoseForCause L.faults link result.link result.closed }
     ensures reached { AllWereReached L.faults link result.link result.closed }
     ensures complete { Completes result.status (spelled words.now) (S.left source.old) (S.faults source.old) (S.faults source.new) (K.faults sink.old) (K.faults sink.new) }
@@ -253,6 +256,7 @@ fn answer_to<R: Threads + Wait + Sync, S: Source, L: Link + Send, W: Watch + Syn
         }
         Some(Command::Load(count)) => answer_load(rt, alloc, count, link, watch),
         Some(Command::Check) => answer_check(alloc, source, link),
+        Some(Command::Audit) => answer_audit(alloc, source, link),
         Some(Command::Frames) => answer_frames(alloc, source, link),
         Some(Command::File) => answer_steps(alloc, source, link),
         Some(Command::Lend) => answer_lend(alloc, source, link),
@@ -320,6 +324,23 @@ fn answer_check<S: Source, L: Link>(
 {
     match read_all(alloc, source, TEXT_BYTES) {
         Ok(bytes) => (answer_text(alloc, bytes.as_slice()), link),
+        Err(ReadEnd::TooLong) => (refuse(alloc, Status::Refused, TOO_LONG_LINE), link),
+        Err(ReadEnd::Fault { .. }) => (refuse(alloc, Status::ReadFault, FAULT_LINE), link),
+        Err(ReadEnd::NoMemory) => (Err(NoMemory), link),
+    }
+}
+
+/// What is due for the word `audit` and this source, and the link. The one error is want of memory.
+fn answer_audit<S: Source, L: Link>(
+    alloc: Global,
+    source: &mut S,
+    link: L,
+) -> (Result<Answer, NoMemory>, L)
+    ensures no_run { IfOk result.0 (λ a. a.closed ≡ None) }
+    ensures causes { (words : List (List ℕ)) → IsSpelled AuditWord words → IfOk result.0 (λ a. Causes (AreTold L.faults L.asked link result.1) a.status words (S.left source.old) (S.left source.new) (S.faults source.old) (S.faults source.new) a.closed a.due) }
+{
+    match read_all(alloc, source, TEXT_BYTES) {
+        Ok(bytes) => (answer_trace(alloc, bytes.as_slice()), link),
         Err(ReadEnd::TooLong) => (refuse(alloc, Status::Refused, TOO_LONG_LINE), link),
         Err(ReadEnd::Fault { .. }) => (refuse(alloc, Status::ReadFault, FAULT_LINE), link),
         Err(ReadEnd::NoMemory) => (Err(NoMemory), link),
@@ -479,9 +500,41 @@ fn verdict_status(verdict: Verdict) -> Status
     ensures { result ≡ verdict_status verdict }
 {
     match verdict {
-        Verdict::Legal => Status::Legal,
-        Verdict::NotLegal(_) => Status::NotLegal,
+        Verdict::Legal => Status::Holds,
+        Verdict::NotLegal(_) => Status::Fails,
         Verdict::Steps(_) => Status::Steps,
+    }
+}
+
+/// What is due for a whole text that is to be audited. The one error is want of memory.
+fn answer_trace(alloc: Global, text: &[u8]) -> Result<Answer, NoMemory>
+    ensures { IfOk result (λ a. AuditCauses a.status text.now a.closed a.due) }
+{
+    let audited = audit_text(alloc, text)?;
+    let line = audited_line(alloc, &audited)?;
+    refuse(alloc, audited_status(&audited), line.as_slice())
+}
+
+/// The status of a text that is audited so.
+fn audited_status(audited: &AuditedText) -> Status
+    ensures { result ≡ audited_status audited.now }
+{
+    match audited {
+        AuditedText::NoTrace => Status::Refused,
+        AuditedText::Refused(_) => Status::Refused,
+        AuditedText::BadLine(_) => Status::Refused,
+        AuditedText::Audited(audit) => audit_status(*audit),
+    }
+}
+
+/// The status of a trace that comes to that.
+fn audit_status(audit: Audit) -> Status
+    ensures { result ≡ audit_status audit }
+{
+    match audit {
+        Audit::Holds => Status::Holds,
+        Audit::Fails(_) => Status::Fails,
+        Audit::Steps(_) => Status::Steps,
     }
 }
 
@@ -531,7 +584,7 @@ impl Status {
     {
         match self {
             Status::Ended => 0,
-            Status::Legal => 0,
+            Status::Holds => 0,
             Status::Answered => 0,
             Status::Refused => 1,
             Status::Usage => 2,
@@ -540,7 +593,7 @@ impl Status {
             Status::Stalled => 5,
             Status::NoMemory => 6,
             Status::WriteFault => 7,
-            Status::NotLegal => 8,
+            Status::Fails => 8,
             Status::Steps => 9,
             Status::Refuted => 10,
         }

@@ -1,6 +1,6 @@
 use Rattle.sprite_words.specs.Words.{spelled}
 use Rattle.frames_text.specs.Texts.{AreTold}
-use Rattle.sprite_top.proofs.CauseLaws.{answer_reached, answer_rose}
+use Rattle.sprite_top.proofs.CauseLaws.{answer_prefixes, answer_reached, answer_rose}
 use Rattle.sprite_top.proofs.CompleteLaws.{answer_completes}
 use Rattle.sprite_top.proofs.top.sprite.Goals as goal
 
@@ -19,3 +19,9 @@ returns-clause-rose g c = answer_rose g.L.Link.faults g.L.Link.asked c.args.link
 
 pub returns-clause-reached : goal.returns-clause-reached
 returns-clause-reached g c = answer_reached g.L.Link.faults g.L.Link.asked c.args.link c.answer_to-answer.result.1 c.answer_to-answer.result.0 c.in-Ok.answer c.in-Ok.is c.answer_to-answer.ensures.over
+
+pub returns-in-Ok-write_all-clause-prefixes : goal.returns-in-Ok-write_all-clause-prefixes
+returns-in-Ok-write_all-clause-prefixes g c = answer_prefixes g.L.Link.faults g.L.Link.asked c.args.link c.answer_to-answer.result.1 c.answer_to-answer.result.0 c.in-Ok.answer c.in-Ok.is c.answer_to-answer.ensures.over
+
+pub returns-clause-prefixes : goal.returns-clause-prefixes
+returns-clause-prefixes g c = answer_prefixes g.L.Link.faults g.L.Link.asked c.args.link c.answer_to-answer.result.1 c.answer_to-answer.result.0 c.in-Ok.answer c.in-Ok.is c.answer_to-answer.ensures.over
