@@ -2,17 +2,11 @@
 #![tactic(auto)]
 
 #[cfg(test)]
-mod block_moves;
-#[cfg(test)]
-mod bursts;
-#[cfg(test)]
-mod deliveries;
-#[cfg(test)]
 mod forms;
 #[cfg(test)]
 mod places;
 #[cfg(test)]
-mod sends;
+mod shared_files;
 #[cfg(test)]
 mod sharing;
 #[cfg(test)]

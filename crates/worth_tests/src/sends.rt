@@ -1,3 +1,4 @@
+use crate::repeated::text_of;
 use cluster_file::read_description;
 use send_worth::sends_are_worth;
 use sprite_ids::NoMemory;
@@ -105,22 +106,6 @@ static SENT: [(&str, u16, &str, &str, bool); SENDS] = [
     ("2 Grant 2:1 1 1 on\n", 1, FREE, "", false),
     ("", 3, "1 Send 7 2 - writeback 2:1 0\n", "", true),
 ];
-
-fn text_of(
-    alloc: Global,
-    before: &str,
-    count: u16,
-    line: &str,
-    behind: &str,
-) -> Result<Vec<u8>, NoMemory> {
-    let mut text = Vec::new(alloc);
-    text.extend_from_slice(before.as_bytes())?;
-    for _ in 0..count {
-        text.extend_from_slice(line.as_bytes())?;
-    }
-    text.extend_from_slice(behind.as_bytes())?;
-    Ok(text)
-}
 
 fn is_sent_so(
     alloc: Global,
