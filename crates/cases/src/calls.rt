@@ -26,10 +26,11 @@ const PIECES: [(usize, usize); 8] = [
 const SEEDS: [&str; 4] = ["0", "1", "00000000000000000007", "18446744073709551615"];
 
 /// Words that are no command on a cluster file. Nothing is read, though the source's first read would fail.
-const WORDS: [&[&str]; 17] = [
+const WORDS: [&[&str]; 18] = [
     &["history", "run"],
     &["check", "run"],
     &["run", "check"],
+    &["audit", "trace"],
     &["Check"],
     &[],
     &["walk"],

@@ -16,6 +16,7 @@ use sprite_cluster::Cluster;
 use sprite_ids::{Finish, NoMemory};
 use std::alloc::Global;
 use std::io;
+use trace_rules::prefixes_are_broadcast_until_learned;
 use unix_calls::Description;
 
 /// The clusters: moves, evictions, kills, devices, shared and appended files, and a parallel make.
@@ -163,6 +164,9 @@ fn judged<L: Link + Drop>(alloc: Global, cluster: Cluster<L>) -> Result<Way, NoM
     let mut cluster = cluster;
     let finish = Stepped::finish(&mut cluster, alloc);
     let (closed, _link) = cluster.close(finish);
+    if !prefixes_are_broadcast_until_learned(alloc, &closed.description, closed.trace.records())? {
+        return Ok(Way::Broken);
+    }
     match judge_run(alloc, &closed.description, &closed.trace, finish, MOST)? {
         JudgedRun::Judged { .. } => Ok(Way::Judged(finish)),
         JudgedRun::Refuted(_) | JudgedRun::Steps(_) => Ok(Way::Broken),

@@ -1,10 +1,7 @@
 //! Judges texts of a cluster file and a history, which lie in `histories`, by the word `check`, and prints of each its name, the exit
 //! status and the line that is written. Their verdicts come from an independent reading of the rules (this project).
 
-use crate::files::case_file;
-use crate::top::{Left, SOUND, called};
-use kernel_threads::NoWatch;
-use sprite_ids::NoMemory;
+use crate::texts::print_text;
 use std::io;
 use std::sync::Wait;
 use std::thread::Threads;
@@ -81,26 +78,7 @@ const CASES: [&str; 65] = [
 /// Prints what comes of each file. It fails where one can't be read, or where the output fails.
 pub fn print_all<R: Threads + Wait + Sync>(rt: &HostRuntime, threads: &R) -> io::Result<()> {
     for name in CASES {
-        print_case(rt, threads, name)?;
+        print_text(rt, threads, "histories", "check", name)?;
     }
     Ok(())
-}
-
-/// Prints what comes of a file. It fails where the file can't be read, or where the output fails.
-fn print_case<R: Threads + Wait + Sync>(
-    rt: &HostRuntime,
-    threads: &R,
-    name: &str,
-) -> io::Result<()> {
-    let text = case_file(rt, "histories", name)?;
-    match called(threads, rt.alloc(), &["check"], text, SOUND, &NoWatch) {
-        Ok(left) => print_left(rt, name, &left),
-        Err(NoMemory) => println!(rt; "{name} out of memory"),
-    }
-}
-
-fn print_left(rt: &HostRuntime, name: &str, left: &Left) -> io::Result<()> {
-    let status = left.status.number();
-    let line = left.written.as_str();
-    print!(rt; "{name} {status} {line}")
 }

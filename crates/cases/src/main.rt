@@ -1,7 +1,7 @@
 //! Tries all that `sprite` is made of, one part after the other, and prints what comes of it (this project): the top call over sources and
-//! sinks that fail (`calls`), histories that it judges (`histories`), clusters that it runs (`clusters`), the documents' too (`documents`), by
-//! threads whose bursts must meet (`meetings`) and by seeds (`seeds`); runs by chance (`chances`); and the judge of runs (`runs`). Their files
-//! lie in the folder that it is run in, in a folder for each part.
+//! sinks that fail (`calls`), histories (`histories`) and traces (`traces`) that it judges, clusters that it runs (`clusters`), the documents'
+//! too (`documents`), by threads whose bursts must meet (`meetings`) and by seeds (`seeds`); runs by chance (`chances`); and the judge of runs
+//! (`runs`). Their files lie in the folder that it is run in, in a folder for each part.
 #![tactic(auto)]
 
 mod calls;
@@ -14,7 +14,9 @@ mod histories;
 mod meetings;
 mod runs;
 mod seeds;
+mod texts;
 mod top;
+mod traces;
 
 use std::io;
 use std::process::ExitCode;
@@ -34,6 +36,8 @@ fn print_all<R: Threads + Wait + Sync>(rt: &HostRuntime, threads: &R) -> io::Res
     calls::print_all(rt, threads)?;
     println!(rt; "=== histories")?;
     histories::print_all(rt, threads)?;
+    println!(rt; "=== traces")?;
+    traces::print_all(rt, threads)?;
     println!(rt; "=== clusters")?;
     clusters::print_all(rt, threads)?;
     println!(rt; "=== documents")?;

@@ -1,5 +1,6 @@
 //! Judges runs that are told by their journals or their traces, which lie in `runs` beside the cluster files, and prints of each its
-//! name and what it comes to. What is to come was found by hand from the rules (this project).
+//! name and what it comes to. What is to come was found by hand from the rules; traces that are told whole come from an independent
+//! design of the cluster (this project).
 
 use crate::files::case_file;
 use call_journal::Trace;
@@ -12,6 +13,7 @@ use sprite_ids::{Copying, Errno, Finish, Kernel, NoMemory, TxNo};
 use sprite_paths::Path;
 use std::alloc::Global;
 use std::io;
+use trace_rules::prefixes_are_broadcast_until_learned;
 use trace_text::read_trace;
 use unix_calls::{About, Entry, Event, Part, Rec, SendKind};
 
@@ -112,9 +114,9 @@ const CASES: [(&str, &str, &str, Finish, Beside); 20] = [
     (
         "death",
         "death.toml",
-        "death.txt",
+        "death.trace",
         Finish::AllEnded,
-        Beside::Issues,
+        Beside::All,
     ),
     (
         "death-begun",
@@ -255,6 +257,9 @@ fn judged_trace(
     let Ok(description) = read_description(alloc, cluster) else {
         return Ok(String::from_str(alloc, "no cluster\n")?);
     };
+    if !prefixes_are_broadcast_until_learned(alloc, &description, trace.records())? {
+        return Ok(String::from_str(alloc, "broadcasts\n")?);
+    }
     let run = judge_run(alloc, &description, trace, finish, MOST_INSTRUCTIONS)?;
     text_of(alloc, &run)
 }
