@@ -1,0 +1,3 @@
+pub mod Svg
+pub mod WellFormed
+pub mod Laws

@@ -1,0 +1,3 @@
+pub mod OutcomeLaws
+pub mod TopLaws
+pub mod WordLaws
