@@ -1,0 +1,9 @@
+pub mod ServerWalk
+pub mod Tables
+pub mod AskingLaws
+pub mod CallLaws
+pub mod NameCounts
+pub mod BootLaws
+pub mod UnlinkedLaws
+pub mod UnlinkedBoot
+pub mod BusyLaws
