@@ -9,6 +9,7 @@ use Rattle.sprite_ids.specs.declared.Grant.{Grant}
 use Rattle.sprite_ids.specs.declared.StreamNo.{StreamNo}
 use Rattle.sprite_ids.specs.declared.TxNo.{TxNo}
 use Rattle.sprite_ids.specs.Lists.{less}
+use Rattle.sprite_ids.proofs.ListLaws.{some_is}
 use Rattle.packet_bodies.specs.declared.ReplyBody.{ReplyBody}
 use Rattle.packet_bodies.specs.declared.ReplyBody.TheVariants as bodies
 use Rattle.kernel_steps.specs.declared.Input.{Input}
@@ -29,10 +30,10 @@ use Rattle.server_kernel.specs.Grants as grants
 use Rattle.server_kernel.specs.Steps as stepping
 use Rattle.server_kernel.specs.Waits as waiting
 use Rattle.server_kernel.specs.Waits.{first_about, is_about, less_about}
-use Rattle.server_facts.specs.Asking.{AreFilesOnce, AskingStands, AtMost, has_about}
+use Rattle.server_facts.specs.Asking.{AreFilesOnce, AskingStands, AtMost, action_in, action_of, has_about}
 use Rattle.server_facts.specs.Steps.{StepKeeps}
 use Rattle.server_facts.proofs.ServerWalk.{Keeps, grants_by, puts_all, serves}
-use Rattle.server_facts.proofs.Tables.{any_last, any_none, by_file, file_gone, file_left, file_other, first_goes, itself, less_apart, less_none, most_all, most_apart, most_other, none_found, once_left, once_put, part_put, same_file, turned}
+use Rattle.server_facts.proofs.Tables.{any_last, any_none, by_file, file_gone, file_left, file_other, find_apart, find_last, find_none, find_other, first_goes, itself, less_apart, less_none, most_all, most_apart, most_other, none_found, once_left, once_put, part_put, same_file, turned}
 
 abbrev pub busy_in : Files → FileId → Bool
 busy_in table file = tables.is_busy (file_of table file)
@@ -42,27 +43,41 @@ pub record Asks (allow : FileId → ℕ) (table : Files) (asking waits : List (F
   pub once : AreFilesOnce table
   pub busy : (file : FileId) → busy_in table file ≡ has_about file asking
   pub one : (file : FileId) → AtMost 1 (is_under is_about file) asking
+  pub action : (file : FileId) (asked : Asked) → first_about file asking ≡ Some asked → action_in (file_of table file).asking ≡ action_of asked
   pub waited : (file : FileId) → busy_in table file ≡ false → AtMost (allow file) (is_under is_about file) waits
 
 -- ---- changes of the table of opens that make no file busy or free
 
-module _ (allow : FileId → ℕ) (table : Files) (asking waits : List (FileId × Asked)) where
-  same_busy : (new : Files) → AreFilesOnce new → ((file : FileId) → busy_in new file ≡ busy_in table file) → Asks allow table asking waits → Asks allow new asking waits
-  same_busy new once same h = record { once = once; busy = λ file. same file ∙ h.busy file; one = h.one; waited = λ file free. h.waited file (sym (same file) ∙ free) }
+free_none : (o : Option Asking) → is_some o ≡ false → o ≡ None
+free_none (Some asking) e = absurd (cc)
+free_none None e = refl
 
-  put_same : (file : FileId) (versioned : Versioned) → tables.is_busy versioned ≡ busy_in table file → Asks allow table asking waits → Asks allow (with_file table file versioned) asking waits
-  put_same file versioned e h = same_busy (with_file table file versioned) (once_put table file versioned h.once) (λ other. part_put tables.is_busy table file other versioned e) h
+no_row : (file : FileId) (asking : List (FileId × Asked)) (asked : Asked) → has_about file asking ≡ false → first_about file asking ≡ Some asked → ⊥
+no_row file asking asked none found = let no : None ≡ Some asked = sym (find_none (is_under is_about file) (λ (row : FileId × Asked). row.1) asking none) ∙ found in absurd (cc)
+
+module _ (allow : FileId → ℕ) (table : Files) (asking waits : List (FileId × Asked)) where
+  same_busy : (new : Files) → AreFilesOnce new → ((file : FileId) → (file_of new file).asking ≡ (file_of table file).asking) → Asks allow table asking waits → Asks allow new asking waits
+  same_busy new once same h = record {
+    once = once;
+    busy = λ file. ap is_some (same file) ∙ h.busy file;
+    one = h.one;
+    action = λ file asked found. ap action_in (same file) ∙ h.action file asked found;
+    waited = λ file free. h.waited file (sym (ap is_some (same file)) ∙ free);
+  }
+
+  put_same : (file : FileId) (versioned : Versioned) → versioned.asking ≡ (file_of table file).asking → Asks allow table asking waits → Asks allow (with_file table file versioned) asking waits
+  put_same file versioned e h = same_busy (with_file table file versioned) (once_put table file versioned h.once) (λ other. part_put (λ (v : Versioned). v.asking) table file other versioned e) h
 
   gone_same : (file : FileId) → busy_in table file ≡ false → Asks allow table asking waits → Asks allow (forgotten table file) asking waits
   gone_same file free h =
       same_busy (forgotten table file) (once_left table file h.once)
-      (λ other. by_file other file (busy_in (forgotten table file) other ≡ busy_in table other)
-      (λ e. subst (λ (f : FileId). busy_in (forgotten table file) f ≡ busy_in table f) (sym e) (ap tables.is_busy (file_gone table file h.once) ∙ sym free))
-      (λ off. ap tables.is_busy (file_left table file other off))) h
+      (λ other. by_file other file ((file_of (forgotten table file) other).asking ≡ (file_of table other).asking)
+      (λ e. subst (λ (f : FileId). (file_of (forgotten table file) f).asking ≡ (file_of table f).asking) (sym e) (ap (λ (v : Versioned). v.asking) (file_gone table file h.once) ∙ sym (free_none (file_of table file).asking free)))
+      (λ off. ap (λ (v : Versioned). v.asking) (file_left table file other off))) h
 
   closing_same : (o : Option Versioned) (file : FileId) (kernel : ℕ) (stream : StreamNo) (many : ℕ) → lookup (is_file file) table ≡ o → Asks allow table asking waits → Asks allow (closing_in table file kernel stream many o) asking waits
   closing_same None file kernel stream many e h = h
-  closing_same (Some versioned) file kernel stream many e h = put_same file (tables.closed versioned kernel stream many) (ap (λ (o : Option Versioned). tables.is_busy (or_fresh file o)) (sym e)) h
+  closing_same (Some versioned) file kernel stream many e h = put_same file (tables.closed versioned kernel stream many) (ap (λ (o : Option Versioned). (or_fresh file o).asking) (sym e)) h
 
   closed_same : (file : FileId) (kernel : ℕ) (stream : StreamNo) (many : ℕ) → Asks allow table asking waits → Asks allow (with_closed table file kernel stream many) asking waits
   closed_same file kernel stream many h = closing_same (lookup (is_file file) table) file kernel stream many refl h
@@ -73,14 +88,15 @@ module _ (allow : FileId → ℕ) (table : Files) (asking waits : List (FileId �
     once = h.once;
     busy = h.busy;
     one = h.one;
+    action = h.action;
     waited = λ other free. by_file file other (AtMost (allow other) (is_under is_about other) (waits ++ (file, request) ∷ []))
         (λ e. absurd (true≢false (sym busy ∙ (ap (busy_in table) e ∙ free))))
         (λ off. most_other (allow other) (is_under is_about other) waits (file, request) off (h.waited other free));
   }
 
   -- a file becomes busy, and one request more asks
-  asks_more : (file : FileId) (request : Asked) (versioned : Versioned) → tables.is_busy versioned ≡ true → busy_in table file ≡ false → Asks allow table asking waits → Asks allow (with_file table file versioned) (asking ++ (file, request) ∷ []) waits
-  asks_more file request versioned busy free h = record {
+  asks_more : (file : FileId) (request : Asked) (versioned : Versioned) → action_in versioned.asking ≡ action_of request → tables.is_busy versioned ≡ true → busy_in table file ≡ false → Asks allow table asking waits → Asks allow (with_file table file versioned) (asking ++ (file, request) ∷ []) waits
+  asks_more file request versioned acts busy free h = record {
     once = once_put table file versioned h.once;
     busy = λ other. by_file file other (busy_in new other ≡ has_about other asked)
         (λ e. subst (λ (f : FileId). busy_in new f ≡ has_about f asked) e (now ∙ sym (any_last (is_under is_about file) asking (file, request) (itself file))))
@@ -88,6 +104,10 @@ module _ (allow : FileId → ℕ) (table : Files) (asking waits : List (FileId �
     one = λ other. by_file file other (AtMost 1 (is_under is_about other) asked)
         (λ e. subst (λ (f : FileId). AtMost 1 (is_under is_about f) asked) e (first_goes (is_under is_about file) asking (file, request) (sym (h.busy file) ∙ free)))
         (λ off. most_other 1 (is_under is_about other) asking (file, request) off (h.one other));
+    action = λ other kept found. by_file file other (action_in (file_of new other).asking ≡ action_of kept)
+        (λ e. subst (λ (f : FileId). action_in (file_of new f).asking ≡ action_of kept) e
+        (ap (λ (v : Versioned). action_in v.asking) (file_put table file versioned) ∙ (acts ∙ ap action_of (some_is request kept (sym (find_last (is_under is_about file) (λ (row : FileId × Asked). row.1) asking (file, request) (sym (h.busy file) ∙ free) (itself file)) ∙ subst (λ (f : FileId). first_about f asked ≡ Some kept) (sym e) found)))))
+        (λ off. ap (λ (v : Versioned). action_in v.asking) (file_other table file other versioned (turned file other off)) ∙ h.action other kept (sym (find_other (is_under is_about other) (λ (row : FileId × Asked). row.1) asking (file, request) off) ∙ found));
     waited = λ other quiet. by_file file other (AtMost (allow other) (is_under is_about other) waits)
         (λ e. absurd (true≢false (sym now ∙ (ap (busy_in new) e ∙ quiet))))
         (λ off. h.waited other (sym (beside other off) ∙ quiet));
@@ -107,6 +127,9 @@ module _ (allow : FileId → ℕ) (table : Files) (asking waits : List (FileId �
 
 -- ---- decisions
 
+granted_asking : (cached : Bool) (file : Versioned) (action : Action) → tables.calls_of cached file action ≡ [] → (tables.decided cached file action).asking ≡ None
+granted_asking cached file action e = ap (λ (calls : List Callback). (tables.deciding (tables.told (tables.is_uncached cached file action) file) action calls).asking) e
+
 pub granted_free : (cached : Bool) (file : Versioned) (action : Action) → tables.calls_of cached file action ≡ [] → tables.is_busy (tables.decided cached file action) ≡ false
 granted_free cached file action e = ap (λ (calls : List Callback). tables.is_busy (tables.deciding (tables.told (tables.is_uncached cached file action) file) action calls)) e
 
@@ -115,6 +138,12 @@ asked_busy cached file action call calls e =
     let told : Versioned = tables.told (tables.is_uncached cached file action) file in
     ap (λ (calls : List Callback). tables.is_busy (tables.deciding told action calls)) e
     ∙ ap is_some (fold_same (λ (v : Versioned). v.asking) (λ v c. refl) (tables.waiting told action) (call ∷ calls))
+
+asked_action : (cached : Bool) (file : Versioned) (action : Action) (call : Callback) (calls : List Callback) → tables.calls_of cached file action ≡ call ∷ calls → action_in (tables.decided cached file action).asking ≡ Some action
+asked_action cached file action call calls e =
+    let told : Versioned = tables.told (tables.is_uncached cached file action) file in
+    ap (λ (calls : List Callback). action_in (tables.deciding told action calls).asking) e
+    ∙ ap action_in (fold_same (λ (v : Versioned). v.asking) (λ v c. refl) (tables.waiting told action) (call ∷ calls))
 
 pub settled_free : (file : Versioned) (o : Option Asking) → file.asking ≡ o → tables.is_busy (tables.settling file o) ≡ false
 settled_free file (Some asking) e = refl
@@ -143,8 +172,8 @@ module _ (allow : FileId → ℕ) where
     unlinks = λ s path file e free opens p. p;
     forgets = λ s path file e free opens p. gone_same allow s.versions.files s.asking s.waiting file free p;
     waits = λ s asked file busy p. waits_more allow s.versions.files s.asking s.waiting file asked busy p;
-    granted = λ s file action free e p. put_same allow s.versions.files s.asking s.waiting file _ (granted_free s.versions.cached (files.kept_of file s) action e ∙ sym free) p;
-    asks = λ s asked file action call calls free e p. calls_all (call ∷ calls) asked (grants.asks asked file (grants.with_decided file action s)) (asks_more allow s.versions.files s.asking s.waiting file asked _ (asked_busy s.versions.cached (files.kept_of file s) action call calls e) free p);
+    granted = λ s file action free e p. put_same allow s.versions.files s.asking s.waiting file _ (granted_asking s.versions.cached (files.kept_of file s) action e ∙ sym (free_none (files.kept_of file s).asking free)) p;
+    asks = λ s asked file action call calls may free e p. calls_all (call ∷ calls) asked (grants.asks asked file (grants.with_decided file action s)) (asks_more allow s.versions.files s.asking s.waiting file asked _ (asked_action s.versions.cached (files.kept_of file s) action call calls e ∙ sym may) (asked_busy s.versions.cached (files.kept_of file s) action call calls e) free p);
     closes = λ s file kernel stream many mode free there last p. closed_same allow s.versions.files s.asking s.waiting file kernel stream many p;
     closes_last = λ s file kernel stream many mode free there last p. gone_same allow (with_closed s.versions.files file kernel stream many) s.asking s.waiting file (still_free s.versions.files file kernel stream many free) (closed_same allow s.versions.files s.asking s.waiting file kernel stream many p);
   }
@@ -191,6 +220,7 @@ module _ (file : FileId) where
     once = h.once;
     busy = h.busy;
     one = h.one;
+    action = h.action;
     waited = λ other free. by_file file other (AtMost (at file (length s.waiting) other) (is_under is_about other) s.waiting)
         (λ e. here (length s.waiting) s.waiting other e (most_all s.waiting (length s.waiting) (is_under is_about file) (omega arith)))
         (λ off. there (length s.waiting) s.waiting other off (from_there n s.waiting other off (h.waited other free)));
@@ -202,6 +232,7 @@ module _ (file : FileId) where
     once = h.once;
     busy = h.busy;
     one = h.one;
+    action = h.action;
     waited = λ other free. by_file file other (AtMost (at file n other) (is_under is_about other) (less_about file s.waiting))
         (λ e. here n (less_about file s.waiting) other e (from_here (suc n) s.waiting (h.waited file quiet)))
         (λ off. there n (less_about file s.waiting) other off (less_none (is_under is_about other) (is_under is_about file) s.waiting (from_there (suc n) s.waiting other off (h.waited other free))));
@@ -213,6 +244,7 @@ module _ (file : FileId) where
     once = h.once;
     busy = h.busy;
     one = h.one;
+    action = h.action;
     waited = λ other free. by_file file other (AtMost (at file m other) (is_under is_about other) s.waiting)
         (λ e. absurd (true≢false (sym busy ∙ (ap (busy_in s.versions.files) e ∙ free))))
         (λ off. there m s.waiting other off (from_there n s.waiting other off (h.waited other free)));
@@ -243,6 +275,9 @@ module _ (file : FileId) where
     one = λ other. by_file file other (AtMost 1 (is_under is_about other) (less_about file asking))
         (λ e. subst (λ (f : FileId). AtMost 1 (is_under is_about f) (less_about file asking)) e (less_none (is_under is_about file) (is_under is_about file) (less_about file asking) (h.one file)))
         (λ off. most_apart 1 (is_under is_about other) (is_under is_about file) asking (apart other off) (h.one other));
+    action = λ other asked found. by_file file other (action_in (file_of new other).asking ≡ action_of asked)
+        (λ e. absurd (no_row file (less_about file asking) asked (h.one file) (subst (λ (f : FileId). first_about f (less_about file asking) ≡ Some asked) (sym e) found)))
+        (λ off. ap (λ (v : Versioned). action_in v.asking) (file_other table file other versioned (turned file other off)) ∙ h.action other asked (sym (find_apart (is_under is_about other) (is_under is_about file) (λ (row : FileId × Asked). row.1) asking (apart other off)) ∙ found));
     waited = λ other quiet. by_file file other (AtMost (at file (length waits) other) (is_under is_about other) waits)
         (λ e. here (length waits) waits other e (most_all waits (length waits) (is_under is_about file) (omega arith)))
         (λ off. there (length waits) waits other off (h.waited other (sym (beside other off) ∙ quiet)));
@@ -255,7 +290,7 @@ module _ (file : FileId) where
       beside other off = ap tables.is_busy (file_other table file other versioned (turned file other off))
 
   quiet_again : (s : Server) → Q 0 s → Asks none s.versions.files s.asking s.waiting
-  quiet_again s h = record { once = h.once; busy = h.busy; one = h.one; waited = λ other free. subst (λ n. AtMost n (is_under is_about other) s.waiting) (zero_either (is_file file other)) (h.waited other free) }
+  quiet_again s h = record { once = h.once; busy = h.busy; one = h.one; action = h.action; waited = λ other free. subst (λ n. AtMost n (is_under is_about other) s.waiting) (zero_either (is_file file other)) (h.waited other free) }
     where
       zero_either : (b : Bool) → ◌≡◌ {A = ℕ} (cond b 0 0) 0
       zero_either true = refl
@@ -263,6 +298,10 @@ module _ (file : FileId) where
 
 abbrev pub Stands : Server → Type 0
 Stands s = Asks none s.versions.files s.asking s.waiting
+
+-- a kernel has answered
+pub answered_stands : (call : CallOut) (s : Server) → Stands s → Stands (waiting.with_answer call s)
+answered_stands call s h = put_same none s.versions.files s.asking s.waiting call.file (tables.answered (files.kept_of call.file s) call.kernel) refl h
 
 waited_served : (file : FileId) (n : ℕ) (s : Server) → Q file n s → Stands (waiting.serves_waiting file s)
 waited_served file n s h =
@@ -320,10 +359,10 @@ takes input s h = h
 -- ---- in the words of the law
 
 pub stands_so : (s : Server) → Stands s → AskingStands s
-stands_so s h = record { busy = h.busy; waited = h.waited; once = h.one; files = h.once }
+stands_so s h = record { busy = h.busy; waited = h.waited; action = h.action; once = h.one; files = h.once }
 
 pub stands_from : (s : Server) → AskingStands s → Stands s
-stands_from s h = record { busy = h.busy; waited = h.waited; one = h.once; once = h.files }
+stands_from s h = record { busy = h.busy; waited = h.waited; action = h.action; one = h.once; once = h.files }
 
 pub step_keeps_asking : StepKeeps AskingStands
 step_keeps_asking s input next h = stands_so (stepping.server_step s input next).0 (takes input (stepping.begins next s) (stands_from s h))
@@ -335,4 +374,4 @@ none_stand s table asking waits =
     (subst (λ (rows : List (FileId × Asked)). Asks none [] [] rows) (sym waits) begun)))
   where
     begun : Asks none [] [] []
-    begun = record { once = tt; busy = λ file. refl; one = λ file. refl; waited = λ file free. refl }
+    begun = record { once = tt; busy = λ file. refl; one = λ file. refl; action = λ file asked found. absurd (cc); waited = λ file free. refl }

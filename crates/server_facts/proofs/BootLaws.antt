@@ -26,10 +26,12 @@ use Rattle.server_kernel.specs.Opens as opening
 use Rattle.server_kernel.specs.Steps.{server_step}
 use Rattle.server_facts.specs.Asking.{AskingStands}
 use Rattle.server_facts.specs.Calls.{BusyStands, CallsStand}
+use Rattle.server_facts.specs.Shared.{HoldsWhereFit, SharedGrantsAreCounted, SharedStand}
 use Rattle.server_facts.specs.Steps.{AlwaysHolds, BootHas, StepKeeps, after}
 use Rattle.server_facts.proofs.AskingLaws.{none_stand}
 use Rattle.server_facts.proofs.BusyLaws.{busy_so}
 use Rattle.server_facts.proofs.CallLaws.{none_called}
+use Rattle.server_facts.proofs.SharedLaws.{always_shared, none_shared}
 
 -- what a server keeps of opens and requests
 pub record Seen : Type 0 where
@@ -149,3 +151,11 @@ boot_has_busy c kernel s e =
     let b : seen s ≡ nothing = begun c kernel s e in
     busy_so s (boot_has_asking c kernel s e) (boot_has_calls c kernel s e)
     (λ file busy. absurd (true≢false (sym busy ∙ ap (λ (v : Seen). tables.is_busy (versions.file_of v.table file)) b)))
+
+pub boot_has_shared : BootHas SharedStand
+boot_has_shared c kernel s e =
+    let b : seen s ≡ nothing = begun c kernel s e in
+    none_shared s (ap (λ (v : Seen). v.table) b) (ap (λ (v : Seen). v.shadows) b) (boot_has_asking c kernel s e)
+
+pub shared_is_counted : HoldsWhereFit SharedGrantsAreCounted
+shared_is_counted c kernel first inputs e fits = (always_shared inputs first fits (boot_has_shared c kernel first e)).counted

@@ -332,7 +332,7 @@ keeps_calls = record {
   forgets = λ s path file e free opens p. gone_same s.versions.files s.callbacks file free p;
   waits = λ s asked file busy p. p;
   granted = λ s file action free e p. put_same s.versions.files s.callbacks file _ (decided_file s.versions.cached (files.kept_of file s) action) (granted_out s.versions.cached (files.kept_of file s) action e) (λ still at. p.quiet file free at) p;
-  asks = λ s asked file action call calls free e p. subst (λ (table : Files). Calls table (grants.calls_first asked file (call ∷ calls) (grants.with_decided file action s)).callbacks) (sym (same_table (call ∷ calls) asked (grants.asks asked file (grants.with_decided file action s)))) (asks_more s asked file action call calls free e p);
+  asks = λ s asked file action call calls may free e p. subst (λ (table : Files). Calls table (grants.calls_first asked file (call ∷ calls) (grants.with_decided file action s)).callbacks) (sym (same_table (call ∷ calls) asked (grants.asks asked file (grants.with_decided file action s)))) (asks_more s asked file action call calls free e p);
   closes = λ s file kernel stream many mode free there last p. closed_same s.versions.files s.callbacks file kernel stream many free p;
   closes_last = λ s file kernel stream many mode free there last p. gone_same (with_closed s.versions.files file kernel stream many) s.callbacks file (closing_free (lookup (is_file file) s.versions.files) s.versions.files file kernel stream many refl free) (closed_same s.versions.files s.callbacks file kernel stream many free p);
 }

@@ -7,3 +7,5 @@ pub mod BootLaws
 pub mod UnlinkedLaws
 pub mod UnlinkedBoot
 pub mod BusyLaws
+pub mod ShadowCounts
+pub mod SharedLaws

@@ -1,5 +1,5 @@
 -- A server serves a request by a few deeds: what each of them keeps, serving keeps.
-use Rattle.std.proofs.Common.{◌≡◌, ℕ, zero, suc, ◌+◌, ◌*◌, nat_le, nat_lt, ◌==◌, Bool, true, false, ◌&&◌, cond, List, [], ◌∷◌, ◌++◌, length, Option, Some, None, is_some, Result, Ok, Err, refl, sym, ap, subst, ◌∙◌}
+use Rattle.std.proofs.Common.{◌≡◌, ℕ, zero, suc, ◌+◌, ◌*◌, nat_le, nat_lt, ◌==◌, Bool, true, false, ◌&&◌, cond, List, [], ◌∷◌, ◌++◌, length, Option, Some, None, is_some, option_map, Result, Ok, Err, refl, sym, ap, subst, ◌∙◌}
 use Rattle.std.specs.List.{list_any, position}
 use Rattle.std.proofs.lemmas.Bool.{and_parts}
 use Rattle.sprite_ids.specs.declared.BlockNo.{BlockNo}
@@ -61,6 +61,7 @@ use Rattle.server_kernel.specs.Requests as requesting
 use Rattle.server_kernel.specs.Says as says
 use Rattle.server_kernel.specs.Served as serving
 use Rattle.server_kernel.specs.Waits as waiting
+use Rattle.server_facts.specs.Asking.{action_by, action_of}
 
 -- ---- what the deeds make of a server's fields
 
@@ -116,9 +117,40 @@ pub record Keeps (P : Server → Type 0) : Type 0 where
   pub forgets : (s : Server) (path : Parts) (file : FileId) → directory.found_in path s ≡ Ok (nodes.File file) → files.is_busy file s ≡ false → is_any (files.kept_of file s).opens ≡ false → P s → P (gone file (unnamed file path s))
   pub waits : (s : Server) (asked : Asked) (file : FileId) → files.is_busy file s ≡ true → P s → P (files.waits asked file s)
   pub granted : (s : Server) (file : FileId) (action : Action) → files.is_busy file s ≡ false → calls_of s.versions.cached (files.kept_of file s) action ≡ [] → P s → P (grants.with_decided file action s)
-  pub asks : (s : Server) (asked : Asked) (file : FileId) (action : Action) (call : Callback) (calls : List Callback) → files.is_busy file s ≡ false → calls_of s.versions.cached (files.kept_of file s) action ≡ call ∷ calls → P s → P (grants.calls_first asked file (call ∷ calls) (grants.with_decided file action s))
+  pub asks : (s : Server) (asked : Asked) (file : FileId) (action : Action) (call : Callback) (calls : List Callback) → action_of asked ≡ Some action → files.is_busy file s ≡ false → calls_of s.versions.cached (files.kept_of file s) action ≡ call ∷ calls → P s → P (grants.calls_first asked file (call ∷ calls) (grants.with_decided file action s))
   pub closes : (s : Server) (file : FileId) (kernel : ℕ) (stream : StreamNo) (many : ℕ) (mode : Mode) → files.is_busy file s ≡ false → stream_mode (files.kept_of file s).opens stream ≡ Some mode → (is_closed (files.kept_of file s) kernel stream many && list_any (files.is_that file) s.unlinked) ≡ false → P s → P (closed file kernel stream many s)
   pub closes_last : (s : Server) (file : FileId) (kernel : ℕ) (stream : StreamNo) (many : ℕ) (mode : Mode) → files.is_busy file s ≡ false → stream_mode (files.kept_of file s).opens stream ≡ Some mode → (is_closed (files.kept_of file s) kernel stream many && list_any (files.is_that file) s.unlinked) ≡ true → P s → P (gone file (closed file kernel stream many s))
+
+-- what the move of a shared stream, or of one that becomes shared, makes of the shadows
+abbrev pub shares_of : Request → Asked → FileId → Server → Server
+shares_of (requests.Move r) asked file s = grants.shares asked r file s
+shares_of body asked file s = s
+
+-- a move that is decided on is of that file
+abbrev pub IsAbout : Asked → FileId → Type 0
+IsAbout asked file = (r : MoveRequest) → asked.body ≡ requests.Move r → r.object ≡ targets.File file
+
+-- the deeds of one request that fits the table of opens and the shadows as they are when it is served
+pub record KeepsFit (F : Asked → versions.Files → List Shadow → Type 0) (P : Server → Type 0) : Type 0 where
+  pub says : (s : Server) (out : Out) → P s → P (record s { out = out })
+  pub pages : (s : Server) (swap : swaps.Pages) → P s → P (record s { swap = swap })
+  pub offsets : (s : Server) (stream : StreamNo) (offset : ℕ) → P s → P (record s { shadows = shadows.set_offset s.shadows stream offset })
+  pub writes : (s : Server) (file : FileId) (bytes : List ℕ) → is_there s.store.files file ≡ true → P s → P (files.with_content file bytes s)
+  pub makes : (s : Server) (path : Parts) (node : Node) (done : Unit {0}) → directory.make_in path s ≡ Ok done → is_a_file node ≡ false → P s → P (with_names path (directory.made_domain path node) s)
+  pub removes : (s : Server) (path : Parts) (node : Node) → directory.found_in path s ≡ Ok node → is_a_file node ≡ false → P s → P (with_names path (directory.removed_domain path) s)
+  pub renames : (s : Server) (old new : Parts) (done : Unit {0}) → directory.rename_in old new s ≡ Ok done → P s → P (with_names old (directory.renamed_domain old new) s)
+  pub creates : (s : Server) (path : Parts) (done : Unit {0}) → directory.make_in path s ≡ Ok done → P s → P (created path s)
+  pub unlinks : (s : Server) (path : Parts) (file : FileId) → directory.found_in path s ≡ Ok (nodes.File file) → files.is_busy file s ≡ false → is_any (files.kept_of file s).opens ≡ true → P s → P (unnamed file path s)
+  pub forgets : (s : Server) (path : Parts) (file : FileId) → directory.found_in path s ≡ Ok (nodes.File file) → files.is_busy file s ≡ false → is_any (files.kept_of file s).opens ≡ false → P s → P (gone file (unnamed file path s))
+  pub waits : (s : Server) (asked : Asked) (file : FileId) → files.is_busy file s ≡ true → P s → P (files.waits asked file s)
+  pub gives : (s : Server) (asked : Asked) (file : FileId) (action : Action) → action_of asked ≡ Some action → IsAbout asked file → F asked s.versions.files s.shadows → files.is_busy file s ≡ false → calls_of s.versions.cached (files.kept_of file s) action ≡ [] → P s → P (shares_of asked.body asked file (grants.with_decided file action s))
+  pub asks : (s : Server) (asked : Asked) (file : FileId) (action : Action) (call : Callback) (calls : List Callback) → action_of asked ≡ Some action → files.is_busy file s ≡ false → calls_of s.versions.cached (files.kept_of file s) action ≡ call ∷ calls → P s → P (grants.calls_first asked file (call ∷ calls) (grants.with_decided file action s))
+  pub closes : (s : Server) (asked : Asked) (r : CloseRequest) (file : FileId) (mode : Mode) → asked.body ≡ requests.Close r → r.object ≡ targets.File file → F asked s.versions.files s.shadows → files.is_busy file s ≡ false → stream_mode (files.kept_of file s).opens r.stream ≡ Some mode → (is_closed (files.kept_of file s) asked.from r.stream r.grants && list_any (files.is_that file) s.unlinked) ≡ false → P s → P (record (closed file asked.from r.stream r.grants s) { shadows = shadows.close s.shadows r.stream asked.from r.grants })
+  pub closes_last : (s : Server) (asked : Asked) (r : CloseRequest) (file : FileId) (mode : Mode) → asked.body ≡ requests.Close r → r.object ≡ targets.File file → F asked s.versions.files s.shadows → files.is_busy file s ≡ false → stream_mode (files.kept_of file s).opens r.stream ≡ Some mode → (is_closed (files.kept_of file s) asked.from r.stream r.grants && list_any (files.is_that file) s.unlinked) ≡ true → P s → P (gone file (record (closed file asked.from r.stream r.grants s) { shadows = shadows.close s.shadows r.stream asked.from r.grants }))
+
+-- every request fits
+abbrev pub Any : Asked → versions.Files → List Shadow → Type 0
+Any asked table shadows = Unit {0}
 
 -- ---- the landed words for them
 
@@ -189,7 +221,7 @@ removed_empty None path node e = absurd (cc)
 
 -- ---- the walk
 
-module _ (P : Server → Type 0) (keeps : Keeps P) where
+module _ (F : Asked → versions.Files → List Shadow → Type 0) (P : Server → Type 0) (keeps : KeepsFit F P) where
   on_if : (b : Bool) (s t : Server) → (b ≡ true → P s) → (b ≡ false → P t) → P (cond b s t)
   on_if true s t p q = p refl
   on_if false s t p q = q refl
@@ -198,9 +230,21 @@ module _ (P : Server → Type 0) (keeps : Keeps P) where
   at_false G true s t e g = absurd (cc)
   at_false G false s t e g = g
 
-  -- something is said, and a shared stream's offset or grants change
-  moves_on : (s : Server) (out : Out) (sh : List Shadow) → P s → P (record s { out = out; shadows = sh })
-  moves_on s out sh p = keeps.says (record s { shadows = sh }) out (keeps.shares s sh p)
+  -- what the request carries is what is asked of the table of opens
+  opening_is : (asked : Asked) (r : OpeningRequest) (mode : Mode) → asked.body ≡ requests.Opening r → opening_mode r.flags ≡ Some mode → action_of asked ≡ Some (opening.opening_of asked.from r mode)
+  opening_is asked r mode e m = ap (λ (body : Request). action_by body asked.from) e ∙ ap (option_map (opening.opening_of asked.from r)) m
+
+  opening_about : (asked : Asked) (r : OpeningRequest) → asked.body ≡ requests.Opening r → (file : FileId) → IsAbout asked file
+  opening_about asked r e file other f = absurd (let no : requests.Opening r ≡ requests.Move other = sym e ∙ f in cc)
+
+  moving_about : (asked : Asked) (r : MoveRequest) (file : FileId) → asked.body ≡ requests.Move r → r.object ≡ targets.File file → IsAbout asked file
+  moving_about asked r file e o other f = ap (λ (one : MoveRequest). one.object) (let same : requests.Move other ≡ requests.Move r = sym f ∙ e in moves_same other r same) ∙ o
+    where
+      moves_same : (one other : MoveRequest) → requests.Move one ≡ requests.Move other → one ≡ other
+      moves_same one other e = cc
+
+  moving_is : (asked : Asked) (r : MoveRequest) → asked.body ≡ requests.Move r → action_of asked ≡ Some (requesting.moving_of asked.from r)
+  moving_is asked r e = ap (λ (body : Request). action_by body asked.from) e
 
   made : (path : Parts) (node : Node) (done : Unit {0}) (s : Server) → directory.make_in path s ≡ Ok done → is_a_file node ≡ false → P s → P (directory.with_made path node s)
   made path node done s e off p = subst P (sym (names_are path (directory.made_domain path node) s)) (keeps.makes s path node done e off p)
@@ -221,8 +265,8 @@ module _ (P : Server → Type 0) (keeps : Keeps P) where
       let new : List ℕ = written (held s.store.files file) start bytes in
       on_if (there && fits) (files.with_content file new s) s (λ e. keeps.writes s file new (and_parts there fits e).0 p) (λ off. p)
 
-  pub block_put_in : (file : FileId) (block : BlockNo) (size : ℕ) (bytes : List ℕ) (s : Server) → P s → P (files.block_put_in file block size bytes s)
-  block_put_in file block size bytes s p =
+  pub fit_block : (file : FileId) (block : BlockNo) (size : ℕ) (bytes : List ℕ) (s : Server) → P s → P (files.block_put_in file block size bytes s)
+  fit_block file block size bytes s p =
       let there : Bool = is_there s.store.files file in
       let fits : Bool = nat_le (4096 * block.0 + length bytes) s.store.limit in
       let sized : Bool = nat_le size s.store.limit in
@@ -349,34 +393,25 @@ module _ (P : Server → Type 0) (keeps : Keeps P) where
   closed_noted true event s p = p
   closed_noted false event s p = keeps.says s _ p
 
-  shared_by : (found kept : Bool) (asked : Asked) (r : MoveRequest) (file : FileId) (s : Server) → P s → P (cond found (cond kept (grants.counts_grant r s) (grants.drops_grants asked.from r (grants.counts_grant r s))) (cond kept (grants.shares_first asked r file s) s))
-  shared_by true true asked r file s p = keeps.shares s _ p
-  shared_by true false asked r file s p = keeps.shares s _ p
-  shared_by false true asked r file s p = keeps.says (grants.counts_grant r (grants.keeps_offset asked r file s)) _ (keeps.shares s _ p)
-  shared_by false false asked r file s p = p
-
   moved : (asked : Asked) (r : MoveRequest) (file : FileId) (grant : Grant) (s : Server) → P s → P (grants.moved_sized asked r file grant s)
   moved asked r file grant s p =
       let opened : Server = grants.notes_opened file r.stream r.to grant s in
       keeps.says (grants.leaves_source asked r file opened) _
       (closed_noted (nat_lt 0 (files.count_at file r.stream asked.from opened)) (events.Closed file r.stream asked.from (files.mode_in file r.stream opened)) opened (keeps.says s _ p))
 
-  grants_move : (asked : Asked) (r : MoveRequest) (file : FileId) (grant : Grant) (s : Server) → P s → P (grants.grants_move asked r file grant s)
-  grants_move asked r file grant s p =
-      let after : Server = grants.shares asked r file s in
-      moved asked r file (files.sized file grant after) after (shared_by (is_some (shadows.offset_of s.shadows r.stream)) r.kept asked r file s p)
+  -- what is left of a grant, once the shadows are as it wants
+  pub fit_grants : (body : Request) (asked : Asked) (file : FileId) (grant : Grant) (s : Server) → P (shares_of body asked file s) → P (grants.grants_by body asked file grant s)
+  fit_grants (requests.Opening r) asked file grant s p = opened_by (has_bit 8 r.flags) asked r file grant s p
+  fit_grants (requests.Move r) asked file grant s p = let after : Server = grants.shares asked r file s in moved asked r file (files.sized file grant after) after p
+  fit_grants body asked file grant s p = p
 
-  pub grants_by : (body : Request) (asked : Asked) (file : FileId) (grant : Grant) (s : Server) → P s → P (grants.grants_by body asked file grant s)
-  grants_by (requests.Opening r) asked file grant s p = opened_by (has_bit 8 r.flags) asked r file grant s p
-  grants_by (requests.Move r) asked file grant s p = grants_move asked r file grant s p
-  grants_by body asked file grant s p = p
+  decided_by : (calls : List Callback) (asked : Asked) (file : FileId) (action : Action) (s : Server) → action_of asked ≡ Some action → IsAbout asked file → F asked s.versions.files s.shadows → files.is_busy file s ≡ false → calls_of s.versions.cached (files.kept_of file s) action ≡ calls → P s
+      → P (grants.decided_as asked file (answering (tables.told (tables.is_uncached s.versions.cached (files.kept_of file s) action) (files.kept_of file s)) action calls) (grants.with_decided file action s))
+  decided_by [] asked file action s may about f free e p = fit_grants asked.body asked file _ (grants.with_decided file action s) (keeps.gives s asked file action may about f free e p)
+  decided_by (call ∷ calls) asked file action s may about f free e p = keeps.asks s asked file action call calls may free e p
 
-  decided_by : (calls : List Callback) (asked : Asked) (file : FileId) (action : Action) (s : Server) → files.is_busy file s ≡ false → calls_of s.versions.cached (files.kept_of file s) action ≡ calls → P s → P (grants.decided_as asked file (answering (tables.told (tables.is_uncached s.versions.cached (files.kept_of file s) action) (files.kept_of file s)) action calls) (grants.with_decided file action s))
-  decided_by [] asked file action s free e p = grants_by asked.body asked file _ (grants.with_decided file action s) (keeps.granted s file action free e p)
-  decided_by (call ∷ calls) asked file action s free e p = keeps.asks s asked file action call calls free e p
-
-  decides : (asked : Asked) (file : FileId) (action : Action) (s : Server) → P s → P (grants.decides asked file action s)
-  decides asked file action s p = on_if (files.is_busy file s) _ _ (λ busy. keeps.waits s asked file busy p) (λ free. decided_by (calls_of s.versions.cached (files.kept_of file s) action) asked file action s free refl p)
+  decides : (asked : Asked) (file : FileId) (action : Action) (s : Server) → action_of asked ≡ Some action → IsAbout asked file → F asked s.versions.files s.shadows → P s → P (grants.decides asked file action s)
+  decides asked file action s may about f p = on_if (files.is_busy file s) _ _ (λ busy. keeps.waits s asked file busy p) (λ free. decided_by (calls_of s.versions.cached (files.kept_of file s) action) asked file action s may about f free refl p)
 
   -- Opens
 
@@ -385,80 +420,85 @@ module _ (P : Server → Type 0) (keeps : Keeps P) where
   ends_open (name_ends.Redirect path) tx r s p = keeps.says s _ p
   ends_open name_ends.NoMemory tx r s p = p
 
-  opens_node : (node : Node) (asked : Asked) (r : OpeningRequest) (mode : Mode) (s : Server) → P s → P (opening.opens_node asked r mode node s)
-  opens_node nodes.Dir asked r mode s p = keeps.says s _ p
-  opens_node (nodes.Device device) asked r mode s p = keeps.says s _ p
-  opens_node (nodes.File file) asked r mode s p = decides asked file (opening.opening_of asked.from r mode) s p
+  opens_node : (node : Node) (asked : Asked) (r : OpeningRequest) (mode : Mode) (s : Server) → action_of asked ≡ Some (opening.opening_of asked.from r mode) → ((file : FileId) → IsAbout asked file) → F asked s.versions.files s.shadows → P s → P (opening.opens_node asked r mode node s)
+  opens_node nodes.Dir asked r mode s may about f p = keeps.says s _ p
+  opens_node (nodes.Device device) asked r mode s may about f p = keeps.says s _ p
+  opens_node (nodes.File file) asked r mode s may about f p = decides asked file (opening.opening_of asked.from r mode) s may (about file) f p
 
-  creates_by : (found : Result (Unit {0}) NameEnd) (asked : Asked) (r : OpeningRequest) (mode : Mode) (s : Server) → directory.make_in r.path s ≡ found → P s → P (opening.creates_by asked r mode found s)
-  creates_by (Ok done) asked r mode s e p =
+  creates_by : (found : Result (Unit {0}) NameEnd) (asked : Asked) (r : OpeningRequest) (mode : Mode) (s : Server) → action_of asked ≡ Some (opening.opening_of asked.from r mode) → ((file : FileId) → IsAbout asked file) → F asked s.versions.files s.shadows → directory.make_in r.path s ≡ found → P s → P (opening.creates_by asked r mode found s)
+  creates_by (Ok done) asked r mode s may about f e p =
       let named : Server = directory.with_made r.path (nodes.File (opening.new_file s)) s in
       let file : FileId = opening.new_file named in
-      decides asked file (opening.opening_of asked.from r mode) (opening.counts_file (files.made_file file named)) (subst P (sym (created_is r.path s)) (keeps.creates s r.path done e p))
-  creates_by (Err end) asked r mode s e p = ends_open end asked.tx r s p
+      decides asked file (opening.opening_of asked.from r mode) (opening.counts_file (files.made_file file named)) may (about file)
+      (subst (λ (t : Server). F asked t.versions.files t.shadows) (sym (created_is r.path s)) f) (subst P (sym (created_is r.path s)) (keeps.creates s r.path done e p))
+  creates_by (Err end) asked r mode s may about f e p = ends_open end asked.tx r s p
 
-  opens_found : (found : Result Node NameEnd) (asked : Asked) (r : OpeningRequest) (mode : Mode) (s : Server) → P s → P (opening.opens_found asked r mode found s)
-  opens_found (Ok node) asked r mode s p = opens_node node asked r mode s p
-  opens_found (Err (name_ends.Errno why)) asked r mode s p = on_if (opening.is_no_entry why && has_bit 4 r.flags) _ _ (λ e. creates_by (directory.make_in r.path s) asked r mode s refl p) (λ e. keeps.says s _ p)
-  opens_found (Err (name_ends.Redirect path)) asked r mode s p = keeps.says s _ p
-  opens_found (Err name_ends.NoMemory) asked r mode s p = p
+  opens_found : (found : Result Node NameEnd) (asked : Asked) (r : OpeningRequest) (mode : Mode) (s : Server) → action_of asked ≡ Some (opening.opening_of asked.from r mode) → ((file : FileId) → IsAbout asked file) → F asked s.versions.files s.shadows → P s → P (opening.opens_found asked r mode found s)
+  opens_found (Ok node) asked r mode s may about f p = opens_node node asked r mode s may about f p
+  opens_found (Err (name_ends.Errno why)) asked r mode s may about f p = on_if (opening.is_no_entry why && has_bit 4 r.flags) _ _ (λ e. creates_by (directory.make_in r.path s) asked r mode s may about f refl p) (λ e. keeps.says s _ p)
+  opens_found (Err (name_ends.Redirect path)) asked r mode s may about f p = keeps.says s _ p
+  opens_found (Err name_ends.NoMemory) asked r mode s may about f p = p
 
-  opens_with : (o : Option Mode) (asked : Asked) (r : OpeningRequest) (s : Server) → P s → P (opening.opens_with asked r o s)
-  opens_with (Some mode) asked r s p = opens_found (directory.found_in r.path s) asked r mode s p
-  opens_with None asked r s p = keeps.says s _ p
+  opens_with : (o : Option Mode) (asked : Asked) (r : OpeningRequest) (s : Server) → asked.body ≡ requests.Opening r → opening_mode r.flags ≡ o → F asked s.versions.files s.shadows → P s → P (opening.opens_with asked r o s)
+  opens_with (Some mode) asked r s e m f p = opens_found (directory.found_in r.path s) asked r mode s (opening_is asked r mode e m) (opening_about asked r e) f p
+  opens_with None asked r s e m f p = keeps.says s _ p
 
   -- Operations
 
   operates_by : (op : FileOp) (tx : TxNo) (r : OpRequest) (file : FileId) (s : Server) → P s → P (operating.operates_by op tx r file s)
-  operates_by file_ops.Read tx r file s p = keeps.says (operating.moves_offset r.stream _ s) _ (keeps.shares s _ p)
+  operates_by file_ops.Read tx r file s p = keeps.says (operating.moves_offset r.stream _ s) _ (keeps.offsets s r.stream _ p)
   operates_by file_ops.Write tx r file s p =
       let start : ℕ = files.start_in r.stream r.offset s in
-      on_if (nat_lt s.store.limit (start + length r.bytes)) _ _ (λ e. keeps.says s _ p) (λ e. moves_on (files.written_to file start r.bytes s) _ _ (written_to file start r.bytes s p))
+      let after : Server = files.written_to file start r.bytes s in
+      on_if (nat_lt s.store.limit (start + length r.bytes)) _ _ (λ e. keeps.says s _ p) (λ e. keeps.says (operating.moves_offset r.stream (start + length r.bytes) after) _ (keeps.offsets after r.stream (start + length r.bytes) (written_to file start r.bytes s p)))
   operates_by file_ops.Append tx r file s p =
       let start : ℕ = files.size_in file s in
-      on_if (nat_lt s.store.limit (start + length r.bytes)) _ _ (λ e. keeps.says s _ p) (λ e. moves_on (files.written_to file start r.bytes s) _ _ (written_to file start r.bytes s p))
+      let after : Server = files.written_to file start r.bytes s in
+      on_if (nat_lt s.store.limit (start + length r.bytes)) _ _ (λ e. keeps.says s _ p) (λ e. keeps.says (operating.moves_offset r.stream (start + length r.bytes) after) _ (keeps.offsets after r.stream (start + length r.bytes) (written_to file start r.bytes s p)))
   operates_by file_ops.Size tx r file s p = keeps.says s _ p
-  operates_by file_ops.Seek tx r file s p = moves_on s _ _ p
+  operates_by file_ops.Seek tx r file s p = keeps.says (operating.moves_offset r.stream _ s) _ (keeps.offsets s r.stream _ p)
 
   -- Moves, closes and requests for bytes
 
-  moves_to : (target : Target) (asked : Asked) (r : MoveRequest) (s : Server) → P s → P (requesting.moves_to target asked r s)
-  moves_to (targets.File file) asked r s p = decides asked file (requesting.moving_of asked.from r) s p
-  moves_to (targets.Device device) asked r s p = keeps.says s _ p
+  moves_to : (target : Target) (asked : Asked) (r : MoveRequest) (s : Server) → asked.body ≡ requests.Move r → r.object ≡ target → F asked s.versions.files s.shadows → P s → P (requesting.moves_to target asked r s)
+  moves_to (targets.File file) asked r s e o f p = decides asked file (requesting.moving_of asked.from r) s (moving_is asked r e) (moving_about asked r file e o) f p
+  moves_to (targets.Device device) asked r s e o f p = keeps.says s _ p
 
   -- with what is noted of the close, where nothing of the stream is left at the kernel
-  last_by : (b : Bool) (file : FileId) (kernel : ℕ) (r : CloseRequest) (mode : Mode) (out : Out) (sh : List Shadow) (s : Server) → (is_closed (files.kept_of file s) kernel r.stream r.grants && list_any (files.is_that file) s.unlinked) ≡ b → files.is_busy file s ≡ false → stream_mode (files.kept_of file s).opens r.stream ≡ Some mode → P s
-      → P (cond b (files.forgotten file (record (closed file kernel r.stream r.grants s) { out = out; shadows = sh })) (record (closed file kernel r.stream r.grants s) { out = out; shadows = sh }))
-  last_by true file kernel r mode out sh s last free there p =
-      let over : Server = closed file kernel r.stream r.grants s in
-      subst P (sym (gone_is file (record over { out = out; shadows = sh }))) (moves_on (gone file over) out sh (keeps.closes_last s file kernel r.stream r.grants mode free there last p))
-  last_by false file kernel r mode out sh s last free there p = moves_on (closed file kernel r.stream r.grants s) out sh (keeps.closes s file kernel r.stream r.grants mode free there last p)
+  last_by : (b : Bool) (asked : Asked) (r : CloseRequest) (file : FileId) (mode : Mode) (out : Out) (s : Server) → (is_closed (files.kept_of file s) asked.from r.stream r.grants && list_any (files.is_that file) s.unlinked) ≡ b → asked.body ≡ requests.Close r → r.object ≡ targets.File file → F asked s.versions.files s.shadows → files.is_busy file s ≡ false → stream_mode (files.kept_of file s).opens r.stream ≡ Some mode → P s
+      → P (cond b (files.forgotten file (record (closed file asked.from r.stream r.grants s) { out = out; shadows = shadows.close s.shadows r.stream asked.from r.grants })) (record (closed file asked.from r.stream r.grants s) { out = out; shadows = shadows.close s.shadows r.stream asked.from r.grants }))
+  last_by true asked r file mode out s last e o f free there p =
+      let over : Server = record (closed file asked.from r.stream r.grants s) { shadows = shadows.close s.shadows r.stream asked.from r.grants } in
+      subst P (sym (gone_is file (record over { out = out }))) (keeps.says (gone file over) out (keeps.closes_last s asked r file mode e o f free there last p))
+  last_by false asked r file mode out s last e o f free there p =
+      let over : Server = record (closed file asked.from r.stream r.grants s) { shadows = shadows.close s.shadows r.stream asked.from r.grants } in
+      keeps.says over out (keeps.closes s asked r file mode e o f free there last p)
 
-  noted_by : (b : Bool) (asked : Asked) (r : CloseRequest) (file : FileId) (mode : Mode) (event : Event) (s : Server) → files.is_busy file s ≡ false → stream_mode (files.kept_of file s).opens r.stream ≡ Some mode → P s
+  noted_by : (b : Bool) (asked : Asked) (r : CloseRequest) (file : FileId) (mode : Mode) (event : Event) (s : Server) → asked.body ≡ requests.Close r → r.object ≡ targets.File file → F asked s.versions.files s.shadows → files.is_busy file s ≡ false → stream_mode (files.kept_of file s).opens r.stream ≡ Some mode → P s
       → P (requesting.forgets_last (is_closed (files.kept_of file s) asked.from r.stream r.grants) file (requesting.drops_shared asked.from r (cond b (closed file asked.from r.stream r.grants s) (says.notes event (closed file asked.from r.stream r.grants s)))))
-  noted_by true asked r file mode event s free there p = last_by (is_closed (files.kept_of file s) asked.from r.stream r.grants && list_any (files.is_that file) s.unlinked) file asked.from r mode _ _ s refl free there p
-  noted_by false asked r file mode event s free there p = last_by (is_closed (files.kept_of file s) asked.from r.stream r.grants && list_any (files.is_that file) s.unlinked) file asked.from r mode _ _ s refl free there p
+  noted_by true asked r file mode event s e o f free there p = last_by (is_closed (files.kept_of file s) asked.from r.stream r.grants && list_any (files.is_that file) s.unlinked) asked r file mode _ s refl e o f free there p
+  noted_by false asked r file mode event s e o f free there p = last_by (is_closed (files.kept_of file s) asked.from r.stream r.grants && list_any (files.is_that file) s.unlinked) asked r file mode _ s refl e o f free there p
 
-  dropped_by_test : (b : Bool) (asked : Asked) (r : CloseRequest) (file : FileId) (mode : Mode) (s : Server) → b ≡ false → files.is_busy file s ≡ false → stream_mode (files.kept_of file s).opens r.stream ≡ Some mode → P s
+  dropped_by_test : (b : Bool) (asked : Asked) (r : CloseRequest) (file : FileId) (mode : Mode) (s : Server) → b ≡ false → asked.body ≡ requests.Close r → r.object ≡ targets.File file → F asked s.versions.files s.shadows → files.is_busy file s ≡ false → stream_mode (files.kept_of file s).opens r.stream ≡ Some mode → P s
       → P (requesting.forgets_last (cond b false (is_closed (files.kept_of file s) asked.from r.stream r.grants)) file (requesting.drops_shared asked.from r (grants.notes_closed file r.stream asked.from mode (cond b s (closed file asked.from r.stream r.grants s)))))
-  dropped_by_test true asked r file mode s e free there p = absurd (cc)
-  dropped_by_test false asked r file mode s e free there p =
+  dropped_by_test true asked r file mode s t e o f free there p = absurd (cc)
+  dropped_by_test false asked r file mode s t e o f free there p =
       let over : Server = closed file asked.from r.stream r.grants s in
-      noted_by (nat_lt 0 (files.count_at file r.stream asked.from over)) asked r file mode (events.Closed file r.stream asked.from mode) s free there p
+      noted_by (nat_lt 0 (files.count_at file r.stream asked.from over)) asked r file mode (events.Closed file r.stream asked.from mode) s e o f free there p
 
-  closes_by : (o : Option Mode) (asked : Asked) (r : CloseRequest) (file : FileId) (s : Server) → files.is_busy file s ≡ false → stream_mode (files.kept_of file s).opens r.stream ≡ o → P s → P (requesting.closes_by asked r file o s)
-  closes_by (Some mode) asked r file s free there p = dropped_by_test (files.is_busy file s) asked r file mode s free free there p
-  closes_by None asked r file s free there p = p
+  closes_by : (found : Option Mode) (asked : Asked) (r : CloseRequest) (file : FileId) (s : Server) → asked.body ≡ requests.Close r → r.object ≡ targets.File file → F asked s.versions.files s.shadows → files.is_busy file s ≡ false → stream_mode (files.kept_of file s).opens r.stream ≡ found → P s → P (requesting.closes_by asked r file found s)
+  closes_by (Some mode) asked r file s e o f free there p = dropped_by_test (files.is_busy file s) asked r file mode s free e o f free there p
+  closes_by None asked r file s e o f free there p = p
 
-  closes_of : (target : Target) (asked : Asked) (r : CloseRequest) (s : Server) → P s → P (requesting.closes_of target asked r s)
-  closes_of (targets.File file) asked r s p =
+  closes_of : (target : Target) (asked : Asked) (r : CloseRequest) (s : Server) → asked.body ≡ requests.Close r → r.object ≡ target → F asked s.versions.files s.shadows → P s → P (requesting.closes_of target asked r s)
+  closes_of (targets.File file) asked r s e o f p =
       on_if (files.is_busy file s) _ _ (λ busy. keeps.waits s asked file busy p)
-      (λ free. keeps.says (requesting.closes_stream asked r file s) _ (closes_by (stream_mode (files.kept_of file s).opens r.stream) asked r file s free refl p))
-  closes_of (targets.Device device) asked r s p = keeps.says s _ p
+      (λ free. keeps.says (requesting.closes_stream asked r file s) _ (closes_by (stream_mode (files.kept_of file s).opens r.stream) asked r file s e o f free refl p))
+  closes_of (targets.Device device) asked r s e o f p = keeps.says s _ p
 
   uses_by : (body : Request) (asked : Asked) (file : FileId) (s : Server) → P s → P (requesting.uses_by body asked file s)
   uses_by (requests.Fetch r) asked file s p = keeps.says s _ p
-  uses_by (requests.WriteBack r) asked file s p = keeps.says (files.block_put_in file r.block r.size r.bytes s) _ (block_put_in file r.block r.size r.bytes s p)
+  uses_by (requests.WriteBack r) asked file s p = keeps.says (files.block_put_in file r.block r.size r.bytes s) _ (fit_block file r.block r.size r.bytes s p)
   uses_by (requests.Op r) asked file s p = operates_by r.op asked.tx r file s p
   uses_by body asked file s p = p
 
@@ -476,40 +516,84 @@ module _ (P : Server → Type 0) (keeps : Keeps P) where
   gives_taken (Some bytes) tx s p = keeps.says s _ p
   gives_taken None tx s p = p
 
-  serves_file : (body : Request) (asked : Asked) (s : Server) → P s → P (serving.serves_file_by body asked s)
-  serves_file (requests.Close r) asked s p = closes_of r.object asked r s p
-  serves_file (requests.Move r) asked s p = moves_to r.object asked r s p
-  serves_file (requests.Op r) asked s p = uses asked r.file r.stamp s p
-  serves_file (requests.Fetch r) asked s p = uses asked r.file r.stamp s p
-  serves_file (requests.WriteBack r) asked s p = brings_back asked r s p
-  serves_file body asked s p = p
+  serves_file : (body : Request) (asked : Asked) (s : Server) → asked.body ≡ body → F asked s.versions.files s.shadows → P s → P (serving.serves_file_by body asked s)
+  serves_file (requests.Close r) asked s e f p = closes_of r.object asked r s e refl f p
+  serves_file (requests.Move r) asked s e f p = moves_to r.object asked r s e refl f p
+  serves_file (requests.Op r) asked s e f p = uses asked r.file r.stamp s p
+  serves_file (requests.Fetch r) asked s e f p = uses asked r.file r.stamp s p
+  serves_file (requests.WriteBack r) asked s e f p = brings_back asked r s p
+  serves_file body asked s e f p = p
 
-  serves_by : (body : Request) (asked : Asked) (s : Server) → P s → P (serving.serves_by body asked s)
-  serves_by requests.Echo asked s p = keeps.says s _ p
-  serves_by (requests.Prefix path) asked s p = on_if (directory.is_root path s) _ s (λ e. keeps.says s _ p) (λ e. p)
-  serves_by (requests.Opening r) asked s p = opens_with (opening_mode r.flags) asked r s p
-  serves_by (requests.Name r) asked s p = names_call r.op asked r s p
-  serves_by (requests.Make r) asked s p = makes_device (directory.make_in r.path s) asked.tx r s refl p
-  serves_by (requests.PageOut r) asked s p = keeps.says (record s { swap = swaps.put s.swap r.pid r.page r.bytes }) _ (keeps.pages s _ p)
-  serves_by (requests.PageIn pid page) asked s p = gives_taken (swaps.bytes_of s.swap pid page) asked.tx (record s { swap = swaps.without s.swap pid page }) (keeps.pages s _ p)
-  serves_by body asked s p = serves_file asked.body asked s p
+  serves_by : (body : Request) (asked : Asked) (s : Server) → asked.body ≡ body → F asked s.versions.files s.shadows → P s → P (serving.serves_by body asked s)
+  serves_by requests.Echo asked s e f p = keeps.says s _ p
+  serves_by (requests.Prefix path) asked s e f p = on_if (directory.is_root path s) _ s (λ e. keeps.says s _ p) (λ e. p)
+  serves_by (requests.Opening r) asked s e f p = opens_with (opening_mode r.flags) asked r s e refl f p
+  serves_by (requests.Name r) asked s e f p = names_call r.op asked r s p
+  serves_by (requests.Make r) asked s e f p = makes_device (directory.make_in r.path s) asked.tx r s refl p
+  serves_by (requests.PageOut r) asked s e f p = keeps.says (record s { swap = swaps.put s.swap r.pid r.page r.bytes }) _ (keeps.pages s _ p)
+  serves_by (requests.PageIn pid page) asked s e f p = gives_taken (swaps.bytes_of s.swap pid page) asked.tx (record s { swap = swaps.without s.swap pid page }) (keeps.pages s _ p)
+  serves_by body asked s e f p = serves_file asked.body asked s refl f p
 
-  pub serves : (asked : Asked) (s : Server) → P s → P (serving.serves asked s)
-  serves asked s p = serves_by asked.body asked s p
+  pub fit_serves : (asked : Asked) (s : Server) → F asked s.versions.files s.shadows → P s → P (serving.serves asked s)
+  fit_serves asked s f p = serves_by asked.body asked s refl f p
 
-  pub puts_all : (list : List (BlockNo × List ℕ)) (file : FileId) (size : ℕ) (s : Server) → P s → P (waiting.puts_all file size list s)
-  puts_all [] file size s p = p
-  puts_all (block ∷ list) file size s p = puts_all list file size (files.block_put_in file block.0 size block.1 s) (block_put_in file block.0 size block.1 s p)
+  pub fit_puts : (list : List (BlockNo × List ℕ)) (file : FileId) (size : ℕ) (s : Server) → P s → P (waiting.puts_all file size list s)
+  fit_puts [] file size s p = p
+  fit_puts (block ∷ list) file size s p = fit_puts list file size (files.block_put_in file block.0 size block.1 s) (fit_block file block.0 size block.1 s p)
 
   -- what waits is served, where it doesn't matter what waits
-  module _ (calm : (s : Server) (rows : List (FileId × Asked)) → P s → P (record s { waiting = rows })) where
+  module _ (fits : (asked : Asked) (s : Server) → F asked s.versions.files s.shadows) (calm : (s : Server) (rows : List (FileId × Asked)) → P s → P (record s { waiting = rows })) where
     served : (o : Option Asked) (s : Server) → P s → P (waiting.serves_first o s)
-    served (Some asked) s p = serves asked s p
+    served (Some asked) s p = fit_serves asked s (fits asked s) p
     served None s p = p
 
     turned : (file : FileId) (s : Server) → P s → P (waiting.turned file s)
     turned file s p = on_if (files.is_busy file s) s _ (λ busy. p) (λ free. served (waiting.first_about file s.waiting) (record s { waiting = waiting.less_about file s.waiting }) (calm s (waiting.less_about file s.waiting) p))
 
-    pub turns : (count : ℕ) (file : FileId) (s : Server) → P s → P (waiting.turns count file s)
-    turns zero file s p = p
-    turns (suc count) file s p = turned file (waiting.turns count file s) (turns count file s p)
+    pub fit_turns : (count : ℕ) (file : FileId) (s : Server) → P s → P (waiting.turns count file s)
+    fit_turns zero file s p = p
+    fit_turns (suc count) file s p = turned file (waiting.turns count file s) (fit_turns count file s p)
+
+-- ---- of facts that don't see shadows
+
+module _ (P : Server → Type 0) (keeps : Keeps P) where
+  shared_by : (found kept : Bool) (asked : Asked) (r : MoveRequest) (file : FileId) (s : Server) → P s → P (cond found (cond kept (grants.counts_grant r s) (grants.drops_grants asked.from r (grants.counts_grant r s))) (cond kept (grants.shares_first asked r file s) s))
+  shared_by true true asked r file s p = keeps.shares s _ p
+  shared_by true false asked r file s p = keeps.shares s _ p
+  shared_by false true asked r file s p = keeps.says (grants.counts_grant r (grants.keeps_offset asked r file s)) _ (keeps.shares s _ p)
+  shared_by false false asked r file s p = p
+
+  pub shared_plain : (body : Request) (asked : Asked) (file : FileId) (s : Server) → P s → P (shares_of body asked file s)
+  shared_plain (requests.Move r) asked file s p = shared_by (is_some (shadows.offset_of s.shadows r.stream)) r.kept asked r file s p
+  shared_plain body asked file s p = p
+
+  pub fine : KeepsFit Any P
+  fine = record {
+    says = keeps.says;
+    pages = keeps.pages;
+    offsets = λ s stream offset p. keeps.shares s _ p;
+    writes = keeps.writes;
+    makes = keeps.makes;
+    removes = keeps.removes;
+    renames = keeps.renames;
+    creates = keeps.creates;
+    unlinks = keeps.unlinks;
+    forgets = keeps.forgets;
+    waits = keeps.waits;
+    gives = λ s asked file action may about f free e p. shared_plain asked.body asked file (grants.with_decided file action s) (keeps.granted s file action free e p);
+    asks = λ s asked file action call calls may free e p. keeps.asks s asked file action call calls may free e p;
+    closes = λ s asked r file mode e o f free there last p. keeps.shares (closed file asked.from r.stream r.grants s) _ (keeps.closes s file asked.from r.stream r.grants mode free there last p);
+    closes_last = λ s asked r file mode e o f free there last p. keeps.shares (gone file (closed file asked.from r.stream r.grants s)) _ (keeps.closes_last s file asked.from r.stream r.grants mode free there last p);
+  }
+
+  pub grants_by : (body : Request) (asked : Asked) (file : FileId) (grant : Grant) (s : Server) → P s → P (grants.grants_by body asked file grant s)
+  grants_by body asked file grant s p = fit_grants Any P fine body asked file grant s (shared_plain body asked file s p)
+
+  pub serves : (asked : Asked) (s : Server) → P s → P (serving.serves asked s)
+  serves asked s p = fit_serves Any P fine asked s tt p
+
+  pub puts_all : (list : List (BlockNo × List ℕ)) (file : FileId) (size : ℕ) (s : Server) → P s → P (waiting.puts_all file size list s)
+  puts_all list file size s p = fit_puts Any P fine list file size s p
+
+  pub turns : (calm : (s : Server) (rows : List (FileId × Asked)) → P s → P (record s { waiting = rows })) (count : ℕ) (file : FileId) (s : Server) → P s → P (waiting.turns count file s)
+  turns calm count file s p = fit_turns Any P fine (λ asked s. tt) calm count file s p

@@ -298,3 +298,43 @@ none_less p [] e = refl
 none_less p (x ∷ xs) e =
     let parts = first_by (p x) x p xs e refl in
     ap (λ b. cond b xs (x ∷ less p xs)) parts.0 ∙ ap (λ l. x ∷ l) (none_less p xs parts.1)
+
+-- ---- what is found
+
+find_by : {X Y : Type 0} (b : Bool) (x y : X) (f : X → Y) (more rest : Option X) → option_map f more ≡ option_map f rest → option_map f (cond b (Some x) more) ≡ option_map f (cond b (Some x) rest)
+find_by true x y f more rest h = refl
+find_by false x y f more rest h = h
+
+-- one more that doesn't pass is never found
+pub find_other : {X Y : Type 0} (p : X → Bool) (f : X → Y) (xs : List X) (y : X) → p y ≡ false → option_map f (find p (xs ++ y ∷ [])) ≡ option_map f (find p xs)
+find_other p f [] y off = ap (λ b. option_map f (cond b (Some y) None)) off
+find_other p f (x ∷ xs) y off = find_by (p x) x y f (find p (xs ++ y ∷ [])) (find p xs) (find_other p f xs y off)
+
+-- and one that passes is found where none did
+pub find_last : {X Y : Type 0} (p : X → Bool) (f : X → Y) (xs : List X) (y : X) → list_any p xs ≡ false → p y ≡ true → option_map f (find p (xs ++ y ∷ [])) ≡ Some (f y)
+find_last p f [] y none here = ap (λ b. option_map f (cond b (Some y) None)) here
+find_last p f (x ∷ xs) y none here =
+    let parts = first_by (p x) x p xs none refl in
+    ap (λ b. option_map f (cond b (Some x) (find p (xs ++ y ∷ [])))) parts.0 ∙ find_last p f xs y parts.1 here
+
+apart_by : {X Y : Type 0} (b c : Bool) (p q : X → Bool) (f : X → Y) (x : X) (xs : List X) → q x ≡ b → p x ≡ c → (q x ≡ true → p x ≡ false) → option_map f (find p (less q xs)) ≡ option_map f (find p xs) → option_map f (find p (cond b xs (x ∷ less q xs))) ≡ option_map f (cond c (Some x) (find p xs))
+apart_by true true p q f x xs t u apart h = absurd (true≢false (sym u ∙ apart t))
+apart_by true false p q f x xs t u apart h = refl
+apart_by false true p q f x xs t u apart h = ap (λ b. option_map f (cond b (Some x) (find p (less q xs)))) u
+apart_by false false p q f x xs t u apart h = ap (λ b. option_map f (cond b (Some x) (find p (less q xs)))) u ∙ h
+
+-- taking another one out leaves what is found
+pub find_apart : {X Y : Type 0} (p q : X → Bool) (f : X → Y) (xs : List X) → ((x : X) → q x ≡ true → p x ≡ false) → option_map f (find p (less q xs)) ≡ option_map f (find p xs)
+find_apart p q f [] apart = refl
+find_apart p q f (x ∷ xs) apart = apart_by (q x) (p x) p q f x xs refl refl (apart x) (find_apart p q f xs apart)
+
+none_by_test : {X Y : Type 0} (b : Bool) (f : X → Y) (x : X) (rest : Option X) → b ≡ false → option_map f rest ≡ None → option_map f (cond b (Some x) rest) ≡ None
+none_by_test true f x rest e h = absurd (cc)
+none_by_test false f x rest e h = h
+
+-- where none passes, none is found
+pub find_none : {X Y : Type 0} (p : X → Bool) (f : X → Y) (xs : List X) → list_any p xs ≡ false → option_map f (find p xs) ≡ None
+find_none p f [] none = refl
+find_none p f (x ∷ xs) none =
+    let parts = first_by (p x) x p xs none refl in
+    none_by_test (p x) f x (find p xs) parts.0 (find_none p f xs parts.1)

@@ -425,7 +425,7 @@ keeps_names = record {
   forgets = λ s path file e free opens p. forgotten_names (position (directory.has_path path) s.domains) s.domains s.next_file s.unlinked s.store.files s.versions.files path file e p;
   waits = λ s asked file busy p. p;
   granted = λ s file action free e p. put_opens s.domains s.next_file s.unlinked s.store.files s.versions.files file _ (λ some. granted_opens s.versions.cached (files.kept_of file s) action e) (granted_leads s.versions.cached (files.kept_of file s) action e) p;
-  asks = λ s asked file action call calls free e p. calls_all (call ∷ calls) asked (grants.asks asked file (grants.with_decided file action s)) (put_opens s.domains s.next_file s.unlinked s.store.files s.versions.files file _ (λ some. ap is_any (asked_opens s.versions.cached (files.kept_of file s) action call calls e) ∙ p.opens file some) (asked_leads s.versions.cached (files.kept_of file s) action call calls e) p);
+  asks = λ s asked file action call calls may free e p. calls_all (call ∷ calls) asked (grants.asks asked file (grants.with_decided file action s)) (put_opens s.domains s.next_file s.unlinked s.store.files s.versions.files file _ (λ some. ap is_any (asked_opens s.versions.cached (files.kept_of file s) action call calls e) ∙ p.opens file some) (asked_leads s.versions.cached (files.kept_of file s) action call calls e) p);
   closes = λ s file kernel stream many mode free there last p. closing_names (lookup (is_file file) s.versions.files) s.domains s.next_file s.unlinked s.store.files s.versions.files file kernel stream many refl last p;
   closes_last = λ s file kernel stream many mode free there last p. last_names s file kernel stream many (last_parts (tables.is_closed (files.kept_of file s) kernel stream many) (list_any (is_that file) s.unlinked) last) p;
 }

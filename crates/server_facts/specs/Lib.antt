@@ -3,3 +3,4 @@ pub mod Steps
 pub mod Asking
 pub mod Calls
 pub mod Unlinked
+pub mod Shared

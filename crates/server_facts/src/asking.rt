@@ -1,4 +1,4 @@
-ghost use Rattle.server_facts.specs.Asking.{AskingStands};
+ghost use Rattle.server_facts.specs.Asking.{AskingIsAction, AskingStands};
 ghost use Rattle.server_facts.specs.Steps.{AlwaysHolds, BootHas, StepKeeps};
 ghost use Rattle.server_kernel.specs.Facts.{BusyAreWaitedFor, BusyIsAsking};
 
@@ -21,4 +21,9 @@ pub fn busy_is_asking()
 /// A law: and requests wait for busy files alone (this project).
 pub fn busy_is_waited_for()
     ensures { AlwaysHolds BusyAreWaitedFor }
+{}
+
+/// A law: and what waits in the table of opens for callbacks is what the request asks that is kept for that file (this project).
+pub fn asking_is_action()
+    ensures { AlwaysHolds AskingIsAction }
 {}
