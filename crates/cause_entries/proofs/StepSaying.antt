@@ -1,0 +1,328 @@
+-- All deeds of a client's kernel: what a fact of its operations and of what was told bears, each of them keeps, and so each step.
+use Rattle.std.proofs.Common.{◌≡◌, ℕ, Bool, true, false, cond, List, [], ◌∷◌, ◌++◌, map, Option, Some, None, option_map, refl, subst}
+use Rattle.sprite_ids.specs.declared.Errno.{Errno}
+use Rattle.sprite_ids.specs.declared.Errno.TheVariants as errnos
+use Rattle.sprite_ids.specs.declared.TxNo.{TxNo}
+use Rattle.sprite_ids.specs.Lists.{less, without}
+use Rattle.sprite_ids.specs.Pid.{home_of}
+use Rattle.process_machine.specs.declared.Call.TheVariants as kinds_of_calls
+use Rattle.process_machine.specs.declared.Reply.{Reply}
+use Rattle.process_machine.specs.declared.Reply.TheVariants.{Value, Error}
+use Rattle.process_machine.specs.Machine.{Machine}
+use Rattle.packet_bodies.specs.declared.HomeRequest.{HomeRequest}
+use Rattle.packet_bodies.specs.declared.ReplyBody.{ReplyBody}
+use Rattle.packet_bodies.specs.declared.ReplyBody.TheVariants as bodies
+use Rattle.pseudo_device.specs.declared.Answer.{Answer}
+use Rattle.pseudo_device.specs.declared.ask.Ask.{Ask}
+use Rattle.pseudo_device.specs.declared.TakeEnd.{TakeEnd}
+use Rattle.pseudo_device.specs.declared.TakeEnd.TheVariants as takes
+use Rattle.pseudo_device.specs.Device.{Asks, take_refusal, told}
+use Rattle.home_table.specs.Home.{Table}
+use Rattle.kernel_steps.specs.declared.Input.{Input}
+use Rattle.kernel_steps.specs.declared.Input.TheVariants as inputs
+use Rattle.kernel_steps.specs.Outs.{number_after, send_event}
+use Rattle.kernel_steps.specs.Rows.{first_under, is_under}
+use Rattle.unix_calls.specs.declared.About.{About}
+use Rattle.unix_calls.specs.declared.Event.{Event}
+use Rattle.unix_calls.specs.declared.Event.TheVariants as events
+use Rattle.unix_calls.specs.declared.SendKind.TheVariants as sendings
+use Rattle.client_file_tables.specs.declared.client_files.ClientFiles.{ClientFiles}
+use Rattle.client_file_tables.specs.declared.pending.Pending.{Pending}
+use Rattle.client_file_tables.specs.Streams.{cwd_of}
+use Rattle.client_names.specs.Answers as name_answers
+use Rattle.client_homes.specs.declared.client.ClientProcs.{ClientProcs}
+use Rattle.client_homes.specs.declared.process.Proc.{Proc}
+use Rattle.client_homes.specs.declared.process.ProcState.{ProcState}
+use Rattle.client_homes.specs.declared.process.ProcState.TheVariants as states
+use Rattle.client_homes.specs.Births as births
+use Rattle.client_homes.specs.Calls as calling
+use Rattle.client_homes.specs.Ends as ending
+use Rattle.client_homes.specs.Homes as homes
+use Rattle.client_homes.specs.Issuing as issuing
+use Rattle.client_homes.specs.Pages as pages
+use Rattle.client_homes.specs.Procs as procs_of
+use Rattle.client_homes.specs.Says as says
+use Rattle.client_homes.specs.Says.{next_tx, value}
+use Rattle.client_homes.specs.Waits as waiting
+use Rattle.client_devices.specs.Asking as asking
+use Rattle.client_devices.specs.Getting as getting
+use Rattle.client_devices.specs.Making as making
+use Rattle.client_devices.specs.Masters as masters
+use Rattle.client_devices.specs.Tables as tables
+use Rattle.client_moves.specs.Freezing as freezing
+use Rattle.client_moves.specs.Paging as paging
+use Rattle.client_moves.specs.Returning as returning
+use Rattle.client_procs.specs.Issues as issuing_calls
+use Rattle.client_procs.specs.Launching as launching
+use Rattle.client_procs.specs.Steps as stepping
+use Rattle.client_procs.specs.Turning as turning
+use Rattle.client_walks.proofs.Deeds.{Always, Hand, KeepsComings, KeepsDevices, KeepsHomes, KeepsKills, KeepsMoves, nothing}
+use Rattle.call_journal.specs.Calls.{is_unreachable_error}
+use Rattle.cause_entries.proofs.Bearing.{Bears, Parts, is_loud}
+use Rattle.cause_entries.proofs.DataSaying as data_side
+use Rattle.cause_entries.proofs.Deeds.{SaysCalls, SaysFiles, SaysWithin}
+use Rattle.cause_entries.proofs.NameSaying as files_side
+use Rattle.cause_entries.proofs.ReplyLaws.{Safe, born_safe, home_safe, wait_safe}
+use Rattle.cause_entries.proofs.WalkSaying.{says_rounds, says_within}
+
+module _ (MayAsk : Parts → Type 0) (Q : List ℕ → List (ℕ × Pending) → TxNo → List Event → Type 0) (bears : Bears MayAsk Q) (came : Input)
+    (redirected : (tx : TxNo) (source : ℕ) (path : Parts) → came ≡ inputs.Replied tx source (bodies.Redirect path) → MayAsk path)
+    (given_up : (tx : TxNo) (s : ClientFiles) → came ≡ inputs.GaveUp tx → Q s.servers s.pending s.out.next s.out.events → Q (name_answers.gives_up tx s).servers (name_answers.gives_up tx s).pending (name_answers.gives_up tx s).out.next (name_answers.gives_up tx s).out.events)
+    (lawful : (pid number : ℕ) (why : Errno) → came ≡ inputs.Issued pid number (kinds_of_calls.Refused why) → is_unreachable_error (Some why) ≡ false) where
+  abbrev P : ClientProcs → Type 0
+  P s = Q s.files.servers s.files.pending s.files.out.next s.files.out.events
+
+  abbrev Holds : ClientProcs → Hand → Type 0
+  Holds s h = P s
+
+  on_if : (b : Bool) (s t : ClientProcs) → P s → P t → P (cond b s t)
+  on_if true s t p q = p
+  on_if false s t p q = q
+
+  -- What is said
+
+  noted : (event : Event) (s : ClientProcs) → is_loud event ≡ false → P s → P (says.notes event s)
+  noted event s h p = bears.tells s.files.servers s.files.pending s.files.out.next s.files.out.events event h p
+
+  -- one packet went out
+  sent : (to : ℕ) (about : Option About) (s : ClientProcs) → P s → Q s.files.servers s.files.pending (number_after s.files.out.next) (s.files.out.events ++ map (send_event s.files.out.next about sendings.Other) (to ∷ []))
+  sent to about s p = bears.sends s.files.servers s.files.pending s.files.out.next s.files.out.events about sendings.Other (to ∷ []) p
+
+  -- Processes that are changed
+
+  with_kept : (pid : ℕ) (o : Option Proc) (f : Proc → Proc) (s : ClientProcs) → P s → P (procs_of.with_proc pid (option_map f o) s)
+  with_kept pid None f s p = p
+  with_kept pid (Some proc) f s p = p
+
+  in_state : (pid : ℕ) (state : ProcState) (s : ClientProcs) → P s → P (procs_of.in_state pid state s)
+  in_state pid state s p = with_kept pid (procs_of.proc_at pid s) (λ proc. record proc { state = state }) s p
+
+  killed_at : (pid : ℕ) (s : ClientProcs) → P s → P (procs_of.killed_at pid s)
+  killed_at pid s p = with_kept pid (procs_of.proc_at pid s) (λ proc. record proc { killed = true }) s p
+
+  replies : (pid : ℕ) (reply : Reply) (s : ClientProcs) → P s → P (procs_of.replies pid reply s)
+  replies pid reply s p = in_state pid states.Returning s p
+
+  answers_in : (o : Option Proc) (pid : ℕ) (reply : Reply) (s : ClientProcs) → Safe reply → P s → P (procs_of.answers_by pid reply (option_map (procs_of.entry_of pid reply) o) s)
+  answers_in (Some proc) pid reply s h p = replies pid reply (says.notes (events.Enter (procs_of.entry_of pid reply proc)) s) (noted (events.Enter (procs_of.entry_of pid reply proc)) s h p)
+  answers_in None pid reply s h p = p
+
+  answers_here : (pid : ℕ) (reply : Reply) (s : ClientProcs) → Safe reply → P s → P (procs_of.answers_here pid reply s)
+  answers_here pid reply s h p = answers_in (procs_of.proc_at pid s) pid reply s h p
+
+  enters_in : (o : Option Proc) (pid : ℕ) (reply : Reply) (s : ClientProcs) → Safe reply → P s → P (procs_of.enters_if (option_map (procs_of.entry_of pid reply) o) s)
+  enters_in (Some proc) pid reply s h p = noted (events.Enter (procs_of.entry_of pid reply proc)) s h p
+  enters_in None pid reply s h p = p
+
+  enters_own : (pid : ℕ) (reply : Reply) (s : ClientProcs) → Safe reply → P s → P (procs_of.enters_own pid reply s)
+  enters_own pid reply s h p = enters_in (procs_of.proc_at pid s) pid reply s h p
+
+  -- Homes
+
+  enters_home : (request : HomeRequest) (reply : Reply) (s : ClientProcs) → Safe reply → P s → P (waiting.enters_home request reply s)
+  enters_home request reply s h p = noted (events.Enter _) s h p
+
+  waits_if : (o : Option Reply) (request : HomeRequest) (s : ClientProcs) → ((reply : Reply) → o ≡ Some reply → Safe reply) → P s → P (waiting.enters_if request o s)
+  waits_if (Some reply) request s h p = enters_home request reply s (h reply refl) p
+  waits_if None request s h p = p
+
+  home_if : (b : Bool) (table : Table) (s : ClientProcs) → P s → P (cond b (record s { home = table }) s)
+  home_if b table s p = on_if b (record s { home = table }) s p p
+
+  ends : (pid : ℕ) (about : Option About) (s : ClientProcs) → P s → P (ending.ends pid about s)
+  unfolding ending.closes_all
+  ends pid about s p = data_side.kept_close MayAsk Q bears pid _ (procs_of.in_state pid states.Ending s).files (in_state pid states.Ending s p)
+
+  ends_wait : (o : Option TxNo) (pid : ℕ) (reply : Reply) (s : ClientProcs) → P s → P (waiting.ends_wait pid o reply s)
+  ends_wait (Some tx) pid reply s p = p
+  ends_wait None pid reply s p = replies pid reply s p
+
+  fetches : (pid page : ℕ) (s : ClientProcs) → P s → P (pages.fetches pid page s)
+  fetches pid page s p = sent s.swap_server None s p
+
+  with_cwd : (o : Option (List (List ℕ))) (child : ℕ) (s : ClientProcs) → P s → P (births.with_cwd child o s)
+  with_cwd (Some cwd) child s p = files_side.sets_cwd MayAsk Q bears child cwd s.files p
+  with_cwd None child s p = p
+
+  -- Pseudo-devices
+
+  with_device : (o : Option Asks) (device : ℕ) (s : ClientProcs) → P s → P (tables.with_device device o s)
+  with_device (Some asks) device s p = p
+  with_device None device s p = p
+
+  gives_to : (o : Option (Option TxNo)) (pid : ℕ) (reply : Reply) (s : ClientProcs) → P s → P (asking.gives_to pid o reply s)
+  gives_to (Some (Some tx)) pid reply s p = p
+  gives_to (Some None) pid reply s p = replies pid reply s p
+  gives_to None pid reply s p = p
+
+  ends_ask : (ask : Ask) (reply : Reply) (s : ClientProcs) → P s → P (asking.ends_ask ask reply s)
+  ends_ask ask reply s p =
+      let ended : ClientProcs = asking.notes_end ask reply s in
+      gives_to (first_under asking.is_about (asking.about_ask ask) ended.asked) ask.pid reply (record ended { asked = less (is_under asking.is_about (asking.about_ask ask)) ended.asked }) (noted (events.Enter _) s refl p)
+
+  puts_if : (o : Option Answer) (pid device : ℕ) (bytes : List ℕ) (errno : Option Errno) (s : ClientProcs) → P s → P (masters.puts_if pid device bytes errno o s)
+  puts_if (Some answer) pid device bytes errno s p =
+      let put : ClientProcs = tables.puts_at device bytes errno s in
+      let own : ClientProcs = procs_of.enters_own pid (value 0 0) put in
+      replies pid (value 0 0) (asking.ends_ask answer.ask answer.reply own) (ends_ask answer.ask answer.reply own (enters_own pid (value 0 0) put refl (with_device _ device s p)))
+  puts_if None pid device bytes errno s p = answers_here pid (Error errnos.Invalid) (tables.puts_at device bytes errno s) refl (with_device _ device s p)
+
+  serves_by : (o : Option TakeEnd) (asks : List Ask) (device pid : ℕ) (s : ClientProcs) → P s → P (getting.serves_by device pid (tables.taken_by asks o) s)
+  serves_by None [] device pid s p = p
+  serves_by None (ask ∷ asks) device pid s p = answers_here pid (told ask) _ refl p
+  serves_by (Some takes.Busy) asks device pid s p = answers_here pid (Error errnos.Busy) _ refl p
+  serves_by (Some takes.Empty) asks device pid s p = p
+  serves_by (Some takes.Long) asks device pid s p = answers_here pid (Error errnos.Invalid) _ refl p
+  serves_by (Some takes.NoMemory) asks device pid s p = p
+
+  serves_getter : (o : Option Asks) (device pid max : ℕ) (s : ClientProcs) → P s → P (getting.serves_by device pid (tables.taken_at_in max o) s)
+  serves_getter (Some asks) device pid max s p = serves_by (take_refusal asks max) asks.waiting device pid s p
+  serves_getter None device pid max s p = p
+
+  unmakes_if : (o : Option ℕ) (reply : Reply) (s : ClientProcs) → P s → P (making.unmakes_if reply o s)
+  unmakes_if (Some device) (Error errno) s p = p
+  unmakes_if (Some device) (Value first second bytes) s p = p
+  unmakes_if None reply s p = p
+
+  -- Programs, replies and pages
+
+  has_fresh_if : (o : Option Machine) (pid : ℕ) (s : ClientProcs) → P s → P (launching.has_fresh_if pid o s)
+  has_fresh_if (Some image) pid s p = with_kept pid (procs_of.proc_at pid s) (launching.freshened image) s p
+  has_fresh_if None pid s p = p
+
+  notes_return : (o : Option ℕ) (pid : ℕ) (reply : Reply) (s : ClientProcs) → P s → P (returning.notes_return_as pid reply o s)
+  notes_return (Some number) pid reply s p = noted (events.Return pid number reply) s refl p
+  notes_return None pid reply s p = p
+
+  has_page : (body : ReplyBody) (pid page : ℕ) (s : ClientProcs) → P s → P (paging.has_page pid page body s)
+  has_page (bodies.Page bytes) pid page s p = with_kept pid (procs_of.proc_at pid s) (paging.with_page_in page bytes) s p
+  has_page body pid page s p = p
+
+  enters_move : (o : Option About) (pid : ℕ) (s : ClientProcs) → P s → P (freezing.enters_move pid o s)
+  enters_move (Some about) pid s p = enters_own pid (value 0 0) s refl p
+  enters_move None pid s p = p
+
+  -- The deeds
+
+  files : SaysFiles came Always Holds
+  files = record {
+    uses_files = λ s h about call device u p. let used : ClientProcs = procs_of.in_state about.pid states.InFiles s in files_side.issues MayAsk Q bears about call device used.files (in_state about.pid states.InFiles s p);
+    called_back = λ s h tx request u p. files_side.called_back MayAsk Q bears tx request s.files p;
+    answered = λ s h tx source body e owned u p. files_side.answered MayAsk Q bears tx source body s.files (λ path f. redirected tx source path (subst (λ (reply : ReplyBody). came ≡ inputs.Replied tx source reply) f e)) p;
+    gives_up = λ s h tx e u p. given_up tx s.files e p;
+    due_goes = λ s h file block u p. files_side.due_goes MayAsk Q bears file block s.files p;
+    goes_on = λ s h e u p. files_side.goes_on MayAsk Q bears s.files p;
+    takes_report = λ s h report rest e u p. p;
+    takes_reply = λ s h row rest e u p. p;
+  }
+
+  calls : SaysCalls Always Holds
+  calls = record {
+    comes_to = λ s h about call e u p.
+        noted (events.Issue about.pid about.number call) (issuing_calls.comes_to about call s) refl (with_kept about.pid (procs_of.proc_at about.pid s) (issuing_calls.inside about.number call) s p);
+    counts = λ s h u p. p;
+    answers_here = λ s h pid reply safe u p. answers_here pid reply s safe p;
+    replies = λ s h pid reply u p. replies pid reply s p;
+    begins_here = λ s h about program arg u p.
+        let own : ClientProcs = procs_of.enters_own about.pid (value 0 0) s in
+        replies about.pid (value 0 0) (launching.begins_program about.pid program arg own) (has_fresh_if (launching.fresh_image own.programs program arg) about.pid own (enters_own about.pid (value 0 0) s refl p));
+    returns = λ s h pid reply u p. let back : ClientProcs = returning.has_returned pid reply s in notes_return (returning.number_at pid back) pid reply back p;
+    flags_evict = λ s h pid evict u p. with_kept pid (procs_of.proc_at pid s) (λ proc. record proc { evict = evict }) s p;
+    takes_call = λ s h tx u p. p;
+  }
+
+  homes_kept : KeepsHomes Always Holds
+  homes_kept = record {
+    enters_home = λ s h request reply e u p. enters_home request reply s (home_safe request.call request.pid s reply e) p;
+    ticks_for = λ s h request u p. enters_home request (calling.tick_reply s) (homes.ticks s) refl p;
+    forks = λ s h request u p. enters_home request _ (homes.bears request.pid s) (born_safe (homes.born_pid request.pid s)) (home_if (homes.is_native request.pid s) _ s p);
+    waits = λ s h request u p. waits_if (waiting.wait_reply request.pid s) request (homes.waited_at request.pid s) (wait_safe (homes.told_to_wait request.pid s) (homes.is_killed request.pid s)) (home_if (homes.is_native request.pid s) _ s p);
+    kills_living = λ s h request target e u p. enters_home request (value 0 0) (homes.kills_at target s) refl (home_if (homes.is_native target s) _ s p);
+    kills_none = λ s h request target e u p. enters_home request (Error errnos.NoProcess) (homes.kills_at target s) refl (home_if (homes.is_native target s) _ s p);
+    ends_by_exit = λ s h request code u p. let done : ClientProcs = waiting.enters_home request (value 0 0) s in home_if (homes.is_native request.pid done) _ done (enters_home request (value 0 0) s refl p);
+    ends_by_death = λ s h about u p. let done : ClientProcs = says.enters_death about s in home_if (homes.is_native about.pid done) _ done (noted (events.Enter _) s refl p);
+    dies_elsewhere = λ s h about e u p. in_state about.pid (states.Dying (next_tx s)) _ (sent (home_of about.pid) None s p);
+    ends = λ s h pid about u p. ends pid about s p;
+    takes_waiter = λ s h pid u p. p;
+    ends_wait = λ s h pid tx reply u p. ends_wait tx pid reply s p;
+    parks = λ s h pid parked u p. p;
+    parks_here = λ s h request u p. in_state request.pid states.Waiting s p;
+    fetches_for_fork = λ s h pid page u p. in_state pid (states.ForkPages (next_tx s) page) (pages.fetches pid page s) (fetches pid page s p);
+    asks_home = λ s h kernel request e u p. on_if (issuing.is_fork request.call) _ _ (in_state request.pid (states.AtHome (next_tx s)) _ (sent kernel (Some (waiting.about_of request)) s p)) (in_state request.pid (states.AtHome (next_tx s)) _ (sent kernel (Some (waiting.about_of request)) s p));
+    answers = λ s h tx body u p. p;
+    hands_on = λ s h tx o u p. p;
+    forgets_fork = λ s h tx u p. p;
+    forgets_early = λ s h tx u p. p;
+    places_child = λ s h parent child image e u p. let forked : ClientProcs = births.forks_streams parent child s in with_cwd (cwd_of parent forked.files) child forked p;
+    meets_early = λ s h child u p. killed_at child (record s { early = without (is_under procs_of.is_pid child) s.early }) p;
+    lets_go = λ s h pid u p. p;
+  }
+
+  kills_kept : KeepsKills Always Holds
+  kills_kept = record {
+    flags = λ s h pid u p. killed_at pid s p;
+    breaks_off = λ s h pid device max proc e g u p. answers_here pid (Error errnos.Interrupted) _ refl p;
+    notes_kill = λ s h pid kill u p. p;
+    forgets_kill = λ s h pid u p. p;
+    goes_after = λ s h about pid place u p. sent place about s p;
+    hears_here = λ s h tx pid e u p. killed_at pid s p;
+    hears_gone = λ s h tx pid e u p. p;
+    tells_place = λ s h tx pid kernel u p. home_if (homes.is_native pid s) _ s p;
+  }
+
+  devices : KeepsDevices Always Holds
+  devices = record {
+    asks_here = λ s h pid ask u p. noted (events.Enter _) (procs_of.in_state pid (states.InAsk None) s) refl (in_state pid (states.InAsk None) s p);
+    asks_for = λ s h tx ask u p. noted (events.Enter _) s refl p;
+    waits_at = λ s h device ask e u p. with_device _ device s p;
+    ends_ask = λ s h ask reply u p. ends_ask ask reply s p;
+    serves_getter = λ s h device pid e u p. serves_getter (tables.asks_in device s) device pid (getting.max_of pid s) (tables.takes_at device (getting.max_of pid s) s) (with_device _ device s p);
+    sends_ask = λ s h pid request u p. in_state pid (states.InAsk (Some (next_tx s))) _ (sent request.device.kernel (asking.request_about pid request) s p);
+    waits_for_ask = λ s h pid device max u p. in_state pid (states.Getting device max) s p;
+    puts_with = λ s h pid device bytes errno u p. puts_if (tables.answer_at device bytes errno s) pid device bytes errno s p;
+    left_at = λ s h device u p. with_device _ device s p;
+    makes_device = λ s h pid u p. p;
+    ends_making = λ s h pid reply u p. unmakes_if (first_under procs_of.is_pid pid s.making) reply (record s { making = less (is_under procs_of.is_pid pid) s.making }) p;
+  }
+
+  moves : KeepsMoves Always Holds
+  moves = record {
+    freezes = λ s h pid route e u p. enters_move route.about pid (says.notes (events.Freeze pid) s) (noted (events.Freeze pid) s refl p);
+    takes_proc = λ s h pid proc e u p. p;
+    takes_none = λ s h pid e u p. p;
+    takes_ended = λ s h pid u p. p;
+    puts_page = λ s h pid page bytes u p. sent s.swap_server None s p;
+    drops_cwd = λ s h pid u p. p;
+    keeps_leaving = λ s h pid step about u p. p;
+    takes_leaving = λ s h pid found e u p. p;
+    leaves_none = λ s h pid e u p. p;
+    begins_move = λ s h pid one about u p. data_side.kept_move MayAsk Q bears pid _ s.files p;
+    sends_process = λ s h pid sent_one about e u p. sent sent_one.to about s p;
+  }
+
+  comings : KeepsComings Always Holds
+  comings = record {
+    brings = λ s h pid e u p. p;
+    refuses = λ s h pid e u p. p;
+    answers_done = λ s h tx pid u p. p;
+    has_streams = λ s h process streams u p. files_side.arrives MayAsk Q bears process.pid process.cwd streams process.streams s.files p;
+    puts_in = λ s h process fresh u p. p;
+    comes_home = λ s h pid e u p. home_if (homes.is_native pid s) _ s p;
+    thaws = λ s h pid u p. in_state pid states.Ready (says.notes (events.Thaw pid) s) (noted (events.Thaw pid) s refl p);
+    tells_home = λ s h pid moved e u p. in_state pid (states.Arriving (next_tx s) moved) _ (sent (home_of pid) None s p);
+    waits_for_page = λ s h pid page e u p. in_state pid (states.PageWait (next_tx s) page) (pages.fetches pid page s) (fetches pid page s p);
+    has_page = λ s h pid page body u p. has_page body pid page s p;
+    is_ready = λ s h pid u p. in_state pid states.Ready s p;
+    fetches_for_answer = λ s h pid page reply u p. in_state pid (states.AnswerPages (next_tx s) page reply) (pages.fetches pid page s) (fetches pid page s p);
+  }
+
+  within : SaysWithin came Always Holds
+  within = record { files = files; calls = calls; homes = homes_kept; kills = kills_kept; devices = devices; moves = moves; comings = comings }
+
+  -- all that a step does, from its beginning to its end
+  pub goes : (s : ClientProcs) → P s → P (turning.goes_on (stepping.takes came s))
+  goes s p = says_within Holds came within lawful nothing s p
+
+  -- all rounds of a step
+  pub rounds : (s : ClientProcs) → P s → P (turning.goes_on s)
+  rounds s p = says_rounds Holds came within lawful nothing s p

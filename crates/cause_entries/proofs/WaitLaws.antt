@@ -1,0 +1,155 @@
+-- Behind each step of a client: what its name calls wait for was told to go out.
+use Rattle.std.proofs.Common.{◌≡◌, ℕ, zero, suc, Bool, true, false, cond, List, [], ◌∷◌, ◌++◌, map, slice_get, Option, Some, option_map, refl, sym, ap, subst, append_assoc, append-nil}
+use Rattle.std.proofs.lemmas.Bool.{eqb-true}
+use Rattle.std.specs.List.{AllByRecursion, find}
+use Rattle.sprite_ids.specs.declared.Errno.{Errno}
+use Rattle.sprite_ids.specs.declared.TxNo.{TxNo}
+use Rattle.sprite_ids.specs.Lists.{less}
+use Rattle.sprite_ids.proofs.ListLaws.{each_push, each_weaken, some_is}
+use Rattle.process_machine.specs.declared.Call.TheVariants as calls
+use Rattle.kernel_steps.specs.declared.Input.{Input}
+use Rattle.kernel_steps.specs.declared.Input.TheVariants as inputs
+use Rattle.kernel_steps.specs.Outs.{send_event}
+use Rattle.kernel_steps.specs.Rows.{is_under}
+use Rattle.unix_calls.specs.declared.About.{About}
+use Rattle.unix_calls.specs.declared.Event.{Event}
+use Rattle.unix_calls.specs.declared.Event.TheVariants as events
+use Rattle.unix_calls.specs.declared.SendKind.{SendKind}
+use Rattle.unix_calls.specs.declared.SendKind.TheVariants.{Broadcast, Other}
+use Rattle.call_journal.specs.Calls.{is_unreachable_error}
+use Rattle.client_file_tables.specs.declared.pending.Pending.{Pending}
+use Rattle.client_file_tables.specs.declared.pending.Pending.TheVariants as operations
+use Rattle.client_file_tables.specs.declared.states.NameState.{NameState}
+use Rattle.client_file_tables.specs.declared.states.NameState.TheVariants as states
+use Rattle.client_file_tables.specs.Rows.{first_of, less_of, same_pid}
+use Rattle.client_file_tables.specs.Says.{about_of}
+use Rattle.client_procs.specs.Steps.{begins_step}
+use Rattle.cause_entries.specs.Causes.{brings_refused}
+use Rattle.cause_entries.specs.Waits.{ClientsWaitSo, IsTold, OperationWent, RowsWent, WentOut}
+use Rattle.cause_entries.proofs.Bearing.{Bears, Parts, is_plain, waiting_so}
+use Rattle.cause_entries.proofs.NameSaying.{gives_up}
+use Rattle.cause_entries.proofs.StepSaying.{goes}
+
+-- ---- lists
+
+pub got_before : {X : Type 0} (xs ys : List X) (i : ℕ) (x : X) → slice_get xs i ≡ Some x → slice_get (xs ++ ys) i ≡ Some x
+got_before [] ys i x e = absurd (cc)
+got_before (y ∷ xs) ys zero x e = e
+got_before (y ∷ xs) ys (suc i) x e = got_before xs ys i x e
+
+-- something is in a list
+pub record In {X : Type 0} (xs : List X) (x : X) : Type 0 where
+  pub at : ℕ
+  pub there : slice_get xs at ≡ Some x
+
+got_behind : {X : Type 0} (xs ys : List X) (i : ℕ) (x : X) → slice_get ys i ≡ Some x → In (xs ++ ys) x
+got_behind [] ys i x e = record { at = i; there = e }
+got_behind (y ∷ xs) ys i x e = let behind = got_behind xs ys i x e in record { at = suc behind.at; there = behind.there }
+
+got_mapped : {X Y : Type 0} (f : X → Y) (xs : List X) (i : ℕ) (x : X) → slice_get xs i ≡ Some x → slice_get (map f xs) i ≡ Some (f x)
+got_mapped f [] i x e = absurd (cc)
+got_mapped f (y ∷ xs) zero x e = ap (option_map f) e
+got_mapped f (y ∷ xs) (suc i) x e = got_mapped f xs i x e
+
+pub each_less : {X : Type 0} (F : X → Type 0) (p : X → Bool) (xs : List X) → AllByRecursion F xs → AllByRecursion F (less p xs)
+each_less F p [] h = tt
+each_less F p (x ∷ xs) h = elim (p x) as (λ b. AllByRecursion F (cond b xs (x ∷ less p xs))) [ true ↦ h.1 | false ↦ (h.0, each_less F p xs h.1) ]
+
+-- ---- what was told stays told
+
+told_more : (told more : List Event) (event : Event) → IsTold told event → IsTold (told ++ more) event
+told_more told more event h = record { at = h.at; there = got_before told more h.at event h.there }
+
+-- a packet to one of the receivers was told
+sent_told : (told : List Event) (tos : List ℕ) (tx : TxNo) (about : Option About) (kind : SendKind) (at to : ℕ) → slice_get tos at ≡ Some to → IsTold (told ++ map (send_event tx about kind) tos) (events.Send tx to about kind)
+sent_told told tos tx about kind at to e =
+    let behind = got_behind told (map (send_event tx about kind) tos) at (events.Send tx to about kind) (got_mapped (send_event tx about kind) tos at to e) in
+    record { at = behind.at; there = behind.there }
+
+module _ (may : Parts → Bool) where
+  went_more : (state : NameState) (told more : List Event) (servers : List ℕ) (about : About) → WentOut may told servers about state → WentOut may (told ++ more) servers about state
+  went_more (states.Broadcasting tx prefix) told more servers about h = (h.0, λ at to e. told_more told more _ (h.1 at to e))
+  went_more (states.Echoing tx server) told more servers about h = told_more told more _ h
+  went_more (states.Asking tx) told more servers about h = (h.0, told_more told more _ h.1)
+
+  operation_more : (operation : Pending) (told more : List Event) (servers : List ℕ) (pid : ℕ) → OperationWent may told servers pid operation → OperationWent may (told ++ more) servers pid operation
+  operation_more (operations.Name call) told more servers pid h = went_more call.state told more servers (about_of pid call.work.number) h
+  operation_more (operations.Data call) told more servers pid h = tt
+  operation_more (operations.Sync call) told more servers pid h = tt
+  operation_more (operations.Close work) told more servers pid h = tt
+  operation_more (operations.Move work) told more servers pid h = tt
+
+  pub rows_more : (rows : List (ℕ × Pending)) (told more : List Event) (servers : List ℕ) → RowsWent may told servers rows → RowsWent may (told ++ more) servers rows
+  rows_more rows told more servers h = each_weaken (λ (row : ℕ × Pending). OperationWent may told servers row.0 row.1) (λ (row : ℕ × Pending). OperationWent may (told ++ more) servers row.0 row.1) rows (λ row k. operation_more row.1 told more servers row.0 k) h
+
+  -- ---- the operations
+
+  plain_went : (operation : Pending) (told : List Event) (servers : List ℕ) (pid : ℕ) → is_plain operation ≡ true → OperationWent may told servers pid operation
+  plain_went (operations.Name call) told servers pid e = absurd (cc)
+  plain_went (operations.Data call) told servers pid e = tt
+  plain_went (operations.Sync call) told servers pid e = tt
+  plain_went (operations.Close work) told servers pid e = tt
+  plain_went (operations.Move work) told servers pid e = tt
+
+  -- what was found among the operations is so
+  found_by : (b : Bool) (row : ℕ × Pending) (rest : Option (ℕ × Pending)) (told : List Event) (servers : List ℕ) (pid : ℕ) (operation : Pending) → same_pid row.0 pid ≡ b → OperationWent may told servers row.0 row.1
+      → (option_map (λ (row : ℕ × Pending). row.1) rest ≡ Some operation → OperationWent may told servers pid operation)
+      → option_map (λ (row : ℕ × Pending). row.1) (cond b (Some row) rest) ≡ Some operation → OperationWent may told servers pid operation
+  found_by true row rest told servers pid operation is here later e =
+      subst (OperationWent may told servers pid) (some_is row.1 operation e) (subst (λ (n : ℕ). OperationWent may told servers n row.1) (eqb-true row.0 pid is) here)
+  found_by false row rest told servers pid operation is here later e = later e
+
+  found_went : (rows : List (ℕ × Pending)) (told : List Event) (servers : List ℕ) (pid : ℕ) (operation : Pending) → RowsWent may told servers rows → first_of pid rows ≡ Some operation → OperationWent may told servers pid operation
+  found_went [] told servers pid operation h e = absurd (cc)
+  found_went (row ∷ rows) told servers pid operation h e =
+      found_by (same_pid row.0 pid) row (find (is_under same_pid pid) rows) told servers pid operation refl h.0 (found_went rows told servers pid operation h.1) e
+
+  kept_went : (rows : List (ℕ × Pending)) (told : List Event) (servers : List ℕ) (pid : ℕ) (operation : Pending) → OperationWent may told servers pid operation → RowsWent may told servers rows → RowsWent may told servers (rows ++ (pid, operation) ∷ [])
+  kept_went rows told servers pid operation here h = each_push (λ (row : ℕ × Pending). OperationWent may told servers row.0 row.1) rows (pid, operation) h here
+
+  left_went : (rows : List (ℕ × Pending)) (told : List Event) (servers : List ℕ) (pid : ℕ) → RowsWent may told servers rows → RowsWent may told servers (less_of pid rows)
+  left_went rows told servers pid h = each_less (λ (row : ℕ × Pending). OperationWent may told servers row.0 row.1) (is_under same_pid pid) rows h
+
+  -- ---- with what was told before the step
+
+  abbrev Went : List Event → List ℕ → List (ℕ × Pending) → TxNo → List Event → Type 0
+  Went before servers rows next told = RowsWent may (before ++ told) servers rows
+
+  abbrev May : Parts → Type 0
+  May prefix = may prefix ≡ true
+
+  more_went : (before told more : List Event) (servers : List ℕ) (rows : List (ℕ × Pending)) → RowsWent may (before ++ told) servers rows → RowsWent may (before ++ (told ++ more)) servers rows
+  more_went before told more servers rows h = subst (λ (es : List Event). RowsWent may es servers rows) (append_assoc before told more) (rows_more rows (before ++ told) more servers h)
+
+  sent_more : (before told : List Event) (tos : List ℕ) (tx : TxNo) (about : Option About) (kind : SendKind) (at to : ℕ) → slice_get tos at ≡ Some to → IsTold (before ++ (told ++ map (send_event tx about kind) tos)) (events.Send tx to about kind)
+  sent_more before told tos tx about kind at to e = subst (λ (es : List Event). IsTold es (events.Send tx to about kind)) (append_assoc before told _) (sent_told (before ++ told) tos tx about kind at to e)
+
+  pub going : (before : List Event) → May [] → Bears May (Went before)
+  going before root = record {
+    root = root;
+    tells = λ servers rows next told event h q. more_went before told (event ∷ []) servers rows q;
+    sends = λ servers rows next told about kind tos q. more_went before told (map (send_event next about kind) tos) servers rows q;
+    keeps = λ servers rows next told pid operation plain q. kept_went rows (before ++ told) servers pid operation (plain_went operation (before ++ told) servers pid plain) q;
+    puts_back = λ servers rows next told pid operation e q. kept_went (less_of pid rows) (before ++ told) servers pid operation (found_went rows (before ++ told) servers pid operation q e) (left_went rows (before ++ told) servers pid q);
+    left = λ servers rows next told pid q. left_went rows (before ++ told) servers pid q;
+    broadcasts = λ servers rows next told pid work prefix asked q.
+        let more : List Event = map (send_event next (Some (about_of pid work.number)) (Broadcast prefix)) servers in
+        kept_went rows (before ++ (told ++ more)) servers pid (waiting_so work (states.Broadcasting next prefix)) (asked, λ at to e. sent_more before told servers next (Some (about_of pid work.number)) (Broadcast prefix) at to e) (more_went before told more servers rows q);
+    echoes = λ servers rows next told pid work server q.
+        let more : List Event = map (send_event next (Some (about_of pid work.number)) Other) (server ∷ []) in
+        kept_went rows (before ++ (told ++ more)) servers pid (waiting_so work (states.Echoing next server)) (sent_more before told (server ∷ []) next (Some (about_of pid work.number)) Other 0 server refl) (more_went before told more servers rows q);
+    asks = λ servers rows next told pid work server q.
+        let more : List Event = map (send_event next (Some (about_of pid work.number)) Other) (server ∷ []) in
+        kept_went rows (before ++ (told ++ more)) servers pid (waiting_so work (states.Asking next)) (server, sent_more before told (server ∷ []) next (Some (about_of pid work.number)) Other 0 server refl) (more_went before told more servers rows q);
+  }
+
+-- ---- a step
+
+pub lawful_so : (input : Input) → brings_refused input ≡ false → (pid number : ℕ) (why : Errno) → input ≡ inputs.Issued pid number (calls.Refused why) → is_unreachable_error (Some why) ≡ false
+lawful_so input h pid number why e = subst (λ (input : Input). brings_refused input ≡ false) e h
+
+pub clients_wait : ClientsWaitSo
+clients_wait may told s input next step safe root redirected h =
+    goes (May may) (Went may told) (going may told root) input redirected
+    (λ tx t e q. gives_up (May may) (Went may told) (going may told root) (λ servers rows after es entry k. more_went may told es (events.Enter entry ∷ []) servers rows k) tx t q)
+    (lawful_so input safe) (begins_step next step s) (subst (λ (es : List Event). RowsWent may es s.files.servers s.files.pending) (sym (append-nil told)) h)

@@ -1,0 +1,542 @@
+-- The walk through the functions of a client's kernel, for any predicate that minds whether a server is called unreachable.
+use Rattle.std.proofs.Common.{◌≡◌, refl, ℕ, zero, suc, ◌+◌, ◌==◌, Bool, true, false, ◌||◌, not, cond, List, [], ◌∷◌, ◌++◌, length, Option, Some, None}
+use Rattle.std.specs.List.{list_any}
+use Rattle.std.specs.Map.{keys_of}
+use Rattle.sprite_ids.specs.declared.DeviceId.{DeviceId}
+use Rattle.sprite_ids.specs.declared.Errno.{Errno}
+use Rattle.sprite_ids.specs.declared.Errno.TheVariants as errnos
+use Rattle.sprite_ids.specs.declared.Grant.{Grant}
+use Rattle.sprite_ids.specs.declared.Object.{Object}
+use Rattle.sprite_ids.specs.declared.Object.TheVariants as objects
+use Rattle.sprite_ids.specs.declared.TxNo.{TxNo}
+use Rattle.sprite_ids.specs.Lists.{less}
+use Rattle.sprite_ids.specs.Pid.{home_of}
+use Rattle.kernel_steps.specs.declared.Input.{Input}
+use Rattle.kernel_steps.specs.declared.Input.TheVariants as inputs
+use Rattle.kernel_steps.specs.Rows.{first_under, is_under}
+use Rattle.process_machine.specs.declared.Call.{Call}
+use Rattle.process_machine.specs.declared.Call.TheVariants as calls
+use Rattle.process_machine.specs.declared.Reply.{Reply}
+use Rattle.process_machine.specs.declared.Reply.TheVariants.{Error}
+use Rattle.process_machine.specs.Machine.{Machine}
+use Rattle.packet_bodies.specs.declared.AskRequest.{AskRequest}
+use Rattle.packet_bodies.specs.declared.CarriedStream.{CarriedStream}
+use Rattle.packet_bodies.specs.declared.ReplyBody.{ReplyBody}
+use Rattle.packet_bodies.specs.declared.ReplyBody.TheVariants.{Done}
+use Rattle.packet_bodies.specs.declared.Request.{Request}
+use Rattle.packet_bodies.specs.declared.Request.TheVariants as requests
+use Rattle.pseudo_device.specs.declared.ask.Ask.{Ask}
+use Rattle.stream_table.specs.declared.Carried.{Carried}
+use Rattle.stream_table.specs.declared.Place.{Place}
+use Rattle.stream_table.specs.declared.Stream.{Stream}
+use Rattle.unix_calls.specs.declared.About.{About}
+use Rattle.unix_calls.specs.declared.Event.TheVariants.{Freeze, Thaw}
+use Rattle.unix_calls.specs.DeviceCalls.{errno_of}
+use Rattle.unix_calls.specs.Opening.{reads, writes}
+use Rattle.migrate_freeze.specs.declared.arrival.Arrival.{Arrival}
+use Rattle.migrate_freeze.specs.declared.frozen.MoveStep.{MoveStep}
+use Rattle.migrate_freeze.specs.declared.frozen.MoveStep.TheVariants as steps
+use Rattle.migrate_freeze.specs.declared.process.Process.{Process}
+use Rattle.migrate_freeze.specs.Arriving.{launch_arrival, process_with, transfer_arrival}
+use Rattle.migrate_freeze.specs.Moves.{frozen_for, step_of}
+use Rattle.migrate_freeze.specs.OneMove.{OneMove}
+use Rattle.migrate_freeze.specs.Packing.{can_move}
+use Rattle.client_file_tables.specs.declared.moves.Report.{Report}
+use Rattle.client_file_tables.specs.declared.moves.Report.TheVariants as reports
+use Rattle.client_file_tables.specs.Says.{about_of}
+use Rattle.client_file_tables.specs.Steps.{owns}
+use Rattle.client_files.specs.Answered as file_answers
+use Rattle.client_files.specs.Turns as file_turns
+use Rattle.client_homes.specs.declared.client.ClientProcs.{ClientProcs}
+use Rattle.client_homes.specs.declared.client.Leaving.{Leaving}
+use Rattle.client_homes.specs.declared.client.Unfinished.{Unfinished}
+use Rattle.client_homes.specs.declared.client.Unfinished.TheVariants as unfinished
+use Rattle.client_homes.specs.declared.process.Proc.{Proc}
+use Rattle.client_homes.specs.declared.process.ProcState.{ProcState}
+use Rattle.client_homes.specs.declared.process.ProcState.TheVariants as states
+use Rattle.client_homes.specs.Births as births
+use Rattle.client_homes.specs.Homes as homes
+use Rattle.client_homes.specs.Issuing as issuing
+use Rattle.client_homes.specs.Killing as killing
+use Rattle.client_homes.specs.Procs as procs_of
+use Rattle.client_homes.specs.Says as says
+use Rattle.client_homes.specs.Says.{value}
+use Rattle.client_homes.specs.Words as words
+use Rattle.client_devices.specs.Asking as asking
+use Rattle.client_devices.specs.Asks.{carried_ask, packed_ask}
+use Rattle.client_devices.specs.Getting as getting
+use Rattle.client_devices.specs.Making as making
+use Rattle.client_devices.specs.Masters as masters
+use Rattle.client_devices.specs.Opened as opened
+use Rattle.client_devices.specs.Tables as tables
+use Rattle.client_moves.specs.declared.Route.{Route}
+use Rattle.client_moves.specs.Carrying.{all_carried, holds_master}
+use Rattle.client_moves.specs.Evicting as evicting
+use Rattle.client_moves.specs.Freezing as freezing
+use Rattle.client_moves.specs.Leaving as leaving_of
+use Rattle.client_moves.specs.Paging as paging
+use Rattle.client_moves.specs.Returning as returning
+use Rattle.client_procs.specs.Answered as hearing
+use Rattle.client_procs.specs.Arriving as arriving
+use Rattle.client_procs.specs.Issues as issuing_calls
+use Rattle.client_procs.specs.Launching.{fresh_image, program_named}
+use Rattle.client_procs.specs.Moving as moving
+use Rattle.client_procs.specs.Steps as stepping
+use Rattle.client_procs.specs.Turning as turning
+use Rattle.client_facts.proofs.PlaceLaws.{by_bool}
+use Rattle.client_walks.specs.Hands.{Nothing, Coming, Holding, brought, coming_if, heard}
+use Rattle.client_walks.proofs.Deeds.{Always, Hand, holds}
+use Rattle.cause_entries.proofs.Deeds.{SaysWithin, SayingWithin}
+use Rattle.cause_entries.proofs.HomeSaying.{by_deeds}
+use Rattle.call_journal.specs.Calls.{error_in, is_unreachable_error}
+
+module _ (P : ClientProcs → Hand → Type 0) (came : Input) (walk : SayingWithin P came) (lawful : (pid number : ℕ) (why : Errno) → came ≡ inputs.Issued pid number (calls.Refused why) → is_unreachable_error (Some why) ≡ false) (h : Hand) where
+  -- no process is in hand
+  abbrev At : ClientProcs → Type 0
+  At s = P s (holds Nothing h)
+
+  on_if : (hand : Hand) (b : Bool) (s t : ClientProcs) → (b ≡ true → P s hand) → (b ≡ false → P t hand) → P (cond b s t) hand
+  on_if hand true s t f g = f refl
+  on_if hand false s t f g = g refl
+
+  -- Pseudo-devices
+
+  getters_turned : (o : Option ℕ) (device : ℕ) (s : ClientProcs) → getting.first_getter device s ≡ o → At s → At (getting.turned_by device o s)
+  getters_turned (Some pid) device s e p = walk.devices.serves_getter s h device pid e tt p
+  getters_turned None device s e p = p
+
+  getters_turns : (count device : ℕ) (s : ClientProcs) → At s → At (getting.turns count device s)
+  getters_turns zero device s p = p
+  getters_turns (suc count) device s p =
+      let before : ClientProcs = getting.turns count device s in
+      getters_turned (getting.first_getter device before) device before refl (getters_turns count device s p)
+
+  getters_served : (device : ℕ) (s : ClientProcs) → At s → At (getting.serves_getters device s)
+  getters_served device s p = getters_turns (length s.getters) device s p
+
+  entered_by : (device : ℕ) (ask : Ask) (s : ClientProcs) → At s → At (asking.enters_by device ask s)
+  entered_by device ask s p = by_alive (tables.is_alive_at device s) refl
+    where
+      by_alive : (b : Bool) → tables.is_alive_at device s ≡ b → At (cond (not b) (asking.ends_ask ask (Error errnos.NoServer) s) (getting.serves_getters device (tables.waits_at device ask s)))
+      by_alive true e = getters_served device (tables.waits_at device ask s) (walk.devices.waits_at s h device ask e tt p)
+      by_alive false e = walk.devices.ends_ask s h ask (Error errnos.NoServer) tt p
+
+  ask_served : (tx : TxNo) (request : AskRequest) (s : ClientProcs) → At s → At (asking.serves_ask tx request s)
+  ask_served tx request s p = entered_by request.device.number (carried_ask request) (asking.notes_ask (carried_ask request) (Some tx) s) (walk.devices.asks_for s h tx (carried_ask request) tt p)
+
+  sent_if : (o : Option AskRequest) (pid : ℕ) (s : ClientProcs) → At s → At (asking.sends_if pid o s)
+  sent_if (Some request) pid s p = walk.devices.sends_ask s h pid request tt p
+  sent_if None pid s p = walk.calls.answers_here s h pid (Error errnos.Invalid) refl tt p
+
+  asked_by : (o : Option Ask) (pid : ℕ) (device : DeviceId) (s : ClientProcs) → At s → At (asking.asks_by pid device o s)
+  asked_by None pid device s p = walk.calls.answers_here s h pid (Error errnos.Invalid) refl tt p
+  asked_by (Some ask) pid device s p =
+      let inside : ClientProcs = procs_of.in_state pid (states.InAsk None) s in
+      on_if (holds Nothing h) (device.kernel == s.kernel) (asking.enters_ask device.number ask None inside) (asking.sends_if pid (packed_ask ask device) s)
+      (λ e. entered_by device.number ask (asking.notes_ask ask None inside) (walk.devices.asks_here s h pid ask tt p)) (λ e. sent_if (packed_ask ask device) pid s p)
+
+  got_by : (pid device max : ℕ) (s : ClientProcs) → At s → At (masters.waits_for_ask pid device max s)
+  got_by pid device max s p = getters_served device (record (procs_of.in_state pid (states.Getting device max) s) { getters = s.getters ++ (device, pid) ∷ [] }) (walk.devices.waits_for_ask s h pid device max tt p)
+
+  error_put : (o : Option Errno) (pid device : ℕ) (bytes : List ℕ) (s : ClientProcs) → At s → At (masters.puts_error pid device bytes o s)
+  error_put (Some errno) pid device bytes s p = walk.devices.puts_with s h pid device bytes (Some errno) tt p
+  error_put None pid device bytes s p = walk.calls.answers_here s h pid (Error errnos.Invalid) refl tt p
+
+  put_to : (pid device : ℕ) (bytes : List ℕ) (number : ℕ) (s : ClientProcs) → At s → At (masters.puts_to pid device bytes number s)
+  put_to pid device bytes number s p =
+      on_if (holds Nothing h) (number == 0) (masters.puts_with pid device bytes None s) (masters.puts_error pid device bytes (errno_of number) s) (λ e. walk.devices.puts_with s h pid device bytes None tt p) (λ e. error_put (errno_of number) pid device bytes s p)
+
+  asks_ended : (asks : List Ask) (s : ClientProcs) → At s → At (making.ends_all asks s)
+  asks_ended [] s p = p
+  asks_ended (ask ∷ asks) s p = asks_ended asks (asking.ends_ask ask (Error errnos.NoServer) s) (walk.devices.ends_ask s h ask (Error errnos.NoServer) tt p)
+
+  master_closed : (device : ℕ) (s : ClientProcs) → At s → At (making.closes_master device s)
+  master_closed device s p = asks_ended (tables.asks_at device s) (tables.left_at device s) (walk.devices.left_at s h device tt p)
+
+  -- Processes that leave
+
+  move_begun : (pid : ℕ) (one : OneMove) (about : Option About) (s : ClientProcs) → P s (holds (Holding pid) h) → P (leaving_of.begins_if pid one about s) (holds (Holding pid) h)
+  move_begun pid one about s p =
+      on_if (holds (Holding pid) h) (not (list_any (is_under procs_of.is_pid pid) s.files.pending)) (leaving_of.begins_move pid one about s) s (λ e. walk.moves.begins_move s h pid one about tt p) (λ e. p)
+
+  left_as : (step : MoveStep) (pid : ℕ) (about : Option About) (s : ClientProcs) → P s (holds (Holding pid) h) → At (leaving_of.leaves_as pid step about s)
+  left_as (steps.Moving one) pid about s p = walk.moves.keeps_leaving (leaving_of.begins_if pid one about s) h pid (steps.Moving one) about tt (move_begun pid one about s p)
+  left_as (steps.Sent sent) pid about s p =
+      on_if (holds Nothing h) (list_any (leaving_of.is_page_out pid) s.unfinished) (leaving_of.keeps_leaving pid (steps.Sent sent) about s) (leaving_of.sends_process sent about s)
+      (λ e. walk.moves.keeps_leaving s h pid (steps.Sent sent) about tt p) (λ e. walk.moves.sends_process s h pid sent about e tt p)
+
+  left_if : (o : Option Leaving) (pid : ℕ) (s : ClientProcs) → leaving_of.leaving_at pid s ≡ o → At s → At (leaving_of.leaves_if pid o (leaving_of.takes_leaving pid s))
+  left_if None pid s e p = walk.moves.leaves_none s h pid e tt p
+  left_if (Some found) pid s e p = left_as found.step pid found.about (leaving_of.takes_leaving pid s) (walk.moves.takes_leaving s h pid found e tt p)
+
+  left_on : (pid : ℕ) (s : ClientProcs) → At s → At (leaving_of.leaves_on pid s)
+  left_on pid s p = left_if (leaving_of.leaving_at pid s) pid s refl p
+
+  moved_if : (o : Option Leaving) (pid : ℕ) (place : Place) (grant : Option Grant) (many : ℕ) (s : ClientProcs) → leaving_of.leaving_at pid s ≡ o → At s → At (leaving_of.notes_move_if pid o place grant many (leaving_of.takes_leaving pid s))
+  moved_if None pid place grant many s e p = walk.moves.leaves_none s h pid e tt p
+  moved_if (Some found) pid place grant many s e p =
+      walk.moves.keeps_leaving (leaving_of.takes_leaving pid s) h pid (leaving_of.moved_step place grant many found.step) found.about tt (walk.moves.takes_leaving s h pid found e tt p)
+
+  stream_moved : (pid : ℕ) (place : Place) (grant : Option Grant) (many : ℕ) (s : ClientProcs) → At s → At (leaving_of.has_moved pid place grant many s)
+  stream_moved pid place grant many s p =
+      left_on pid (leaving_of.notes_move_if pid (leaving_of.leaving_at pid s) place grant many (leaving_of.takes_leaving pid s)) (moved_if (leaving_of.leaving_at pid s) pid place grant many s refl p)
+
+  pages_put : (pages : List (ℕ × List ℕ)) (pid : ℕ) (s : ClientProcs) → P s (holds (Holding pid) h) → P (freezing.puts_pages pid pages s) (holds (Holding pid) h)
+  pages_put [] pid s p = p
+  pages_put (page ∷ pages) pid s p = pages_put pages pid (freezing.puts_page pid page.0 page.1 s) (walk.moves.puts_page s h pid page.0 page.1 tt p)
+
+  sent_off : (pid : ℕ) (proc : Proc) (route : Route) (streams : List Carried) (s : ClientProcs) → P s (holds (Holding pid) h) → At (freezing.sends_off pid proc route streams s)
+  sent_off pid proc route streams s p =
+      let process : Process = freezing.process_of pid proc route streams s in
+      let dropped : ClientProcs = freezing.drops_cwd pid s in
+      let step : MoveStep = step_of (frozen_for process route.to route.program) in
+      left_on pid (leaving_of.keeps_leaving pid step route.about dropped) (walk.moves.keeps_leaving dropped h pid step route.about tt (walk.moves.drops_cwd s h pid tt p))
+
+  put_out_if : (o : Option Proc) (pid : ℕ) (route : Route) (streams : List Carried) (s : ClientProcs) → procs_of.proc_at pid s ≡ o → At s → At (freezing.puts_out_if pid o route streams (freezing.takes_proc pid s))
+  put_out_if None pid route streams s e p = walk.moves.takes_none s h pid e tt p
+  put_out_if (Some proc) pid route streams s e p =
+      let pages : List (ℕ × List ℕ) = freezing.pages_for route.program proc.image in
+      let taken : ClientProcs = freezing.takes_proc pid s in
+      sent_off pid (freezing.without_pages route.program proc) route streams (freezing.puts_pages pid pages taken) (pages_put pages pid taken (walk.moves.takes_proc s h pid proc e tt p))
+
+  frozen : (pid : ℕ) (route : Route) (s : ClientProcs) → At s → At (freezing.freezes pid route s)
+  frozen pid route s p = by_test (can_move (all_carried pid s)) refl
+    where
+      by_test : (b : Bool) → can_move (all_carried pid s) ≡ b → At (cond (not b) s (freezing.freezes_with pid route (all_carried pid s) s))
+      by_test false e = p
+      by_test true e =
+          let entered : ClientProcs = freezing.enters_move pid route.about (says.notes (Freeze pid) s) in
+          put_out_if (procs_of.proc_at pid entered) pid route (all_carried pid s) entered refl (walk.moves.freezes s h pid route e tt p)
+
+  -- Calls that return
+
+  evicted : (pid : ℕ) (s : ClientProcs) → At s → At (returning.is_evicted pid s)
+  evicted pid s p =
+      let stays : ClientProcs = returning.with_evict false pid s in
+      let route : Route = record { to = home_of pid; about = None; program = None } in
+      on_if (holds Nothing h) (holds_master pid stays) stays (freezing.freezes pid route stays) (λ e. walk.calls.flags_evict s h pid false tt p) (λ e. frozen pid route stays (walk.calls.flags_evict s h pid false tt p))
+
+  between_by : (o : Option Proc) (pid : ℕ) (s : ClientProcs) → At s → At (returning.goes_between_as pid (returning.standing_if o) s)
+  between_by None pid s p = p
+  between_by (Some proc) pid s p =
+      by_bool (λ standing. returning.goes_between_as pid standing s) At proc.killed _ _
+      (λ _. walk.home.dies s h pid p)
+      (λ _. by_bool (λ standing. returning.goes_between_as pid standing s) At proc.evict _ _ (λ _. evicted pid s p) (λ _. p))
+
+  gone_between : (pid : ℕ) (s : ClientProcs) → At s → At (returning.goes_between pid s)
+  gone_between pid s p = between_by (procs_of.proc_at pid s) pid s p
+
+  finished : (pid : ℕ) (reply : Reply) (s : ClientProcs) → At s → At (returning.finishes_call pid reply s)
+  finished pid reply s p =
+      let made : ClientProcs = making.ends_making pid reply s in
+      gone_between pid (returning.notes_return pid reply (returning.has_returned pid reply made)) (walk.calls.returns made h pid reply tt (walk.devices.ends_making s h pid reply tt p))
+
+  -- Evictions
+
+  evicts_one : (pid : ℕ) (s : ClientProcs) → At s → At (evicting.evicts pid s)
+  evicts_one pid s p =
+      let flagged : ClientProcs = returning.with_evict true pid s in
+      let so : At flagged = walk.calls.flags_evict s h pid true tt p in
+      on_if (holds Nothing h) ((home_of pid == s.kernel) || not (evicting.runs_here pid s)) s (evicting.leaves_if_ready pid flagged) (λ e. p)
+      (λ e. on_if (holds Nothing h) (not (evicting.is_ready pid flagged)) flagged (returning.goes_between pid flagged) (λ f. so) (λ f. gone_between pid flagged so))
+
+  evicts_each : (pids : List ℕ) (s : ClientProcs) → At s → At (evicting.evicts_all pids s)
+  evicts_each [] s p = p
+  evicts_each (pid ∷ pids) s p = evicts_each pids (evicting.evicts pid s) (evicts_one pid s p)
+
+  counted : (s : ClientProcs) → At s → At (evicting.counts_issue s)
+  counted s p =
+      let more : ClientProcs = record s { issues = s.issues + 1 } in
+      let so : At more = walk.calls.counts s h tt p in
+      on_if (holds Nothing h) (not (evicting.is_due more)) more (evicting.evicts_all (keys_of more.procs) more) (λ e. so) (λ e. evicts_each (keys_of more.procs) more so)
+
+  -- Pages
+
+  answered_if : (o : Option ℕ) (pid : ℕ) (reply : Reply) (s : ClientProcs) → At s → At (paging.answers_if pid reply o s)
+  answered_if (Some page) pid reply s p = walk.comings.fetches_for_answer s h pid page reply tt p
+  answered_if None pid reply s p = walk.calls.replies s h pid reply tt p
+
+  answered_kept : (o : Option Reply) (pid : ℕ) (s : ClientProcs) → At s → At (paging.answers_kept pid o s)
+  answered_kept (Some reply) pid s p = answered_if (paging.page_named pid s) pid reply s p
+  answered_kept None pid s p = p
+
+  page_needed : (pid page : ℕ) (s : ClientProcs) → At s → At (paging.needs_page pid page s)
+  page_needed pid page s p = by_test (paging.lacks pid page s) refl
+    where
+      by_test : (b : Bool) → paging.lacks pid page s ≡ b → At (cond (not b) s (paging.waits_for_page pid page s))
+      by_test true e = walk.comings.waits_for_page s h pid page e tt p
+      by_test false e = p
+
+  came_in : (state : ProcState) (pid : ℕ) (tx : TxNo) (body : ReplyBody) (s : ClientProcs) → At s → At (paging.page_comes_for pid body (paging.page_in tx state) s)
+  came_in (states.PageWait known page) pid tx body s p =
+      let put : ClientProcs = paging.has_page pid page body s in
+      by_bool (λ what. paging.page_comes_for pid body what s) At (known.0 == tx.0) _ _
+      (λ _. gone_between pid (procs_of.in_state pid states.Ready put) (walk.comings.is_ready put h pid tt (walk.comings.has_page s h pid page body tt p))) (λ _. p)
+  came_in (states.ForkPages known page) pid tx body s p =
+      let put : ClientProcs = paging.has_page pid page body s in
+      by_bool (λ what. paging.page_comes_for pid body what s) At (known.0 == tx.0) _ _ (λ _. walk.home.issues put h pid (walk.comings.has_page s h pid page body tt p)) (λ _. p)
+  came_in (states.AnswerPages known page reply) pid tx body s p =
+      let put : ClientProcs = paging.has_page pid page body s in
+      by_bool (λ what. paging.page_comes_for pid body what s) At (known.0 == tx.0) _ _ (λ _. answered_kept (paging.kept_reply pid put) pid put (walk.comings.has_page s h pid page body tt p)) (λ _. p)
+  came_in state pid tx body s p = p
+
+  came_by : (o : Option Proc) (pid : ℕ) (tx : TxNo) (body : ReplyBody) (s : ClientProcs) → At s → At (paging.page_comes_for pid body (paging.page_of_proc tx o) s)
+  came_by (Some proc) pid tx body s p = came_in proc.state pid tx body s p
+  came_by None pid tx body s p = p
+
+  -- Processes that come
+
+  went_on : (moved : Bool) (pid : ℕ) (s : ClientProcs) → At s → At (arriving.goes_on_by pid moved s)
+  went_on false pid s p = gone_between pid s p
+  went_on true pid s p =
+      on_if (holds Nothing h) (arriving.is_fresh pid s) (procs_of.replies pid (value 0 0) s) (paging.answers_with_pages pid (value 0 0) s)
+      (λ e. walk.calls.replies s h pid (value 0 0) tt p) (λ e. answered_if (paging.page_named pid s) pid (value 0 0) s p)
+
+  thawed : (pid : ℕ) (moved : Bool) (s : ClientProcs) → At s → At (arriving.thaws pid moved s)
+  thawed pid moved s p = went_on moved pid (procs_of.in_state pid states.Ready (says.notes (Thaw pid) s)) (walk.comings.thaws s h pid tt p)
+
+  came_home : (pid : ℕ) (moved : Bool) (s : ClientProcs) → homes.is_native pid s ≡ true → At s → At (arriving.comes_home pid moved s)
+  came_home pid moved s e p =
+      let there : ClientProcs = homes.moves_to pid s.kernel s in
+      let forgot : ClientProcs = killing.forgets_waiting pid there in
+      let so : At forgot = walk.home.forgets_waiting there h pid (walk.comings.comes_home s h pid e tt p) in
+      thawed pid moved (arriving.knows_kill pid forgot) (on_if (holds Nothing h) (homes.is_killed pid forgot) (procs_of.killed_at pid forgot) forgot (λ f. walk.home.flags forgot h pid so) (λ f. so))
+
+  was_settled : (pid : ℕ) (moved : Bool) (s : ClientProcs) → At s → At (arriving.is_settled pid moved s)
+  unfolding arriving.is_settled
+  was_settled pid moved s p =
+      on_if (holds Nothing h) (homes.is_native pid s) (arriving.comes_home pid moved s) (arriving.tells_home pid moved s) (λ e. came_home pid moved s e p) (λ e. walk.comings.tells_home s h pid moved e tt p)
+
+  installed : (process : Process) (fresh : Bool) (streams : List CarriedStream) (s : ClientProcs) → P s (holds (Holding process.pid) h) → At (arriving.installs (record { process = process; fresh = fresh }) streams s)
+  installed process fresh streams s p =
+      let opened : ClientProcs = arriving.has_streams process streams s in
+      was_settled process.pid process.moving (births.puts_proc process.pid (arriving.arrived_proc process fresh) opened) (walk.comings.puts_in opened h process fresh tt (walk.comings.has_streams s h process streams tt p))
+
+  launched : (o : Option Machine) (arrival : Arrival) (program : ℕ) (streams : List CarriedStream) (s : ClientProcs) → P s (holds (Holding arrival.pid) h) → At (arriving.installs_if (arriving.launched_with arrival program o) streams s)
+  launched None arrival program streams s p = walk.home.lets_go s h arrival.pid p
+  launched (Some image) arrival program streams s p =
+      by_bool (λ come. arriving.installs_if come streams s) At (not (image.number == program)) _ _ (λ _. walk.home.lets_go s h arrival.pid p) (λ _. installed (process_with arrival image) true streams s p)
+
+  -- where the kernel doesn't know it
+  taken_as : (b : Bool) (pid : ℕ) (s t : ClientProcs) → arriving.is_new pid s ≡ b → (P s (holds (Holding pid) h) → At t) → P s (holds (Coming pid) h) → At (cond (not b) s t)
+  taken_as true pid s t e goes p = goes (walk.comings.brings s h pid e tt p)
+  taken_as false pid s t e goes p = walk.comings.refuses s h pid e tt p
+
+  arrived : (body : Request) (tx : TxNo) (s : ClientProcs) → P s (holds (coming_if (arriving.brought body)) h) → At (arriving.arrives tx body s)
+  arrived (requests.Transfer request) tx s p =
+      let told : ClientProcs = says.answers tx Done s in
+      taken_as (arriving.is_new request.pid s) request.pid s _ refl
+      (λ held. installed (process_with (transfer_arrival request) request.image) false request.streams told (walk.comings.answers_done s h tx request.pid tt held)) p
+  arrived (requests.Launch request) tx s p =
+      let told : ClientProcs = says.answers tx Done s in
+      taken_as (arriving.is_new request.pid s) request.pid s _ refl
+      (λ held. launched (fresh_image s.programs request.program 0) (launch_arrival request) request.program request.streams told (walk.comings.answers_done s h tx request.pid tt held)) p
+  arrived body tx s p = p
+
+  place_heard : (o : Option Bool) (pid : ℕ) (s : ClientProcs) → At s → At (arriving.thaws_if pid o s)
+  place_heard (Some moved) pid s p = thawed pid moved s p
+  place_heard None pid s p = p
+
+  -- Calls that processes come to
+
+  answers : (about : About) (reply : Reply) (s : ClientProcs) → is_unreachable_error (error_in (Some reply)) ≡ false → At s → At (procs_of.answers_here about.pid reply s)
+  answers about reply s safe p = walk.calls.answers_here s h about.pid reply safe tt p
+
+  executed : (o : Option ℕ) (about : About) (arg : ℕ) (s : ClientProcs) → At s → At (moving.execs_as about arg o s)
+  executed (Some program) about arg s p = walk.calls.begins_here s h about program arg tt p
+  executed None about arg s p = answers about (Error errnos.NoEntry) s refl p
+
+  stayed : (o : Option ℕ) (about : About) (s : ClientProcs) → At s → At (moving.stays about o s)
+  stayed (Some program) about s p = walk.calls.begins_here s h about program 0 tt p
+  stayed None about s p = answers about (value 0 0) s refl p
+
+  gone_if : (o : Option ℕ) (about : About) (program : Option ℕ) (s : ClientProcs) → At s → At (moving.goes_if about program o s)
+  gone_if None about program s p = answers about (Error errnos.BadHost) s refl p
+  gone_if (Some to) about program s p =
+      let route : Route = record { to = to; about = Some about; program = program } in
+      on_if (holds Nothing h) (holds_master about.pid s) (procs_of.answers_here about.pid (Error errnos.Busy) s) _ (λ e. answers about (Error errnos.Busy) s refl p)
+      (λ e. on_if (holds Nothing h) (to == s.kernel) (moving.stays about program s) (freezing.freezes about.pid route s) (λ f. stayed program about s p) (λ f. frozen about.pid route s p))
+
+  migrated : (about : About) (host : List ℕ) (program : Option ℕ) (s : ClientProcs) → At s → At (moving.moves_to_host about host program s)
+  migrated about host program s p = gone_if (moving.client_named s.kernels host) about program s p
+
+  sent_to_run : (o : Option ℕ) (about : About) (host : List ℕ) (s : ClientProcs) → At s → At (moving.rexecs_as about host o s)
+  sent_to_run (Some program) about host s p = migrated about host (Some program) s p
+  sent_to_run None about host s p = answers about (Error errnos.NoEntry) s refl p
+
+  -- a read, write or command: of a pseudo-device, else of a file
+  used_device : (allowed : Bool) (device : DeviceId) (about : About) (call : Call) (s : ClientProcs) → At s → At (issuing_calls.uses_by (asking.is_used_by (asking.device_aim device allowed)) about call (asking.uses_by about.pid (asking.device_aim device allowed) s))
+  used_device true device about call s p = asked_by (asking.own_ask about.pid s) about.pid device s p
+  used_device false device about call s p = answers about (Error errnos.BadMode) s refl p
+
+  used_object : (object : Object) (allowed : Bool) (about : About) (call : Call) (s : ClientProcs) → At s → At (issuing_calls.uses_by (asking.is_used_by (asking.data_aim object allowed)) about call (asking.uses_by about.pid (asking.data_aim object allowed) s))
+  used_object (objects.Device device) allowed about call s p = used_device allowed device about call s p
+  used_object (objects.File file) allowed about call s p = walk.files.uses_files s h about call None tt p
+  used_object (objects.Master device) allowed about call s p = walk.files.uses_files s h about call None tt p
+
+  used_read : (o : Option Stream) (about : About) (call : Call) (s : ClientProcs) → At s → At (issuing_calls.uses_by (asking.is_used_by (asking.read_aim o)) about call (asking.uses_by about.pid (asking.read_aim o) s))
+  used_read (Some stream) about call s p = used_object stream.object (reads stream.mode) about call s p
+  used_read None about call s p = walk.files.uses_files s h about call None tt p
+
+  used_write : (o : Option Stream) (about : About) (call : Call) (s : ClientProcs) → At s → At (issuing_calls.uses_by (asking.is_used_by (asking.write_aim o)) about call (asking.uses_by about.pid (asking.write_aim o) s))
+  used_write (Some stream) about call s p = used_object stream.object (writes stream.mode) about call s p
+  used_write None about call s p = walk.files.uses_files s h about call None tt p
+
+  commanded : (object : Object) (about : About) (call : Call) (s : ClientProcs) → At s → At (issuing_calls.uses_by (asking.is_used_by (asking.command_on object)) about call (asking.uses_by about.pid (asking.command_on object) s))
+  commanded (objects.Device device) about call s p = asked_by (asking.own_ask about.pid s) about.pid device s p
+  commanded (objects.File file) about call s p = answers about (Error errnos.Invalid) s refl p
+  commanded (objects.Master device) about call s p = answers about (Error errnos.BadMode) s refl p
+
+  used_command : (o : Option Stream) (about : About) (call : Call) (s : ClientProcs) → At s → At (issuing_calls.uses_by (asking.is_used_by (asking.command_aim o)) about call (asking.uses_by about.pid (asking.command_aim o) s))
+  used_command (Some stream) about call s p = commanded stream.object about call s p
+  used_command None about call s p = answers about (Error errnos.BadFd) s refl p
+
+  -- what masters do
+  got_object : (object : Object) (pid max : ℕ) (s : ClientProcs) → At s → At (masters.gets_by pid max (masters.master_in object) s)
+  got_object (objects.Master device) pid max s p = got_by pid device.number (masters.most max) s p
+  got_object (objects.File file) pid max s p = walk.calls.answers_here s h pid (Error errnos.BadMode) refl tt p
+  got_object (objects.Device device) pid max s p = walk.calls.answers_here s h pid (Error errnos.BadMode) refl tt p
+
+  got_if : (o : Option Object) (pid max : ℕ) (s : ClientProcs) → At s → At (masters.gets_by pid max (masters.master_by o) s)
+  got_if (Some object) pid max s p = got_object object pid max s p
+  got_if None pid max s p = walk.calls.answers_here s h pid (Error errnos.BadFd) refl tt p
+
+  put_object : (object : Object) (pid : ℕ) (bytes : List ℕ) (number : ℕ) (s : ClientProcs) → At s → At (masters.puts_by pid bytes number (masters.master_in object) s)
+  put_object (objects.Master device) pid bytes number s p = put_to pid device.number bytes number s p
+  put_object (objects.File file) pid bytes number s p = walk.calls.answers_here s h pid (Error errnos.BadMode) refl tt p
+  put_object (objects.Device device) pid bytes number s p = walk.calls.answers_here s h pid (Error errnos.BadMode) refl tt p
+
+  put_if : (o : Option Object) (pid : ℕ) (bytes : List ℕ) (number : ℕ) (s : ClientProcs) → At s → At (masters.puts_by pid bytes number (masters.master_by o) s)
+  put_if (Some object) pid bytes number s p = put_object object pid bytes number s p
+  put_if None pid bytes number s p = walk.calls.answers_here s h pid (Error errnos.BadFd) refl tt p
+
+  -- the call's first step
+  begun_other : (call : Call) (about : About) (s : ClientProcs) → At s → At (issuing_calls.begins_other about call s)
+  begun_other call about s p =
+      on_if (holds Nothing h) (issuing_calls.is_of_home call) (issuing.issues_home about.pid s) (issuing_calls.uses_files about call None s) (λ e. walk.home.issues s h about.pid p) (λ e. walk.files.uses_files s h about call None tt p)
+
+  begun : (call : Call) (about : About) (s : ClientProcs) → came ≡ inputs.Issued about.pid about.number call → At s → At (issuing_calls.begins about call s)
+  begun (calls.Read fd many) about s e p = used_read (opened.stream_at about.pid fd s) about (calls.Read fd many) s p
+  begun (calls.Write fd bytes) about s e p = used_write (opened.stream_at about.pid fd s) about (calls.Write fd bytes) s p
+  begun (calls.Ioctl fd command bytes) about s e p = used_command (opened.stream_at about.pid fd s) about (calls.Ioctl fd command bytes) s p
+  begun (calls.PdMake path) about s e p = walk.files.uses_files (making.makes_device about.pid s) h about (calls.PdMake path) (Some (making.next_device s)) tt (walk.devices.makes_device s h about.pid tt p)
+  begun (calls.PdGet fd max) about s e p = got_if (opened.object_at about.pid fd s) about.pid max s p
+  begun (calls.PdPut fd bytes errno) about s e p = put_if (opened.object_at about.pid fd s) about.pid bytes errno s p
+  begun (calls.Exec name arg) about s e p = executed (program_named s.programs name) about arg s p
+  begun (calls.Migrate name) about s e p = migrated about name None s p
+  begun (calls.Rexec name host) about s e p = sent_to_run (program_named s.programs name) about host s p
+  begun calls.Getpid about s e p = answers about (value about.pid 0) s refl p
+  begun (calls.Refused errno) about s e p = answers about (Error errno) s (lawful about.pid about.number errno e) p
+  begun call about s e p = begun_other call about s p
+
+  issued : (about : About) (call : Call) (s : ClientProcs) → came ≡ inputs.Issued about.pid about.number call → At s → At (issuing_calls.issues about call s)
+  issued about call s is p = by_test (issuing_calls.is_next about s) refl
+    where
+      by_test : (b : Bool) → issuing_calls.is_next about s ≡ b → At (cond (not b) s (issuing_calls.issues_next about call s))
+      by_test false e = p
+      by_test true e =
+          let come : ClientProcs = issuing_calls.notes_issue about call (issuing_calls.comes_to about call s) in
+          begun call about (evicting.counts_issue come) is (counted come (walk.calls.comes_to s h about call e tt p))
+
+  -- What comes
+
+  served : (body : Request) (tx : TxNo) (source : ℕ) (s : ClientProcs) → came ≡ inputs.Request tx source body → P s (holds (coming_if (arriving.brought body)) h) → At (hearing.serves tx body s)
+  served (requests.Callback request) tx source s e p = walk.files.called_back s h tx request tt p
+  served (requests.Home request) tx source s e p = walk.home.serves s h tx source request e p
+  served (requests.Transfer request) tx source s e p = arrived (requests.Transfer request) tx s p
+  served (requests.Launch request) tx source s e p = arrived (requests.Launch request) tx s p
+  served (requests.Place pid kernel) tx source s e p = walk.home.tells_place s h tx pid kernel p
+  served (requests.Killed pid) tx source s e p = walk.home.hears_kill s h tx pid p
+  served (requests.Ask request) tx source s e p = ask_served tx request s p
+  served body tx source s e p = p
+
+  heard_for : (call : Unfinished) (tx : TxNo) (body : ReplyBody) (s : ClientProcs) → P s (holds (heard (Some call) body s) h) → At (hearing.hears_for tx call body s)
+  heard_for (unfinished.PageOut pid) tx body s p = left_on pid s p
+  heard_for (unfinished.PageIn pid) tx body s p = came_by (procs_of.proc_at pid s) pid tx body s p
+  heard_for (unfinished.Home pid) tx body s p = walk.home.hears s h tx pid body p
+  heard_for (unfinished.Ask pid) tx body s p = walk.calls.replies s h pid (words.reply_of body) tt p
+  heard_for (unfinished.Death pid) tx body s p = walk.home.ends s h pid None p
+  heard_for (unfinished.Place pid) tx body s p = place_heard (arriving.arriving pid s) pid s p
+  heard_for (unfinished.Killed pid) tx body s p = walk.home.kill_replied s h pid body p
+  heard_for (unfinished.Transfer pid) tx body s p = p
+
+  heard_if : (o : Option Unfinished) (tx : TxNo) (body : ReplyBody) (s : ClientProcs) → P s (holds (heard o body s) h) → At (hearing.hears_if tx o body s)
+  heard_if (Some call) tx body s p = heard_for call tx body s p
+  heard_if None tx body s p = p
+
+  -- the call is heard; what is in hand doesn't depend on it
+  call_taken : (o : Option Unfinished) (tx : TxNo) (body : ReplyBody) (s : ClientProcs) → P s (holds (heard o body s) h) → P (record s { unfinished = less (is_under procs_of.is_call tx) s.unfinished }) (holds (heard o body (record s { unfinished = less (is_under procs_of.is_call tx) s.unfinished })) h)
+  call_taken None tx body s p = walk.calls.takes_call s (holds Nothing h) tx tt p
+  call_taken (Some (unfinished.Home pid)) tx body s p = walk.calls.takes_call s (holds (heard (Some (unfinished.Home pid)) body s) h) tx tt p
+  call_taken (Some call) tx body s p = walk.calls.takes_call s (holds Nothing h) tx tt p
+
+  -- an answer to a remote call of the processes' side
+  walk_heard : (tx : TxNo) (body : ReplyBody) (s : ClientProcs) → P s (holds (heard (first_under procs_of.is_call tx s.unfinished) body s) h) → At (hearing.hears_own tx body s)
+  walk_heard tx body s p =
+      let call = first_under procs_of.is_call tx s.unfinished in
+      heard_if call tx body (record s { unfinished = less (is_under procs_of.is_call tx) s.unfinished }) (call_taken call tx body s p)
+
+  replied : (b : Bool) (tx : TxNo) (source : ℕ) (body : ReplyBody) (s : ClientProcs) → came ≡ inputs.Replied tx source body → owns tx s.files ≡ b → P s (holds (cond b Nothing (heard (first_under procs_of.is_call tx s.unfinished) body s)) h) → At (cond b (says.with_files (file_answers.answered tx source body s.files) s) (hearing.hears_own tx body s))
+  replied true tx source body s is e p = walk.files.answered s h tx source body is e tt p
+  replied false tx source body s is e p = walk_heard tx body s p
+
+  taken : (input : Input) (s : ClientProcs) → came ≡ input → P s (holds (brought input s) h) → At (stepping.takes input s)
+  taken (inputs.Issued pid number call) s e p = issued (about_of pid number) call s e p
+  taken (inputs.Request tx source body) s e p = served body tx source s e p
+  taken (inputs.Replied tx source body) s e p = replied (owns tx s.files) tx source body s e refl p
+  taken (inputs.GaveUp tx) s e p = walk.files.gives_up s h tx e tt p
+  taken (inputs.Due file block) s e p = walk.files.due_goes s h file block tt p
+  taken (inputs.PageNeeded pid page) s e p = page_needed pid page s p
+
+  -- Rounds
+
+  report_taken : (report : Report) (s : ClientProcs) → At s → At (turning.takes_report report s)
+  report_taken (reports.Moved pid place grant many) s p = stream_moved pid place grant many s p
+  report_taken (reports.MasterClosed device) s p = master_closed device.number s p
+  report_taken (reports.AllClosed pid) s p = walk.moves.takes_ended s h pid tt p
+
+  reports_first : (list : List Report) (s : ClientProcs) → s.files.results ≡ list → At s → At (turning.takes_of list s)
+  reports_first [] s e p = p
+  reports_first (report ∷ rest) s e p = report_taken report (record s { files = record s.files { results = rest } }) (walk.files.takes_report s h report rest e tt p)
+
+  reports_taken : (count : ℕ) (s : ClientProcs) → At s → At (turning.takes_turns count s)
+  reports_taken zero s p = p
+  reports_taken (suc count) s p = let before : ClientProcs = turning.takes_turns count s in reports_first before.files.results before refl (reports_taken count s p)
+
+  replies_first : (rows : List (ℕ × Reply)) (s : ClientProcs) → s.files.out.replies ≡ rows → At s → At (turning.gives_of rows s)
+  replies_first [] s e p = p
+  replies_first (row ∷ rest) s e p =
+      finished row.0 row.1 (record s { files = record s.files { out = record s.files.out { replies = rest } } }) (walk.files.takes_reply s h row rest e tt p)
+
+  replies_given : (count : ℕ) (s : ClientProcs) → At s → At (turning.gives_turns count s)
+  replies_given zero s p = p
+  replies_given (suc count) s p = let before : ClientProcs = turning.gives_turns count s in replies_first before.files.out.replies before refl (replies_given count s p)
+
+  turned : (s : ClientProcs) → At s → At (turning.turned s)
+  turned s p =
+      let ran : ClientProcs = record s { files = file_turns.goes_on s.files } in
+      let given : ClientProcs = turning.gives_all ran in
+      on_if (holds Nothing h) (turning.is_quiet s) s (turning.takes_all given) (λ e. p)
+      (λ e. reports_taken (length given.files.results) given (replies_given (length ran.procs) ran (walk.files.goes_on s h e tt p)))
+
+  rounds : (count : ℕ) (s : ClientProcs) → At s → At (turning.turns count s)
+  rounds zero s p = p
+  rounds (suc count) s p = turned (turning.turns count s) (rounds count s p)
+
+  -- what each part of the walk keeps, all rounds keep
+  walk_rounds : (s : ClientProcs) → At s → At (turning.goes_on s)
+  walk_rounds s p = rounds (turning.rounds_for s) s p
+
+  -- and all that is done within a step, with what came in hand at first
+  walk_within : (s : ClientProcs) → P s (holds (brought came s) h) → At (turning.goes_on (stepping.takes came s))
+  walk_within s p = walk_rounds (stepping.takes came s) (taken came s refl p)
+
+-- what each deed keeps, all that a step does keeps, from its beginning to its end, with what its input brings in hand at first
+pub says_within : (P : ClientProcs → Hand → Type 0) (came : Input) → SaysWithin came Always P → ((pid number : ℕ) (why : Errno) → came ≡ inputs.Issued pid number (calls.Refused why) → is_unreachable_error (Some why) ≡ false)
+    → (h : Hand) (s : ClientProcs) → P s (holds (brought came s) h) → P (turning.goes_on (stepping.takes came s)) (holds Nothing h)
+says_within P came says lawful h s p = walk_within P came (by_deeds P came says) lawful h s p
+
+-- and so do all rounds of a step
+pub says_rounds : (P : ClientProcs → Hand → Type 0) (came : Input) → SaysWithin came Always P → ((pid number : ℕ) (why : Errno) → came ≡ inputs.Issued pid number (calls.Refused why) → is_unreachable_error (Some why) ≡ false)
+    → (h : Hand) (s : ClientProcs) → P s (holds Nothing h) → P (turning.goes_on s) (holds Nothing h)
+says_rounds P came says lawful h s p = walk_rounds P came (by_deeds P came says) lawful h s p

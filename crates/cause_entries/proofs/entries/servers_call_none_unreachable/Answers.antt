@@ -1,0 +1,5 @@
+use Rattle.cause_entries.proofs.CauseLaws.{servers_call}
+use Rattle.cause_entries.proofs.entries.servers_call_none_unreachable.Goals as goal
+
+pub returns : goal.returns
+returns c = servers_call

@@ -1,0 +1,4 @@
+pub mod TreeLinks
+pub mod DomainLinks
+pub mod ServerLinks
+pub mod BootLinks
