@@ -15,6 +15,7 @@ use Rattle.kernel_steps.specs.declared.Input.TheVariants as inputs
 use Rattle.unix_calls.specs.declared.Description.{Description}
 use Rattle.unix_calls.specs.declared.KernelLine.{KernelLine}
 use Rattle.server_kernel.specs.declared.Server.{Server}
+use Rattle.server_kernel.specs.Boot as booting
 use Rattle.cluster_wire.specs.Arriving.{copy_to}
 use Rattle.cluster_wire.specs.Firing.{may_fire}
 use Rattle.cluster_wire.specs.declared.Arrived.{Arrived}
@@ -35,7 +36,7 @@ use Rattle.cluster_bursts.specs.declared.BurstOutcome.{BurstOutcome}
 use Rattle.cluster_bursts.specs.declared.BurstOutcome.TheVariants as outcome
 use Rattle.cluster_bursts.specs.declared.Job.{Job}
 use Rattle.cluster_bursts.specs.Bursts.{EndsAs, GoesOn, begun_by, came_to, job_at, recorded}
-use Rattle.sprite_cluster.specs.Reached.{At}
+use Rattle.sprite_cluster.specs.Reached.{At, Reached}
 use Rattle.sprite_cluster.specs.Steps.{begun_turn}
 use Rattle.sprite_cluster.proofs.ReachedLaws.{Lasts, lasts_on}
 use Rattle.server_facts.specs.Calls.{BusyStands}
@@ -129,10 +130,14 @@ module _ (Fact : Server → Type 0) (steps : StepKeeps Fact) where
 
 -- ---- the boot
 
-module _ (Fact : Server → Type 0) (boots : BootHas Fact) (c : Description) where
+-- each server of that description has the fact as it begins
+abbrev pub BeginsWith : Description → (Server → Type 0) → Type 0
+BeginsWith c Fact = (kernel : ℕ) (s : Server) → booting.boots c kernel ≡ Some s → Fact s
+
+module _ (Fact : Server → Type 0) (c : Description) (boots : BeginsWith c Fact) where
   booted_one : (paths : List Path) (kernel : ℕ) (state : KernelState) → IsKernel c kernel paths state → OfServer Fact state
   booted_one [] kernel state e = subst (OfServer Fact) (sym e) tt
-  booted_one (path ∷ paths) kernel (kernels.Server made) e = boots c kernel made e
+  booted_one (path ∷ paths) kernel (kernels.Server made) e = boots kernel made e
   booted_one (path ∷ paths) kernel (kernels.Client made) e = absurd e
 
   booted : (lines : List KernelLine) (states : List KernelState) (kernel : ℕ) → AreKernels c kernel lines states → AllByRecursion (OfServer Fact) states
@@ -143,10 +148,10 @@ module _ (Fact : Server → Type 0) (boots : BootHas Fact) (c : Description) whe
 
 -- ---- each reached cluster
 
-module _ {L : Type 0} (faults asked : L → ℕ → ℕ → ℕ) (Fact : Server → Type 0) (steps : StepKeeps Fact) (boots : BootHas Fact) where
-  lasts : (c : Description) (begun : L) → Lasts faults asked c begun (λ (at : At L). All Fact steps at.state)
-  lasts c begun = record {
-    begins = λ first b. booted Fact boots c c.kernels first.state.kernels 1 b.boots.kernels_are;
+module _ {L : Type 0} (faults asked : L → ℕ → ℕ → ℕ) (Fact : Server → Type 0) (steps : StepKeeps Fact) (c : Description) (boots : BeginsWith c Fact) where
+  lasts : (begun : L) → Lasts faults asked c begun (λ (at : At L). All Fact steps at.state)
+  lasts begun = record {
+    begins = λ first b. booted Fact c boots c.kernels first.state.kernels 1 b.boots.kernels_are;
     chose = λ kernel choice old now reached goes h. same Fact steps goes.changes.turn now.state (ap (λ (s : State). s.kernels) goes.changes.stands)
         (happened Fact steps faults asked c kernel choice old.wire now.wire (begun_turn old.state) goes.changes.turn goes.changes.happens h);
     began = λ kernel old now reached goes h. subst (All Fact steps) (sym goes.changes.begun) (begun_all Fact steps (job_at c kernel old.state) kernel old.state h);
@@ -155,10 +160,14 @@ module _ {L : Type 0} (faults asked : L → ℕ → ℕ → ℕ) (Fact : Server 
     lost = λ kernel b old now reached goes h. ended Fact steps faults asked c kernel goes.changes.ends.what b old.wire now.wire (begun_turn old.state) now.state goes.changes.ends.ends h;
   }
 
-  -- each server of a reached cluster has what its steps keep
-  pub servers_have : ServersHave faults asked Fact
-  servers_have c begun now kernel server reached e =
-      each_get (OfServer Fact) now.state.kernels (kernel - 1) (kernels.Server server) (lasts_on faults asked c begun (λ (at : At L). All Fact steps at.state) now (lasts c begun) reached) e
+  -- each server of a reached cluster of that description has what its steps keep
+  pub servers_of_have : (begun : L) (now : At L) (kernel : ℕ) (server : Server) → Reached faults asked c begun now → kernel_at kernel now.state ≡ Some (kernels.Server server) → Fact server
+  servers_of_have begun now kernel server reached e =
+      each_get (OfServer Fact) now.state.kernels (kernel - 1) (kernels.Server server) (lasts_on faults asked c begun (λ (at : At L). All Fact steps at.state) now (lasts begun) reached) e
+
+-- and so of any description
+pub servers_have : {L : Type 0} (faults asked : L → ℕ → ℕ → ℕ) (Fact : Server → Type 0) → StepKeeps Fact → BootHas Fact → ServersHave faults asked Fact
+servers_have faults asked Fact steps boots c begun now kernel server reached e = servers_of_have faults asked Fact steps c (boots c) begun now kernel server reached e
 
 pub files_busy : {L : Type 0} (faults asked : L → ℕ → ℕ → ℕ) → FilesAreBusy faults asked
 files_busy faults asked c begun now kernel server reached e =
