@@ -8,19 +8,17 @@ use Rattle.unix_calls.specs.declared.entry.Part.{Part}
 use Rattle.unix_calls.specs.declared.entry.Part.TheVariants as part
 use Rattle.field_reader.specs.Reads.{found, made, ends_word}
 use Rattle.history_text.specs.Formats.{IsFormat}
-use Rattle.history_text.specs.Entries.{answered, asked, Told, told_shape, told_rows, told, entry, entry_line}
+use Rattle.history_text.specs.Entries.{answered, asked, Told, told_shape, told_rows, told, entry}
 use Rattle.history_text.proofs.FormatLaws.{EndsWords, parted_is, then_is, followed_is, made_of_is, named_is, name_again, IsRow, row_is, bare_row_is}
 use Rattle.history_text.proofs.NumberLaws.{number32_is, pid_is}
 use Rattle.history_text.proofs.CallLaws.{call_is, reply_is}
+use Rattle.history_text.proofs.ListingLaws.{ReadsNoEnd}
 
 arrow_ends : EndsWords (codes " -> ")
 arrow_ends rest = refl
 
 dash_ends : EndsWords (codes " -> -")
 dash_ends rest = refl
-
-pub line_ends : EndsWords (codes "\n")
-line_ends rest = refl
 
 answered_is : IsFormat answered
 answered_is = parted_is (codes " -> ") arrow_ends call_is reply_is
@@ -63,5 +61,6 @@ entry_is = made_of_is (then_is pid_is (then_is number32_is told_is))
     (λ e. (e.pid, (e.number, (e.part, (e.call, e.reply)))))
     (λ e. refl) (λ p. refl)
 
-pub line_is : IsFormat entry_line
-line_is = followed_is (codes "\n") line_ends entry_is
+-- no entry is read where a history may end
+pub no_entry_ends : ReadsNoEnd entry
+no_entry_ends = record { nothing = refl; budget = refl; stalled = refl }

@@ -1,11 +1,11 @@
 -- What a printed history is, and what printing and reading one answer.
-use Rattle.std.specs.Prelude.{codes, ◌≡◌, ◌≢◌, ℕ, ◌+◌, Bool, true, false, ◌||◌, List, [], ◌++◌, length, take, slice_get, Some}
+use Rattle.std.specs.Prelude.{◌≡◌, ℕ, ◌+◌, false, List, take, slice_get, Some}
 use Rattle.std.specs.List.{flat_map, AllByRecursion}
 use Rattle.unix_calls.specs.declared.entry.Entry.{Entry}
 use Rattle.history_text.specs.declared.history_error.HistoryError.{HistoryError}
 use Rattle.history_text.specs.declared.history_error.HistoryError.TheVariants.{Line, NoMemory}
-use Rattle.history_text.specs.Formats.{same}
 use Rattle.history_text.specs.Entries.{entry_line, is_together}
+use Rattle.history_text.specs.Listings.{IsFirstOther, IsListing}
 
 -- an entry that has a line: its parts belong together, and its numbers and bytes are in their ranges
 abbrev pub HasLine : Entry → Type 0
@@ -38,27 +38,13 @@ TellsUnprinted entries NoMemory = Unit {0}
 
 -- ---- reading
 
--- nothing, or the one line that may stand behind a history: why the run stopped
-abbrev pub is_end : List ℕ → Bool
-is_end rest = same rest [] || same rest (codes "budget\n") || same rest (codes "stalled\n")
-
 -- the text is the print of these entries, apart from one last line `budget` or `stalled`
-pub record IsHistory (text : List ℕ) (entries : List Entry) : Type 0 where
-  pub rest : List ℕ
-  pub parts : text ≡ history_of entries ++ rest
-  pub have_lines : AllByRecursion HasLine entries
-  pub ends : is_end rest ≡ true
+abbrev pub IsHistory : List ℕ → List Entry → Type 0
+IsHistory text entries = IsListing entry_line text entries
 
--- the line of that number, counted from 1, is the first that is no entry's: those before are the lines of entries, and
--- what stands behind them doesn't begin with a line of an entry and isn't the end of a history
-pub record IsFirstBad (text : List ℕ) (number : ℕ) : Type 0 where
-  pub entries : List Entry
-  pub rest : List ℕ
-  pub parts : text ≡ history_of entries ++ rest
-  pub have_lines : AllByRecursion HasLine entries
-  pub counted : number ≡ length entries + 1
-  pub bad : (e : Entry) (behind : List ℕ) → HasLine e → rest ≢ line_of e ++ behind
-  pub goes_on : is_end rest ≡ false
+-- the line of that number, counted from 1, is the first that is no entry's
+abbrev pub IsFirstBad : List ℕ → ℕ → Type 0
+IsFirstBad text number = IsFirstOther entry_line text number
 
 -- why no history was read
 abbrev pub TellsBad : List ℕ → HistoryError → Type 0

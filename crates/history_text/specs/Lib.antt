@@ -4,5 +4,6 @@ pub mod Puts
 pub mod Texts
 pub mod Calls
 pub mod Entries
+pub mod Listings
 pub mod Histories
 pub mod Laws

@@ -1,6 +1,7 @@
 ghost use Rattle.std.specs.Prelude.{◌≡◌, IfOk, IfErr};
 ghost use Rattle.std.specs.List.{AllByRecursion};
-ghost use Rattle.history_text.specs.Histories.{HasLine, history_of, IsHistory, TellsBad, TellsUnprinted, is_end};
+ghost use Rattle.history_text.specs.Histories.{HasLine, history_of, IsHistory, TellsBad, TellsUnprinted};
+ghost use Rattle.history_text.specs.Listings.{is_end};
 
 use crate::entry::{put_line, read_line};
 use crate::history_error::HistoryError;

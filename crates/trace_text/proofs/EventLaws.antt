@@ -8,13 +8,14 @@ use Rattle.field_reader.specs.Reads.{found, made, ends_word}
 use Rattle.history_text.specs.Formats.{IsFormat, ◌then◌}
 use Rattle.history_text.specs.Numbers.{number32, pid}
 use Rattle.history_text.specs.Calls.{call_format, reply_format}
-use Rattle.history_text.proofs.FormatLaws.{then_is, followed_is, made_of_is, named_is, IsRow, row_is}
+use Rattle.history_text.proofs.FormatLaws.{then_is, made_of_is, named_is, IsRow, row_is}
 use Rattle.history_text.proofs.NumberLaws.{number32_is, pid_is}
 use Rattle.history_text.proofs.CallLaws.{call_is, reply_is}
-use Rattle.history_text.proofs.EntryLaws.{entry_is, line_ends}
+use Rattle.history_text.proofs.EntryLaws.{entry_is}
+use Rattle.history_text.proofs.ListingLaws.{ReadsNoEnd}
 use Rattle.trace_text.specs.Fields.{kernel, block, transaction, file, stream, prefix_format, about_if_any, truth, fate_format, cache_format, mode_format, callback_format, cause_format, kind_format}
 use Rattle.trace_text.specs.Events.{event_shape, event_rows, event_format}
-use Rattle.trace_text.specs.Traces.{record_format, record_line}
+use Rattle.trace_text.specs.Traces.{record_format}
 use Rattle.trace_text.proofs.FieldLaws.{kernel_is, block_is, transaction_is, file_is, stream_is, prefix_is, about_if_any_is, truth_is, fate_is, cache_is, mode_is, callback_is, cause_is, file_block_is, kind_is}
 
 fault_is : IsFormat (kernel then kernel then fate_format)
@@ -154,5 +155,6 @@ event_is = named_is event_shape event_rows event_again event_rows_are
 pub record_is : IsFormat record_format
 record_is = made_of_is (then_is kernel_is event_is) (λ p. record { kernel = p.0; event = p.1 }) (λ r. (r.kernel, r.event)) (λ r. refl) (λ p. refl)
 
-pub line_is : IsFormat record_line
-line_is = followed_is (codes "\n") line_ends record_is
+-- no record is read where a trace may end
+pub no_record_ends : ReadsNoEnd record_format
+no_record_ends = record { nothing = refl; budget = refl; stalled = refl }

@@ -2,4 +2,3 @@ pub mod ToldLaws
 pub mod FieldLaws
 pub mod EventLaws
 pub mod LineLaws
-pub mod TraceLaws

@@ -1,9 +1,9 @@
 -- How a trace is printed, a line for each record, and what reading it answers.
-use Rattle.std.specs.Prelude.{codes, ◌≡◌, ◌≢◌, ℕ, ◌+◌, false, true, List, ◌++◌, length}
-use Rattle.std.specs.List.{flat_map, AllByRecursion}
+use Rattle.std.specs.Prelude.{codes, ℕ, List}
+use Rattle.std.specs.List.{flat_map}
 use Rattle.unix_calls.specs.declared.event.Rec.{Rec}
 use Rattle.history_text.specs.Formats.{Format, ◌then◌, made_of, followed}
-use Rattle.history_text.specs.Histories.{is_end}
+use Rattle.history_text.specs.Listings.{IsFirstOther, IsListing}
 use Rattle.trace_text.specs.declared.trace_error.TraceError.{TraceError}
 use Rattle.trace_text.specs.declared.trace_error.TraceError.TheVariants.{Line, NoMemory}
 use Rattle.trace_text.specs.Fields.{kernel}
@@ -32,22 +32,12 @@ trace_of records = flat_map line_of records
 -- ---- reading
 
 -- the text is the print of these records, apart from one last line `budget` or `stalled`
-pub record IsTrace (text : List ℕ) (records : List Rec) : Type 0 where
-  pub rest : List ℕ
-  pub parts : text ≡ trace_of records ++ rest
-  pub have_lines : AllByRecursion HasLine records
-  pub ends : is_end rest ≡ true
+abbrev pub IsTrace : List ℕ → List Rec → Type 0
+IsTrace text records = IsListing record_line text records
 
--- the line of that number, counted from 1, is the first that is no record's: those before are the lines of records, and
--- what stands behind them doesn't begin with a line of a record and isn't the end of a trace
-pub record IsFirstBad (text : List ℕ) (number : ℕ) : Type 0 where
-  pub records : List Rec
-  pub rest : List ℕ
-  pub parts : text ≡ trace_of records ++ rest
-  pub have_lines : AllByRecursion HasLine records
-  pub counted : number ≡ length records + 1
-  pub bad : (r : Rec) (behind : List ℕ) → HasLine r → rest ≢ line_of r ++ behind
-  pub goes_on : is_end rest ≡ false
+-- the line of that number, counted from 1, is the first that is no record's
+abbrev pub IsFirstBad : List ℕ → ℕ → Type 0
+IsFirstBad text number = IsFirstOther record_line text number
 
 -- why no trace was read
 abbrev pub TellsBad : List ℕ → TraceError → Type 0

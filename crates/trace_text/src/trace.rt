@@ -1,6 +1,6 @@
 ghost use Rattle.std.specs.Prelude.{◌≡◌, ◌++◌, IfOk, IfErr, OnOk};
 ghost use Rattle.field_reader.specs.Reads.{Takes};
-ghost use Rattle.history_text.specs.Histories.{is_end};
+ghost use Rattle.history_text.specs.Listings.{is_end};
 ghost use Rattle.trace_text.specs.Traces.{IsTrace, TellsBad, line_of, record_line, trace_of};
 
 use crate::event::{put_event, read_event};

@@ -1,5 +1,6 @@
-use Rattle.history_text.proofs.HistoryLaws.{printed_is}
+use Rattle.history_text.proofs.ListingLaws.{printed_is}
+use Rattle.history_text.specs.Entries.{entry}
 use Rattle.history_text.proofs.laws.printed_is_history.Goals as goal
 
 pub returns : goal.returns
-returns c = printed_is
+returns c = printed_is entry
