@@ -1,20 +1,16 @@
 -- What a text comes to that is to hold a cluster file and a history.
-use Rattle.std.specs.Prelude.{◌≡◌, ℕ, ◌-◌, true, false, List, take, Some, None}
+use Rattle.std.specs.Prelude.{◌≡◌, ℕ, ◌-◌, true, false, List, take, None}
 use Rattle.unix_calls.specs.declared.description.Description.{Description}
 use Rattle.unix_calls.specs.declared.entry.Entry.{Entry}
 use Rattle.unix_calls.specs.After.{legal}
-use Rattle.cluster_file.specs.Clusters.{Describes, Refuses}
 use Rattle.history_text.specs.Histories.{IsHistory, IsFirstBad}
 use Rattle.one_kernel.specs.declared.verdict.Verdict.{Verdict}
 use Rattle.one_kernel.specs.declared.verdict.Verdict.TheVariants as verdict
 use Rattle.one_kernel.specs.Verdicts.{verdict_of}
 use Rattle.history_check.specs.declared.judgement.Judgement.{Judgement}
 use Rattle.history_check.specs.declared.judgement.Judgement.TheVariants as judgement
+use Rattle.parted_text.specs.Parted.{HasCluster, HasRefusal, most_instructions}
 use Rattle.text_lines.specs.Parts.{parts_of}
-
--- how many instructions the processes of a history may do in all
-unfoldable pub most_instructions : ℕ
-most_instructions = 1000000000
 
 -- what a verdict tells of a history
 abbrev pub Tells : Verdict → Description → List Entry → Type 0
@@ -35,26 +31,15 @@ BodyComesTo cluster body (judgement.BadLine number) = IsFirstBad body number
 BodyComesTo cluster body (judgement.Judged verdict) = IsJudgedBody cluster body verdict
 BodyComesTo cluster body _ = ⊥
 
--- a file describes a cluster, for which the body comes to that
-pub record IsDescribed (file body : List ℕ) (judgement : Judgement) : Type 0 where
+-- a text describes a cluster, for which what stands behind it comes to that
+pub record IsDescribed (text : List ℕ) (judgement : Judgement) : Type 0 where
   pub cluster : Description
-  pub describes : Describes file cluster
+  pub body : List ℕ
+  pub has : HasCluster text cluster body
   pub comes_to : BodyComesTo cluster body judgement
 
--- what a cluster file and a body come to: the file has a refusal, or it describes a cluster
-abbrev pub FileComesTo : List ℕ → List ℕ → Judgement → Type 0
-FileComesTo file body judgement.NoHistory = ⊥
-FileComesTo file body (judgement.Refused refusal) = Refuses file refusal
-FileComesTo file body other = IsDescribed file body other
-
--- a text has two parts, which come to that
-pub record IsParted (text : List ℕ) (judgement : Judgement) : Type 0 where
-  pub file : List ℕ
-  pub body : List ℕ
-  pub parts : parts_of text ≡ Some (file, body)
-  pub comes_to : FileComesTo file body judgement
-
--- what a text comes to: it has no line `=====`, or two parts
+-- what a text comes to: it has no line `=====`, its cluster file has a refusal, or it describes a cluster
 abbrev pub ComesTo : List ℕ → Judgement → Type 0
 ComesTo text judgement.NoHistory = parts_of text ≡ None
-ComesTo text other = IsParted text other
+ComesTo text (judgement.Refused refusal) = HasRefusal text refusal
+ComesTo text other = IsDescribed text other

@@ -1,19 +1,14 @@
-ghost use Rattle.std.specs.Prelude.{◌≡◌, IfOk, Some};
+ghost use Rattle.std.specs.Prelude.{IfOk};
 ghost use Rattle.unix_calls.specs.Lawful.{Lawful};
-ghost use Rattle.text_lines.specs.Parts.{parts_of};
-ghost use Rattle.history_check.specs.Judged.{BodyComesTo, ComesTo, FileComesTo};
+ghost use Rattle.history_check.specs.Judged.{BodyComesTo, ComesTo};
 
 use crate::judgement::Judgement;
-use cluster_file::{FileEnd, read_description};
 use history_text::{HistoryError, read_history};
 use one_kernel::check;
+use parted_text::{MOST_INSTRUCTIONS, PartsEnd, read_parts};
 use sprite_ids::NoMemory;
 use std::alloc::Global;
-use text_lines::parts_of;
 use unix_calls::Description;
-
-/// How many instructions the processes of a history may do in all, up to the calls of its entries (this project).
-pub const MOST_INSTRUCTIONS: u64 = 1_000_000_000;
 
 /// Judges a text that is to hold a cluster file, a line `=====` and a printed history (this project).
 ///
@@ -24,20 +19,11 @@ pub const MOST_INSTRUCTIONS: u64 = 1_000_000_000;
 pub fn judge(alloc: Global, text: &[u8]) -> Result<Judgement, NoMemory>
     ensures { IfOk result (ComesTo text.now) }
 {
-    match parts_of(text) {
-        Some((file, body)) => judge_file(alloc, file, body),
-        None => Ok(Judgement::NoHistory),
-    }
-}
-
-// Judges a cluster file and a history.
-fn judge_file(alloc: Global, file: &[u8], body: &[u8]) -> Result<Judgement, NoMemory>
-    ensures { IfOk result (FileComesTo file.now body.now) }
-{
-    match read_description(alloc, file) {
-        Ok(cluster) => judge_body(alloc, &cluster, body),
-        Err(FileEnd::Refused(refusal)) => Ok(Judgement::Refused(refusal)),
-        Err(FileEnd::NoMemory) => Err(NoMemory),
+    match read_parts(alloc, text) {
+        Ok((cluster, body)) => judge_body(alloc, &cluster, body),
+        Err(PartsEnd::NoBody) => Ok(Judgement::NoHistory),
+        Err(PartsEnd::Refused(refusal)) => Ok(Judgement::Refused(refusal)),
+        Err(PartsEnd::NoMemory) => Err(NoMemory),
     }
 }
 

@@ -6,4 +6,4 @@ mod judgement;
 mod judging;
 
 pub use judgement::Judgement;
-pub use judging::{MOST_INSTRUCTIONS, judge};
+pub use judging::judge;

@@ -12,4 +12,4 @@ pub use audited_text::AuditedText;
 pub use auditing::audit;
 pub use outcome::Audit;
 pub use promise::Promise;
-pub use texts::{MOST_INSTRUCTIONS, audit_text};
+pub use texts::audit_text;

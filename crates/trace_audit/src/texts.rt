@@ -1,19 +1,14 @@
-ghost use Rattle.std.specs.Prelude.{◌≡◌, IfOk, Some};
+ghost use Rattle.std.specs.Prelude.{IfOk};
 ghost use Rattle.unix_calls.specs.Lawful.{Lawful};
-ghost use Rattle.text_lines.specs.Parts.{parts_of};
-ghost use Rattle.trace_audit.specs.Texts.{BodyComesTo, FileComesTo, TextComesTo};
+ghost use Rattle.trace_audit.specs.Texts.{BodyComesTo, TextComesTo};
 
 use crate::audited_text::AuditedText;
 use crate::auditing::audit;
-use cluster_file::{FileEnd, read_description};
+use parted_text::{MOST_INSTRUCTIONS, PartsEnd, read_parts};
 use sprite_ids::NoMemory;
 use std::alloc::Global;
-use text_lines::parts_of;
 use trace_text::{TraceError, read_trace};
 use unix_calls::Description;
-
-/// How many instructions the processes of a trace may do in all, up to the calls of its entries and behind them (this project).
-pub const MOST_INSTRUCTIONS: u64 = 1_000_000_000;
 
 /// Audits a text that is to hold a cluster file, a line `=====` and a printed trace (this project).
 ///
@@ -23,20 +18,11 @@ pub const MOST_INSTRUCTIONS: u64 = 1_000_000_000;
 pub fn audit_text(alloc: Global, text: &[u8]) -> Result<AuditedText, NoMemory>
     ensures { IfOk result (TextComesTo text.now) }
 {
-    match parts_of(text) {
-        Some((file, body)) => audit_file(alloc, file, body),
-        None => Ok(AuditedText::NoTrace),
-    }
-}
-
-// Audits a cluster file and a trace.
-fn audit_file(alloc: Global, file: &[u8], body: &[u8]) -> Result<AuditedText, NoMemory>
-    ensures { IfOk result (FileComesTo file.now body.now) }
-{
-    match read_description(alloc, file) {
-        Ok(cluster) => audit_body(alloc, &cluster, body),
-        Err(FileEnd::Refused(refusal)) => Ok(AuditedText::Refused(refusal)),
-        Err(FileEnd::NoMemory) => Err(NoMemory),
+    match read_parts(alloc, text) {
+        Ok((cluster, body)) => audit_body(alloc, &cluster, body),
+        Err(PartsEnd::NoBody) => Ok(AuditedText::NoTrace),
+        Err(PartsEnd::Refused(refusal)) => Ok(AuditedText::Refused(refusal)),
+        Err(PartsEnd::NoMemory) => Err(NoMemory),
     }
 }
 

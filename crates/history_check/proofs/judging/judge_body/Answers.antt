@@ -1,7 +1,7 @@
 use Rattle.std.proofs.Common.{◌≡◌, ◌∙◌, ap, List}
 use Rattle.unix_calls.specs.declared.entry.Entry.{Entry}
 use Rattle.one_kernel.specs.Verdicts.{verdict_of}
-use Rattle.history_check.specs.Judged.{most_instructions}
+use Rattle.parted_text.specs.Parted.{most_instructions}
 use Rattle.history_check.proofs.VerdictLaws.{tells_of}
 use Rattle.history_check.proofs.judging.judge_body.Goals as goal
 

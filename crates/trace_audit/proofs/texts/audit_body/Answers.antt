@@ -1,4 +1,4 @@
-use Rattle.trace_audit.specs.Texts.{most_instructions}
+use Rattle.parted_text.specs.Parted.{most_instructions}
 use Rattle.trace_audit.proofs.texts.audit_body.Goals as goal
 
 pub returns-in_ok-audit-in-Ok : goal.returns-in_ok-audit-in-Ok
