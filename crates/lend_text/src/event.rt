@@ -1,42 +1,9 @@
 ghost use Rattle.std.specs.Prelude.{◌≡◌, ◌≤◌, IfSome};
 ghost use Rattle.host_lending.specs.Lending.{IsWithin};
-ghost use Rattle.lend_text.specs.Events.{word_of, rest_of, number_to, event_by, event_of, hosts_of};
+ghost use Rattle.lend_text.specs.Events.{event_by, event_of, hosts_of};
 
 use host_lending::LendEvent;
-use sprite_ids::Kernel;
-use text_lines::{number, place_of};
-
-// The bytes before the first space.
-fn word_of(bytes: &[u8]) -> &[u8]
-    ensures { result.now ≡ word_of bytes.now }
-{
-    &bytes[..place_of(bytes, b' ')]
-}
-
-// The bytes behind the first space.
-fn rest_of(bytes: &[u8]) -> &[u8]
-    ensures { result.now ≡ rest_of bytes.now }
-{
-    let end = place_of(bytes, b' ');
-    if end < bytes.len() {
-        &bytes[end + 1..]
-    } else {
-        &bytes[bytes.len()..]
-    }
-}
-
-// The kernel whose number the word writes, where it is one of so many.
-fn kernel_to(most: u8, word: &[u8]) -> Option<Kernel>
-    requires { most ≤ 16 }
-    ensures value { result ≡ number_to most word.now }
-    ensures within { IfSome result (λ kernel. (1 ≤ kernel) × (kernel ≤ most)) }
-{
-    let number = number(word)?;
-    if number < 1 || number > u64::from(most) {
-        return None;
-    }
-    Kernel::new(u8::try_from(number).ok()?)
-}
+use text_rows::{kernel_in, rest_of, word_of};
 
 // The event of a name and what stands behind it.
 fn event_by(hosts: u8, name: &[u8], values: &[u8]) -> Option<LendEvent>
@@ -45,20 +12,20 @@ fn event_by(hosts: u8, name: &[u8], values: &[u8]) -> Option<LendEvent>
     ensures within { IfSome result (λ event. IsWithin hosts event) }
 {
     if name == b"idle".as_slice() {
-        let host = kernel_to(hosts, values)?;
+        let host = kernel_in(hosts, values)?;
         Some(LendEvent::Idle { host })
     } else if name == b"owner".as_slice() {
-        let host = kernel_to(hosts, values)?;
+        let host = kernel_in(hosts, values)?;
         Some(LendEvent::Owner { host })
     } else if name == b"borrow".as_slice() {
-        let borrower = kernel_to(hosts, values)?;
+        let borrower = kernel_in(hosts, values)?;
         Some(LendEvent::Borrow { borrower })
     } else if name == b"return".as_slice() {
-        let borrower = kernel_to(hosts, word_of(values))?;
-        let host = kernel_to(hosts, rest_of(values))?;
+        let borrower = kernel_in(hosts, word_of(values))?;
+        let host = kernel_in(hosts, rest_of(values))?;
         Some(LendEvent::Return { borrower, host })
     } else if name == b"leave".as_slice() {
-        let borrower = kernel_to(hosts, values)?;
+        let borrower = kernel_in(hosts, values)?;
         Some(LendEvent::Leave { borrower })
     } else {
         None
@@ -83,6 +50,6 @@ pub(crate) fn hosts_of(line: &[u8]) -> Option<u8>
     if word_of(line) != b"hosts".as_slice() {
         return None;
     }
-    let hosts = kernel_to(16, rest_of(line))?;
+    let hosts = kernel_in(16, rest_of(line))?;
     Some(hosts.number())
 }

@@ -1,0 +1,6 @@
+//! Texts with a row a line: the words of a row, and all rows, or the number of the first line that is none (this project).
+#![tactic(auto)]
+
+mod words;
+
+pub use words::{kernel_in, rest_of, word_of};
