@@ -11,7 +11,7 @@ use Rattle.unix_calls.specs.declared.state.Device.{Device}
 use Rattle.unix_calls.specs.State.{Unix, device_at}
 use Rattle.unix_calls.specs.After.{after, state_from}
 use Rattle.unix_laws.specs.Asks as line
-use Rattle.unix_laws.proofs.EntryLaws.{opened}
+use Rattle.unix_frames.proofs.EntryLaws.{opened}
 use Rattle.unix_laws.proofs.DeviceLaws.{enters_none}
 use Rattle.device_laws.specs.Devices.{AreAsks, AreInHand, Goes, TellsTheSame, done_entry}
 use Rattle.device_laws.specs.Runs.{Act, Asked, DevicesRunAsOne, Ended, Entered, IsTold, Left, MayAct, MayActs, NewDevicesAreTold, Took, WasBusy, WasInvalid, WasLong, asks_behind, entries_of, entry_of}

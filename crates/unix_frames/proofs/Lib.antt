@@ -1,4 +1,5 @@
 pub mod ChangeLaws
+pub mod EntryLaws
 pub mod FrameLaws
 pub mod OrderLaws
 pub mod StepLaws

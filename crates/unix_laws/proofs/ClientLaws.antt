@@ -22,7 +22,7 @@ use Rattle.unix_calls.proofs.HistoryLaws.{kept}
 use Rattle.unix_calls.proofs.LawfulLaws.{lawful_begins_within}
 use Rattle.unix_frames.proofs.OrderLaws.{length_put, next_home}
 use Rattle.unix_laws.specs.Clients.{ProcessesAreOfClients}
-use Rattle.unix_laws.proofs.EntryLaws.{both_left, both_right, opened}
+use Rattle.unix_frames.proofs.EntryLaws.{both_left, both_right, opened}
 use Rattle.unix_laws.proofs.SpreadLaws.{Doubles, Frees, Keeps, Opens, Own, Spreads, Stops, enters_each}
 
 abbrev IsOfClient : Description → Process → Type 0

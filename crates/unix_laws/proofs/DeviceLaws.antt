@@ -31,8 +31,8 @@ use Rattle.unix_calls.proofs.ProcessLaws.{found_pid, put_there}
 use Rattle.unix_frames.specs.Frames.{handles_device}
 use Rattle.unix_frames.proofs.ChangeLaws.{Change, Itself, Freed, Doubled, EndedSo, Ticked, Born, WaitedFor, KilledSo, MadeDirectory, RemovedDirectory, Unlinked, Renamed, OpenedFile, OpenedDevice, CreatedFile, MadeDevice, MovedTo, Wrote, Handled}
 use Rattle.unix_laws.specs.Asks.{AsksComeInOrder, DeviceGoesOn, DevicesMove, Stays, Queues, Takes, Leaves, Fetches, answered_by, answered_from, answered_of, ask_in, asking_of, hand, in_hand_of, is_ask, is_inside, is_master_in, line_at, line_of, made_by, made_from, then_answered, then_made}
-use Rattle.unix_laws.proofs.EntryLaws.{Answers, Asks, Dies, Enters, Fails, IsAt, opened}
-use Rattle.unix_laws.proofs.EntryLaws as entry
+use Rattle.unix_frames.proofs.EntryLaws.{Answers, Asks, Dies, Enters, Fails, IsAt, opened}
+use Rattle.unix_frames.proofs.EntryLaws as entry
 use Rattle.unix_laws.proofs.AnswerLaws.{Refuses, Says, said, says_at_master, says_if, says_refuses}
 use Rattle.unix_laws.proofs.SpreadLaws.{change_of}
 
@@ -463,7 +463,7 @@ enters_none c u later e place (Dies p here alive killed idle dead none_called gi
 line_step : (c : Description) (u v : Unix) (e : Entry) (place : ℕ) → after c u e ≡ Some v → line_at u place ++ made_by place e v ≡ answered_by place u v ++ line_at v place
 line_step c u v e place is = by (device_at u.devices place) refl
   where
-    o : Rattle.unix_laws.proofs.EntryLaws.Opened c u e v
+    o : Rattle.unix_frames.proofs.EntryLaws.Opened c u e v
     o = opened c u v e is
 
     by : (found : Option Device) → device_at u.devices place ≡ found → line_of found ++ made_by place e v ≡ answered_of (in_hand_of found) (in_hand_of (device_at v.devices place)) ++ line_at v place

@@ -23,7 +23,7 @@ use Rattle.unix_calls.specs.Laws.{is_last, is_last_call, is_last_part}
 use Rattle.unix_calls.proofs.ProcessLaws.{Ascending, Behind, Compared, Same, Less, More, at_other, compared, found_each, found_pid, put_again, put_more, put_others, put_same, put_there}
 use Rattle.unix_frames.proofs.FrameLaws.{numbered_of}
 use Rattle.unix_laws.specs.Ends.{DeathsTakeAway, DiesInFull, EndsInFull, EndsTakeAway, KilledMayDie}
-use Rattle.unix_laws.proofs.EntryLaws.{Answers, Asks, Dies, Enters, Fails, Fetches, IsAt, both_right, opened}
+use Rattle.unix_frames.proofs.EntryLaws.{Answers, Asks, Dies, Enters, Fails, Fetches, IsAt, both_right, opened}
 
 -- ---- masters behind an end
 

@@ -3,7 +3,6 @@ pub mod BootLaws
 pub mod ClientLaws
 pub mod DeviceLaws
 pub mod EndLaws
-pub mod EntryLaws
 pub mod FoundLaws
 pub mod NameLaws
 pub mod OnceLaws

@@ -21,7 +21,7 @@ use Rattle.unix_calls.specs.Boot.{Filed, boot_of, bytes_at, filed, with_director
 use Rattle.unix_calls.specs.After.{after}
 use Rattle.unix_calls.proofs.HistoryLaws.{kept}
 use Rattle.unix_laws.specs.Names.{ThingsHaveOneName, same_thing}
-use Rattle.unix_laws.proofs.EntryLaws.{opened}
+use Rattle.unix_frames.proofs.EntryLaws.{opened}
 use Rattle.unix_laws.proofs.SpreadLaws.{More, Less, Moved, NameChange, None_new, each_named, enters_names, found_node}
 use Rattle.unix_laws.proofs.BootLaws.{boot_each}
 

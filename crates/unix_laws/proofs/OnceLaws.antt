@@ -30,8 +30,8 @@ use Rattle.unix_frames.proofs.FrameLaws.{leaves_by}
 use Rattle.unix_laws.specs.Asks.{Fetches, Leaves, Moves, Queues, Stays, Takes, ask_in, answered_of, asking_of, hand, is_ask, is_inside, is_master_in, line_of, made_by}
 use Rattle.unix_laws.specs.Once.{AsksAreAnsweredOnce, AsksStandOnce, TheDeadStayDead, answers_of, asks_of, inside_of}
 use Rattle.unix_laws.specs.Streams.{is_living_holder, leads_to}
-use Rattle.unix_laws.proofs.EntryLaws.{Answers, Asks, Dies, Enters, Fails, IsAt, none_there, opened}
-use Rattle.unix_laws.proofs.EntryLaws as entry
+use Rattle.unix_frames.proofs.EntryLaws.{Answers, Asks, Dies, Enters, Fails, IsAt, none_there, opened}
+use Rattle.unix_frames.proofs.EntryLaws as entry
 use Rattle.unix_laws.proofs.AnswerLaws.{said}
 use Rattle.unix_laws.proofs.ReplyLaws.{Answer as Told, each_call}
 use Rattle.unix_laws.proofs.SpreadLaws.{Doubles, Frees, Keeps, Opens, Own, Spreads, Stops, enters_each, has_device}

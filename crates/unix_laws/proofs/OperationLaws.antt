@@ -42,8 +42,8 @@ use Rattle.unix_frames.proofs.FrameLaws.{leaves_by}
 use Rattle.unix_laws.specs.Asks.{Fetches, Leaves, Moves, Queues, Stays, Takes, asking_of, hand, line_of}
 use Rattle.unix_laws.specs.Once.{answers_of, asks_of}
 use Rattle.unix_laws.specs.Operations.{FitsDone, OperationsEndFit}
-use Rattle.unix_laws.proofs.EntryLaws.{Answers, Asks, Dies, Enters, Fails, IsAt, opened}
-use Rattle.unix_laws.proofs.EntryLaws as entry
+use Rattle.unix_frames.proofs.EntryLaws.{Answers, Asks, Dies, Enters, Fails, IsAt, opened}
+use Rattle.unix_frames.proofs.EntryLaws as entry
 use Rattle.unix_laws.proofs.FoundLaws.{found_again, found_next}
 use Rattle.unix_laws.proofs.DeviceLaws.{GoesOn, answers_in, device_place, enters_none, enters_on}
 use Rattle.unix_laws.proofs.OnceLaws.{Comes_out, Goes_in, Idle, Kept, Turn, dead_after, inside_none, kept_after, kept_boot, master_alive, no_ask_part, own_pid, turn_of}

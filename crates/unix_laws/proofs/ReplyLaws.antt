@@ -41,7 +41,7 @@ use Rattle.unix_calls.specs.StreamCalls.{begins_at, dup_at, read_object, read_st
 use Rattle.unix_calls.specs.DeviceCalls.{answer_of, asked_bytes, get_from, ioctl_object, put_to, puts, takes_first}
 use Rattle.unix_calls.specs.After.{may_break, may_fail, may_miss, outcome}
 use Rattle.unix_laws.specs.Replies.{Fits, RepliesFit, may_refuse}
-use Rattle.unix_laws.proofs.EntryLaws.{Answers, Asks, Dies, Enters, Fails, Fetches, both_right, opened}
+use Rattle.unix_frames.proofs.EntryLaws.{Answers, Asks, Dies, Enters, Fails, Fetches, both_right, opened}
 use Rattle.unix_laws.proofs.AnswerLaws.{Only, Refuses, Says, only_a_directory, only_first, only_if, only_missing, only_no_directory, only_none, only_some, only_walk, said, says_at_master, says_at_path, says_at_stream, says_if, says_refuses, says_unless, says_with_file}
 
 -- the reply fits the call, and its caller is put last, in no ask where it was in none

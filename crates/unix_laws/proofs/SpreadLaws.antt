@@ -37,7 +37,7 @@ use Rattle.unix_calls.proofs.ProcessLaws.{each_put, found_each, found_pid}
 use Rattle.unix_frames.proofs.ChangeLaws.{Change, Itself, Freed, Doubled, EndedSo, Ticked, Born, WaitedFor, KilledSo, MadeDirectory, RemovedDirectory, Unlinked, Renamed, OpenedFile, OpenedDevice, CreatedFile, MadeDevice, MovedTo, Wrote, Handled, IsFresh, Leads, MakesIn, Still, made_outcome}
 use Rattle.unix_frames.proofs.OrderLaws.{next_home}
 use Rattle.unix_laws.specs.Streams.{is_master}
-use Rattle.unix_laws.proofs.EntryLaws.{Answers, Asks, Dies, Enters, Fails, Fetches, IsAt}
+use Rattle.unix_frames.proofs.EntryLaws.{Answers, Asks, Dies, Enters, Fails, Fetches, IsAt}
 
 -- ---- processes
 

@@ -23,7 +23,7 @@ use Rattle.unix_calls.proofs.ProcessLaws.{found_each, found_pid}
 use Rattle.unix_calls.proofs.HistoryLaws.{kept}
 use Rattle.unix_frames.proofs.ChangeLaws.{Leads}
 use Rattle.unix_laws.specs.Streams.{Holds, StatesAreTied, StreamsStayHome, is_living_holder, is_master, is_master_stream, leads_to, leads_to_a_master}
-use Rattle.unix_laws.proofs.EntryLaws.{Enters, opened}
+use Rattle.unix_frames.proofs.EntryLaws.{Enters, opened}
 use Rattle.unix_laws.proofs.SpreadLaws.{Doubles, Frees, HasName, IsFit, Keeps, New, Nothing_new, Opens, Own, Spreads, Stops, Things, enters_each, enters_names, enters_nodes, enters_things, found_place, has_device, node_there, object_at, or_else}
 use Rattle.unix_laws.proofs.BootLaws.{boot_each, boot_processes}
 
