@@ -1,10 +1,11 @@
 -- A file that nobody has opened or knows, uncached, at any version: it is sound.
-use Rattle.std.proofs.Common.{◌≡◌, ◌≤◌, ◌<◌, ℕ, ◌-◌, true, List, length, refl, sym, ◌∙◌, ap, subst, inr, arith}
+use Rattle.std.proofs.Common.{◌≡◌, ◌≤◌, ◌<◌, ℕ, ◌-◌, true, List, length, refl, sym, ap, subst, inr, arith}
 use Rattle.std.proofs.lemmas.List.{get_or-replicate}
 use Rattle.sprite_ids.specs.declared.CacheMode.TheVariants as cache
 use Rattle.file_views.specs.declared.client.Client.{Client}
 use Rattle.file_views.specs.Setting.{Setting}
 use Rattle.file_views.specs.Clients.{new_client, is_on}
+use Rattle.file_views.specs.Contents.{part}
 use Rattle.file_views.specs.Views.{new_view, client, mode_given}
 use Rattle.file_views.specs.Here.{In, IsClient}
 use Rattle.file_views.specs.Sound.{Sound}
@@ -13,9 +14,11 @@ use Rattle.file_views.proofs.ShapeMoveLaws.{client_new, count_new, new_has_shape
 use Rattle.file_views.proofs.StreamMoveLaws.{new_has_streams}
 use Rattle.file_views.proofs.StampMoveLaws.{new_has_stamps}
 use Rattle.file_views.proofs.ModeStepLaws.{new_has_modes}
+use Rattle.file_views.proofs.HolderStepLaws.{new_has_holders}
 use Rattle.file_views.proofs.AskingMoveLaws.{new_has_asking}
 use Rattle.file_views.proofs.WritingMoveLaws.{new_has_writing}
 use Rattle.file_views.proofs.LimitLaws.{new_has_limits}
+use Rattle.file_views.proofs.ContentPartLaws.{new_stands_at}
 
 pub bare_sound : (z : Setting) (count : ℕ) (bytes : List ℕ) (version next : ℕ) → 1 ≤ count → count ≤ 15 → length bytes ≤ z.most → Sound z (bare count bytes version next)
 bare_sound z count bytes version next low high l =
@@ -23,7 +26,10 @@ bare_sound z count bytes version next low high l =
     let t = new_has_streams count bytes in
     let p = new_has_stamps count bytes in
     let m = new_has_modes count bytes in
+    let h = new_has_holders count bytes in
     let f = new_has_limits z count bytes l in
+    let c = new_stands_at z count bytes in
+    let k = c.0 in
     record {
       shapes = record { items = s.items; calls = s.calls; carried = s.carried; numbers = record { differ = tt; under = λ one n. absurd n }; each = λ kernel i. record { numbered = (s.each kernel i).numbered; waits = (s.each kernel i).waits } };
       streams = record { new = λ one n. absurd n; opens = t.opens; each = λ kernel i. record { counts = (t.each kernel i).counts; working = (t.each kernel i).working } };
@@ -64,24 +70,24 @@ bare_sound z count bytes version next low high l =
         off_later = λ one n. absurd n;
       };
       holders = record {
-        is_client = λ holder e. absurd (cc (e));
-        opens = λ holder e. absurd (cc (e));
+        is_client = h.is_client;
+        opens = h.opens;
         stale = λ holder e. absurd (cc (e));
         exclusive = λ e. refl;
         each = λ kernel i. record {
           seen_below = (let n : (client (new_view count bytes) kernel).version ≡ 0 = ap (λ (c : Client). c.version) (is_new kernel i) in omega (arith, n));
           chained = record { first = λ one n. absurd n; rises = λ one n. absurd n; under = λ one n. absurd n; linked = λ one n. absurd n; joined = λ one n. absurd n; last = λ one n. absurd n };
           at_version = λ one n. absurd n;
-          writer_holds = λ one n. absurd n;
+          writer_holds = (h.each kernel i).writer_holds;
           holder_state = λ e. absurd (cc (e));
-          holder_grants = λ one n. absurd n;
+          holder_grants = (h.each kernel i).holder_grants;
           recall_ready = λ r. absurd r.there;
-          recall_on = λ one n. absurd n;
-          recall_holds = λ one n. absurd n;
+          recall_on = (h.each kernel i).recall_on;
+          recall_holds = (h.each kernel i).recall_holds;
           writer_ready = λ a e. absurd e.there;
           dirty_ready = λ one n. absurd (subst (λ (c : Client). In one c.blocks) (is_new kernel i) n);
-          dirty_unanswered = λ one n q k. k.there;
-          modes_agree = λ e. ap (λ (c : Client). c.mode) (is_new kernel i) ∙ sym (unknown kernel i);
+          dirty_unanswered = (h.each kernel i).dirty_unanswered;
+          modes_agree = (h.each kernel i).modes_agree;
         };
       };
       requests = record {
@@ -102,22 +108,22 @@ bare_sound z count bytes version next low high l =
         };
       };
       contents = record {
-        stood = bytes;
+        stood = k.stood;
         stands = record {
-          dirty_size = λ kernel i one n d. absurd (subst (In one) (ap (λ (c : Client). c.blocks) (is_new kernel i)) n);
-          flushed_size = λ one n. absurd n;
-          flushed_part = λ one n. absurd n;
-          rest = λ number. inr (inr refl);
-          size = inr (inr refl);
+          dirty_size = k.stands.dirty_size;
+          flushed_size = k.stands.flushed_size;
+          flushed_part = k.stands.flushed_part;
+          rest = λ number. inr (inr (sym (ap (λ (bs : List ℕ). part z bs number) c.1)));
+          size = inr (inr (sym (ap length c.1)));
         };
         each = λ kernel i. record {
           good = record {
-            engaged_size = λ o. absurd (off kernel i o);
-            engaged = λ o. absurd (off kernel i o);
-            fetched = λ one n. absurd n;
+            engaged_size = (k.each kernel i).good.engaged_size;
+            engaged = (k.each kernel i).good.engaged;
+            fetched = (k.each kernel i).good.fetched;
             kept = λ o. absurd (off kernel i o);
           };
-          carried = record { whole_block = λ one n. absurd n; stores = λ one n. absurd n; done = λ one n. absurd n; fits = λ one n. absurd n };
+          carried = (k.each kernel i).carried;
         };
       };
     }
