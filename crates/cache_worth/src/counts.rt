@@ -1,13 +1,13 @@
-ghost use Rattle.std.specs.Prelude.{◌≡◌, ◌+◌, nat_le, IfOk, OnOk};
+ghost use Rattle.std.specs.Prelude.{◌≡◌, nat_le, IfOk, OnOk};
 ghost use Rattle.call_journal.specs.Matching.{is_any_fetch};
 ghost use Rattle.call_journal.specs.WorthCaches.{is_any_dirtied, is_any_filled, is_motive};
 ghost use Rattle.cache_worth.specs.Counts.{CountsOn, TellsCounts, are_few_in, counts_at, is_few, one_more};
-ghost use Rattle.trace_rules.specs.Lists.{one_if};
 ghost use Rattle.cache_worth.specs.Parts.{blocks_move_moderately};
 
 use indexmap::IndexMap;
 use sprite_ids::{Kernel, NoMemory};
 use std::alloc::Global;
+use trace_counts::added;
 use unix_calls::{Event, Rec, SendKind};
 
 /// Whether at each kernel of the trace blocks are fetched, come in and are made dirty at most five times for each issue and each
@@ -73,17 +73,6 @@ fn counts_at(counts: &IndexMap<Kernel, Counts>, kernel: Kernel) -> Counts
             dirtied: 0,
             motives: 0,
         },
-    }
-}
-
-// A count, and one more if so. The one error is that it passes 2^64, which it does of no trace.
-fn added(count: u64, more: bool) -> Result<u64, NoMemory>
-    ensures { IfOk result (λ next. next ≡ count + one_if more) }
-{
-    if more {
-        count.checked_add(1).ok_or(NoMemory)
-    } else {
-        Ok(count)
     }
 }
 

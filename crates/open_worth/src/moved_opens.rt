@@ -1,11 +1,11 @@
-ghost use Rattle.std.specs.Prelude.{◌≡◌, ◌+◌, ◌*◌, IfOk, count_by, length, nat_le};
+ghost use Rattle.std.specs.Prelude.{◌≡◌, ◌*◌, IfOk, count_by, length, nat_le};
 ghost use Rattle.call_journal.specs.Matching.{has_event};
 ghost use Rattle.call_journal.specs.WorthRecords.{are_moved_opens_few, is_any_freeze};
 ghost use Rattle.trace_forms.specs.Openings.{openings_of};
-ghost use Rattle.trace_rules.specs.Lists.{one_if};
 ghost use Rattle.open_worth.specs.MovedOpens.{is_made_next, is_moved_open, moved_in};
 
 use sprite_ids::NoMemory;
+use trace_counts::added;
 use unix_calls::{Description, Event, Rec, Stream};
 
 /// Whether at most sixteen opens of the trace are those of moves, behind which no entry makes a stream of a file, for each freeze
@@ -77,16 +77,5 @@ fn is_any_freeze(event: &Event) -> bool
     match event {
         Event::Freeze { .. } => true,
         _ => false,
-    }
-}
-
-// A count, and one more if so. The one error is that it passes 2^64.
-fn added(count: u64, more: bool) -> Result<u64, NoMemory>
-    ensures { IfOk result (λ next. next ≡ count + one_if more) }
-{
-    if more {
-        count.checked_add(1).ok_or(NoMemory)
-    } else {
-        Ok(count)
     }
 }

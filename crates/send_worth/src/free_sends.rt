@@ -1,9 +1,9 @@
-ghost use Rattle.std.specs.Prelude.{◌≡◌, ◌+◌, ◌*◌, IfOk, count_by, nat_le};
+ghost use Rattle.std.specs.Prelude.{◌≡◌, ◌*◌, IfOk, count_by, nat_le};
 ghost use Rattle.call_journal.specs.Matching.{has_event};
 ghost use Rattle.call_journal.specs.WorthSends.{are_free_sends_few, is_free_send, is_occasion};
-ghost use Rattle.trace_rules.specs.Lists.{one_if};
 
 use sprite_ids::NoMemory;
+use trace_counts::added;
 use unix_calls::{Event, Rec, SendKind};
 
 /// Whether at most 64 packets go for the sake of no call, writing back no block, for each callback, freeze, thaw and entry of the
@@ -40,17 +40,6 @@ fn occasions(trace: &[Rec]) -> Result<u64, NoMemory>
         count = added(count, is_occasion(&rec.event))?;
     }
     Ok(count)
-}
-
-// A count, and one more if so. The one error is that it passes 2^64.
-fn added(count: u64, more: bool) -> Result<u64, NoMemory>
-    ensures { IfOk result (λ next. next ≡ count + one_if more) }
-{
-    if more {
-        count.checked_add(1).ok_or(NoMemory)
-    } else {
-        Ok(count)
-    }
 }
 
 fn is_free_send(event: &Event) -> bool

@@ -1,18 +1,15 @@
-use Rattle.std.proofs.Common.{◌≡◌, ◌∙◌, suc, ◌+◌, ◌∷◌, drop, count_by, sym, ap, add-one, drop-cons}
+use Rattle.std.proofs.Common.{drop, count_by}
 use Rattle.std.proofs.lemmas.List.{drop_all}
-use Rattle.unix_calls.specs.declared.event.Rec.{Rec}
 use Rattle.call_journal.specs.Matching.{has_event}
 use Rattle.call_journal.specs.WorthRecords.{is_any_freeze}
-use Rattle.trace_rules.specs.Lists.{one_if, counted_on, counted_all}
+use Rattle.trace_rules.specs.Lists.{counted_all}
+use Rattle.trace_counts.specs.CountLaws.{counted_next}
 use Rattle.open_worth.proofs.moved_opens.freezes.Goals as goal
 
 pub loop-rec-preserved : goal.loop-rec-preserved
 loop-rec-preserved c =
-    let trace = c.args.trace.now in
-    let i = c.loop-rec.rec-index in
-    let r = c.rec-item.result in
-    let cut : drop i trace ≡ r ∷ drop (i + 1) trace = rw add-one (drop-cons trace i r c.loop-rec-test.true ∙ ap (λ (x : Rec). x ∷ drop (suc i) trace) (sym c.rec-item.is)) in
-    counted_on (has_event is_any_freeze) c.loop-rec.count c.in_ok-count.count (count_by (has_event is_any_freeze) trace) r (drop i trace) (drop (i + 1) trace) cut c.loop-rec.invariant (c.in_ok-count.ensures ∙ ap (λ b. c.loop-rec.count + one_if b) c.is_any_freeze.ensures)
+    let all = count_by (has_event is_any_freeze) c.args.trace.now in
+    counted_next (has_event is_any_freeze) c.args.trace.now c.loop-rec.rec-index c.rec-item.result c.loop-rec.count c.in_ok-count.count all c.is_any_freeze.result c.loop-rec-test.true c.rec-item.is c.loop-rec.invariant c.in_ok-count.ensures c.is_any_freeze.ensures
 
 pub returns : goal.returns
 returns c =
