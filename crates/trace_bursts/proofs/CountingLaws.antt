@@ -1,6 +1,8 @@
 -- What is kept of the bursts of all processes, from one record of a trace to the next.
-use Rattle.std.proofs.Common.{◌≡◌, ◌∙◌, ◌≢◌, ◌≤◌, ℕ, ◌+◌, ◌-◌, ◌==◌, Bool, true, false, cond, ◌&&◌, List, [], ◌∷◌, ◌++◌, Some, refl, sym, ap, ap₂, subst, arith, eqb-true, eq-eqb}
-use Rattle.std.specs.Option.{option_and_then}
+use Rattle.std.proofs.Common.{◌≡◌, ◌∙◌, ◌≢◌, ◌≤◌, ℕ, ◌+◌, ◌-◌, ◌==◌, Bool, true, false, cond, ◌&&◌, ◌||◌, List, [], ◌∷◌, ◌++◌, Option, Some, None, le-leb, refl, sym, ap, ap₂, subst, arith, eqb-true, eq-eqb}
+use Rattle.std.specs.Option.{is_none, is_some, option_and_then}
+use Rattle.std.proofs.lemmas.Bool.{and_parts}
+use Rattle.process_machine.specs.declared.call.Call.{Call}
 use Rattle.unix_calls.specs.declared.description.Description.{Description}
 use Rattle.unix_calls.specs.declared.entry.Entry.{Entry}
 use Rattle.unix_calls.specs.declared.event.Event.{Event}
@@ -30,11 +32,12 @@ use Rattle.call_journal.specs.Past.{Past, each_from, no_past, past_with, since_l
 use Rattle.call_journal.specs.WorthBursts.{distance, distance_of, done_since_entry, due_in, instructions_in, instructions_of, is_at_most, is_exactly}
 use Rattle.call_journal.proofs.GrowthLaws.{look_backs_grow}
 use Rattle.trace_bursts.specs.declared.doing.Doing.{Doing}
-use Rattle.trace_bursts.specs.declared.doing.Standing.{Standing}
-use Rattle.trace_bursts.specs.Doing.{KnowsDue, Knows, due_by, fresh}
+use Rattle.trace_bursts.specs.Doing.{burst_behind, due_by, fresh, is_met, issue_behind, meets}
 use Rattle.trace_bursts.specs.Reasons.{bursts_are_counted, keeps_count}
 use Rattle.trace_bursts.specs.Taking.{Takes}
-use Rattle.trace_bursts.specs.Counting.{Counting, Judges, JudgesBurst, JudgesIssue, Know, WentOn, doing_of, without}
+use Rattle.trace_bursts.specs.Counting.{AreMet, Counting, Enters, EntersAt, IsIdle, Judges, JudgesEntry, WentOn, all_met, doing_of, without}
+use Rattle.trace_bursts.proofs.DoingLaws.{Owes, burst_owes, issue_owes, met_none}
+use Rattle.trace_bursts.proofs.WayLaws.{due_is_way}
 
 -- ---- instructions since an entry
 
@@ -53,39 +56,54 @@ done_more pid records rec =
 none_more : (n : ℕ) → n ≡ n + 0
 none_more n = omega arith
 
--- ---- one event is judged
+-- ---- what is to be met, from one record to the next
 
 due_is : (c : Description) (world : World) (ps : List Process) (past : Past) (pid : ℕ) → past.unix ≡ Some (unix_of c world ps) → due_in c past pid ≡ due_by c ps pid
 due_is c world ps past pid unix = ap (λ u. option_and_then (distance_of c) (option_and_then (λ (v : Unix). process_at v.processes pid) u)) unix
 
-burst_kept : (c : Description) (ps : List Process) (pid count : ℕ) (old new : List (ℕ × Doing)) (kept : Bool) → JudgesBurst c ps pid count old kept new → is_at_most ((doing_of old pid).done + count) (due_by c ps pid) ≡ kept
-burst_kept c ps pid count old new true judges = judges.0
-burst_kept c ps pid count old new false judges = judges
+nobody_due : (c : Description) (ps : List Process) (pid : ℕ) (o : Option Process) → process_at ps pid ≡ o → is_some o ≡ false → due_by c ps pid ≡ None
+nobody_due c ps pid None is none = ap (option_and_then (distance_of c)) is
+nobody_due c ps pid (Some p) is none = absurd (cc (none))
 
-issue_kept : (c : Description) (ps : List Process) (pid : ℕ) (old new : List (ℕ × Doing)) (kept : Bool) → JudgesIssue c ps pid old kept new → is_exactly (doing_of old pid).done (due_by c ps pid) ≡ kept
-issue_kept c ps pid old new true judges = judges.0
-issue_kept c ps pid old new false judges = judges
+pub due_without : (c : Description) (ps : List Process) (pid : ℕ) → process_at ps pid ≡ None → due_by c ps pid ≡ None
+due_without c ps pid is = ap (option_and_then (distance_of c)) is
 
-pub event_kept : (c : Description) (world : World) (ps : List Process) (past : Past) (e : Event) (old new : List (ℕ × Doing)) (kept : Bool) → past.unix ≡ Some (unix_of c world ps) → ((pid : ℕ) → (doing_of old pid).done ≡ done_since_entry pid past.records) → Judges c ps e old kept new → keeps_count c past e ≡ kept
-event_kept c world ps past (event.Burst pid count) old new kept unix counts judges =
-    ap₂ (λ n due. is_at_most (n + count) due) (sym (counts pid)) (due_is c world ps past pid unix) ∙ burst_kept c ps pid count old new kept judges
-event_kept c world ps past (event.Issue pid number call) old new kept unix counts judges =
-    ap₂ is_exactly (sym (counts pid)) (due_is c world ps past pid unix) ∙ issue_kept c ps pid old new kept judges
-event_kept c world ps past (event.Enter entry) old new kept unix counts judges = sym judges.0
-event_kept c world ps past _ old new kept unix counts judges = sym judges.0
+-- one process went on
+before_one : (c : Description) (ps : List Process) (pid : ℕ) (later : Doing) (old new : List (ℕ × Doing)) (kept : Bool) → WentOn pid later old new → Owes kept (doing_of old pid) later (due_by c ps pid) → AreMet c ps new → (kept ≡ true) × AreMet c ps old
+before_one c ps pid later old new kept went owes met = ((owes.on here).0, λ other. by other (pid == other) refl)
+  where
+    here : is_met later (due_by c ps pid) ≡ true
+    here = sym (ap (λ (d : Doing). is_met d (due_by c ps pid)) went.one) ∙ met pid
 
--- ---- what is kept goes on
+    by : (other : ℕ) (b : Bool) → (pid == other) ≡ b → is_met (doing_of old other) (due_by c ps other) ≡ true
+    by other true is = subst (λ (n : ℕ). is_met (doing_of old n) (due_by c ps n) ≡ true) (eqb-true pid other is) (owes.on here).1
+    by other false is = sym (ap (λ (d : Doing). is_met d (due_by c ps other)) (went.others other is)) ∙ met other
+
+behind_one : (c : Description) (ps : List Process) (pid : ℕ) (later : Doing) (old new : List (ℕ × Doing)) (kept : Bool) → WentOn pid later old new → Owes kept (doing_of old pid) later (due_by c ps pid) → kept ≡ true → AreMet c ps old → AreMet c ps new
+behind_one c ps pid later old new kept went owes is_kept met other = by (pid == other) refl
+  where
+    by : (b : Bool) → (pid == other) ≡ b → is_met (doing_of new other) (due_by c ps other) ≡ true
+    by true is = subst (λ (n : ℕ). is_met (doing_of new n) (due_by c ps n) ≡ true) (eqb-true pid other is) (ap (λ (d : Doing). is_met d (due_by c ps pid)) went.one ∙ owes.back is_kept (met pid))
+    by false is = ap (λ (d : Doing). is_met d (due_by c ps other)) (went.others other is) ∙ met other
+
+-- a fact of what each did, where one went on
+one_keeps : (F : ℕ → Doing → Type 0) (pid : ℕ) (later : Doing) (old new : List (ℕ × Doing)) → WentOn pid later old new → ((other : ℕ) → F other (doing_of old other)) → F pid later → (other : ℕ) → F other (doing_of new other)
+one_keeps F pid later old new went all one other = by (pid == other) refl
+  where
+    by : (b : Bool) → (pid == other) ≡ b → F other (doing_of new other)
+    by true is = subst (λ (n : ℕ). F n (doing_of new n)) (eqb-true pid other is) (subst (λ (d : Doing). F pid d) (sym went.one) one)
+    by false is = subst (λ (d : Doing). F other d) (sym (went.others other is)) (all other)
 
 -- one process did so many more
-one_counts : (c : Description) (ps : List Process) (records : List Rec) (rec : Rec) (pid more : ℕ) (old new : List (ℕ × Doing)) → ((other : ℕ) → (doing_of old other).done ≡ done_since_entry other records) → WentOn c ps pid ((doing_of old pid).done + more) old new → ((other : ℕ) → is_entry_of other rec.event ≡ false) → ((other : ℕ) → instructions_of other rec.event ≡ cond (pid == other) more 0) → (other : ℕ) → (doing_of new other).done ≡ done_since_entry other (records ++ rec ∷ [])
-one_counts c ps records rec pid more old new counts went no_entry does other =
+one_counts : (records : List Rec) (rec : Rec) (pid more : ℕ) (later : Doing) (old new : List (ℕ × Doing)) → ((other : ℕ) → (doing_of old other).done ≡ done_since_entry other records) → WentOn pid later old new → later.done ≡ (doing_of old pid).done + more → ((other : ℕ) → is_entry_of other rec.event ≡ false) → ((other : ℕ) → instructions_of other rec.event ≡ cond (pid == other) more 0) → (other : ℕ) → (doing_of new other).done ≡ done_since_entry other (records ++ rec ∷ [])
+one_counts records rec pid more later old new counts went count no_entry does other =
     by (pid == other) refl
     ∙ sym (done_more other records rec ∙ ap₂ (λ b n. cond b 0 (done_since_entry other records + n)) (no_entry other) (does other))
   where
     by : (b : Bool) → (pid == other) ≡ b → (doing_of new other).done ≡ done_since_entry other records + cond b more 0
     by true is =
         let same : pid ≡ other = eqb-true pid other is in
-        subst (λ (n : ℕ). (doing_of new n).done ≡ done_since_entry n records + more) same (went.count ∙ ap (λ n. n + more) (counts pid))
+        subst (λ (n : ℕ). (doing_of new n).done ≡ done_since_entry n records + more) same (ap (λ (d : Doing). d.done) went.one ∙ (count ∙ ap (λ n. n + more) (counts pid)))
     by false is = ap (λ (d : Doing). d.done) (went.others other is) ∙ (counts other ∙ none_more (done_since_entry other records))
 
 -- nobody did any
@@ -104,71 +122,169 @@ entry_counts records kernel entry old new counts anew other =
     by true = refl
     by false = counts other ∙ none_more (done_since_entry other records)
 
--- what is known of each
-one_knows : (c : Description) (ps : List Process) (pid done : ℕ) (old new : List (ℕ × Doing)) → Know c ps old → WentOn c ps pid done old new → Know c ps new
-one_knows c ps pid done old new know went other = by (pid == other) refl
-  where
-    by : (b : Bool) → (pid == other) ≡ b → Knows c ps other (doing_of new other).done (doing_of new other).standing
-    by true is = subst (λ (n : ℕ). Knows c ps n (doing_of new n).done (doing_of new n).standing) (eqb-true pid other is) went.knows
-    by false is = subst (λ (d : Doing). Knows c ps other d.done d.standing) (sym (went.others other is)) (know other)
+-- ---- what an entry leaves
 
--- an entry leaves the others' images
-due_stays : (c : Description) (world world_after : World) (ps ps_after : List Process) (history : List Entry) (entry : Entry) (pid done : ℕ) (standing : Standing) → Lawful c → state_of c history ≡ Some (unix_of c world ps) → after c (unix_of c world ps) entry ≡ Some (unix_of c world_after ps_after) → (entry.pid == pid) ≡ false → KnowsDue c ps pid done standing → KnowsDue c ps_after pid done standing
-due_stays c world world_after ps ps_after history entry pid done standing lawful led after_is apart known =
-    let p = known.process in
-    let number : p.pid ≡ pid = found_pid ps pid p known.there in
-    let there : process_at ps p.pid ≡ Some p = ap (process_at ps) number ∙ known.there in
+idle_met : (doing : Doing) (due : Option ℕ) → IsIdle doing → is_met doing due ≡ true
+idle_met doing due idle = ap₂ (λ n i. is_at_most n due && meets i due) idle.0 idle.1 ∙ none_met due
+  where
+    none_met : (o : Option ℕ) → (is_at_most 0 o && true) ≡ true
+    none_met None = refl
+    none_met (Some n) = ap (λ b. b && true) (le-leb 0 n (omega arith))
+
+-- the others' images, and nobody goes
+record Stays (c : Description) (ps ps_after : List Process) (pid : ℕ) : Type 0 where
+  pub due : due_by c ps_after pid ≡ due_by c ps pid
+  pub there : process_at ps_after pid ≡ None → process_at ps pid ≡ None
+
+stays_by : (c : Description) (world world_after : World) (ps ps_after : List Process) (history : List Entry) (entry : Entry) (pid : ℕ) (p : Process) → Lawful c → state_of c history ≡ Some (unix_of c world ps) → after c (unix_of c world ps) entry ≡ Some (unix_of c world_after ps_after) → (entry.pid == pid) ≡ false → process_at ps pid ≡ Some p → Stays c ps ps_after pid
+stays_by c world world_after ps ps_after history entry pid p lawful led after_is apart found =
+    let number : p.pid ≡ pid = found_pid ps pid p found in
+    let there : process_at ps p.pid ≡ Some p = ap (process_at ps) number ∙ found in
     let differs : p.pid ≢ entry.pid = λ (same : p.pid ≡ entry.pid). (let so : true ≡ false = sym (eq-eqb entry.pid pid (sym same ∙ number)) ∙ apart in absurd (cc (so))) in
     let stays = others_stay c history (unix_of c world ps) (unix_of c world_after ps_after) entry p (lawful_boots c lawful).0 led after_is there differs in
+    let now : process_at ps_after pid ≡ Some stays.after = ap (process_at ps_after) (sym number) ∙ stays.there in
     record {
-      process = stays.after;
-      there = ap (process_at ps_after) (sym number) ∙ stays.there;
-      due = ap (λ image. option_and_then (λ program. distance program image) (program_at c.programs image.number)) stays.image ∙ known.due;
-      near = known.near;
+      due = ap (option_and_then (distance_of c)) now
+          ∙ (ap (λ image. option_and_then (λ program. distance program image) (program_at c.programs image.number)) stays.image
+          ∙ sym (ap (option_and_then (distance_of c)) found));
+      there = λ none. let so = sym now ∙ none in absurd (cc (so));
     }
 
-entry_knows : (c : Description) (world world_after : World) (ps ps_after : List Process) (history : List Entry) (entry : Entry) (old new : List (ℕ × Doing)) → Lawful c → state_of c history ≡ Some (unix_of c world ps) → after c (unix_of c world ps) entry ≡ Some (unix_of c world_after ps_after) → Know c ps old → ((other : ℕ) → doing_of new other ≡ without entry.pid old other) → Know c ps_after new
-entry_knows c world world_after ps ps_after history entry old new lawful led after_is know anew other =
-    subst (λ (d : Doing). Knows c ps_after other d.done d.standing) (sym (anew other)) (by (entry.pid == other) refl)
+-- where a process was, or had nothing to meet
+met_after : (c : Description) (world world_after : World) (ps ps_after : List Process) (history : List Entry) (entry : Entry) (pid : ℕ) (doing : Doing) (o : Option Process) → Lawful c → state_of c history ≡ Some (unix_of c world ps) → after c (unix_of c world ps) entry ≡ Some (unix_of c world_after ps_after) → (entry.pid == pid) ≡ false → (process_at ps pid ≡ None → IsIdle doing) → process_at ps pid ≡ o → is_met doing (due_by c ps_after pid) ≡ is_met doing (due_by c ps pid)
+met_after c world world_after ps ps_after history entry pid doing None lawful led after_is apart absent is =
+    idle_met doing (due_by c ps_after pid) (absent is) ∙ sym (idle_met doing (due_by c ps pid) (absent is))
+met_after c world world_after ps ps_after history entry pid doing (Some p) lawful led after_is apart absent is =
+    ap (is_met doing) (stays_by c world world_after ps ps_after history entry pid p lawful led after_is apart is).due
+
+absent_after : (c : Description) (world world_after : World) (ps ps_after : List Process) (history : List Entry) (entry : Entry) (pid : ℕ) (o : Option Process) → Lawful c → state_of c history ≡ Some (unix_of c world ps) → after c (unix_of c world ps) entry ≡ Some (unix_of c world_after ps_after) → (entry.pid == pid) ≡ false → process_at ps pid ≡ o → process_at ps_after pid ≡ None → process_at ps pid ≡ None
+absent_after c world world_after ps ps_after history entry pid None lawful led after_is apart is none = is
+absent_after c world world_after ps ps_after history entry pid (Some p) lawful led after_is apart is none =
+    (stays_by c world world_after ps ps_after history entry pid p lawful led after_is apart is).there none
+
+-- ---- whether the process of an entry met what it did
+
+record Settles (c : Description) (ps : List Process) (entry : Entry) (old new : List (ℕ × Doing)) (kept : Bool) : Type 0 where
+  pub met : is_met (doing_of old entry.pid) (due_by c ps entry.pid) ≡ kept
+  pub anew : (other : ℕ) → doing_of new other ≡ without entry.pid old other
+
+settles_by : (c : Description) (world world_after : World) (ps ps_after : List Process) (entry : Entry) (call : Option Call) (way : ℕ) (old mid new : List (ℕ × Doing)) (kept : Bool) → entry.call ≡ call → JudgesEntry c ps entry call old true mid → way_of c (unix_of c world ps) entry ≡ way → after c (unix_of c world ps) entry ≡ Some (unix_of c world_after ps_after) → EntersAt entry way mid kept new → Settles c ps entry old new kept
+settles_by c world world_after ps ps_after entry None way old mid new kept calls judges way_is after_is enters = record {
+  met = sym judges.0 ∙ sym (enters.met ∙ ap (λ (k : Option Call). is_none k || is_met (doing_of mid entry.pid) (Some way)) calls);
+  anew = λ other. enters.anew other ∙ ap (λ (m : List (ℕ × Doing)). without entry.pid m other) judges.1;
+}
+settles_by c world world_after ps ps_after entry (Some call) way old mid new kept calls judges way_is after_is enters = record {
+  met =
+      ap (is_met (doing_of old entry.pid)) (due_is_way c (unix_of c world ps) (unix_of c world_after ps_after) entry call calls after_is ∙ ap Some way_is)
+      ∙ ap (λ (m : List (ℕ × Doing)). is_met (doing_of m entry.pid) (Some way)) (sym judges.1)
+      ∙ sym (enters.met ∙ ap (λ (k : Option Call). is_none k || is_met (doing_of mid entry.pid) (Some way)) calls);
+  anew = λ other. enters.anew other ∙ ap (λ (m : List (ℕ × Doing)). without entry.pid m other) judges.1;
+}
+
+settles : (c : Description) (world world_after : World) (ps ps_after : List Process) (entry : Entry) (way : ℕ) (old mid new : List (ℕ × Doing)) (kept : Bool) → JudgesEntry c ps entry entry.call old true mid → way_of c (unix_of c world ps) entry ≡ way → after c (unix_of c world ps) entry ≡ Some (unix_of c world_after ps_after) → EntersAt entry way mid kept new → Settles c ps entry old new kept
+settles c world world_after ps ps_after entry way old mid new kept judges way_is after_is enters = settles_by c world world_after ps ps_after entry entry.call way old mid new kept refl judges way_is after_is enters
+
+anew_keeps : (F : ℕ → Doing → Type 0) (pid : ℕ) (old new : List (ℕ × Doing)) → ((other : ℕ) → doing_of new other ≡ without pid old other) → ((other : ℕ) → (pid == other) ≡ false → F other (doing_of old other)) → ((other : ℕ) → F other fresh) → (other : ℕ) → F other (doing_of new other)
+anew_keeps F pid old new anew all none other = subst (λ (d : Doing). F other d) (sym (anew other)) (by (pid == other) refl)
   where
-    by : (b : Bool) → (entry.pid == other) ≡ b → Knows c ps_after other (cond b fresh (doing_of old other)).done (cond b fresh (doing_of old other)).standing
-    by true is = λ (read : false ≡ true). absurd (cc (read))
-    by false is = λ read. due_stays c world world_after ps ps_after history entry other (doing_of old other).done (doing_of old other).standing lawful led after_is is (know other read)
+    by : (b : Bool) → (pid == other) ≡ b → F other (cond b fresh (doing_of old other))
+    by true is = none other
+    by false is = all other is
 
 -- ---- the loop
 
 -- before the first record
 pub counting_begins : (c : Description) (most : ℕ) (trace : List Rec) (world : World) (ps : List Process) (doings : List (ℕ × Doing)) → unix_of c world ps ≡ boot_of c → Ascending ps → doings ≡ [] → verdict_of c most (journal_of trace) ≡ verdict.Legal → Counting c most trace trace 0 world ps doings
-counting_begins c most trace world ps doings boots ascends none legal = record {
-  past = no_past c;
-  place = 1;
-  history = [];
-  led = ap Some (sym boots);
-  unix = ap Some (sym boots);
-  ascends = ascends;
-  counts = λ pid. ap (λ m. (doing_of m pid).done) none;
-  know = λ pid. subst (λ (m : List (ℕ × Doing)). Knows c ps pid (doing_of m pid).done (doing_of m pid).standing) (sym none) (λ (read : false ≡ true). absurd (cc (read)));
-  legal = ap (λ u. verdict_from c most 1 0 u (journal_of trace)) boots ∙ legal;
-  within = omega arith;
-  left = refl;
-}
+counting_begins c most trace world ps doings boots ascends none legal =
+    subst (λ (m : List (ℕ × Doing)). Counting c most trace trace 0 world ps m) (sym none) (record {
+      past = no_past c;
+      place = 1;
+      history = [];
+      led = ap Some (sym boots);
+      unix = ap Some (sym boots);
+      ascends = ascends;
+      counts = λ pid. refl;
+      few = λ pid. omega arith;
+      absent = λ pid nobody. (refl, refl);
+      legal = ap (λ u. verdict_from c most 1 0 u (journal_of trace)) boots ∙ legal;
+      within = omega arith;
+      on = λ each met. each;
+      back = λ counted. (counted, λ pid. idle_met fresh (due_by c ps pid) (refl, refl));
+    })
 
--- at a record that doesn't keep the count
+never : (b : Bool) → (b ≡ true → ⊥) → false ≡ b
+never true no_way = absurd (no_way refl)
+never false no_way = refl
+
+not_met : (c : Description) (most : ℕ) (trace rest : List Rec) (cost : ℕ) (world : World) (ps : List Process) (doings : List (ℕ × Doing)) (pid : ℕ) → Counting c most trace rest cost world ps doings → is_met (doing_of doings pid) (due_by c ps pid) ≡ false → false ≡ bursts_are_counted c trace
+not_met c most trace rest cost world ps doings pid here is =
+    never (bursts_are_counted c trace) (λ counted. let so = sym is ∙ (here.back counted).1 pid in absurd (cc (so)))
+
+-- at the death of a process that didn't meet what it did
+dies_by : (c : Description) (ps : List Process) (entry : Entry) (call : Option Call) (old new : List (ℕ × Doing)) → JudgesEntry c ps entry call old false new → is_met (doing_of old entry.pid) (due_by c ps entry.pid) ≡ false
+dies_by c ps entry None old new judges = sym judges.0
+dies_by c ps entry (Some call) old new judges = let so = judges.0 in absurd (cc (so))
+
+breaks_by : (c : Description) (most kernel : ℕ) (trace rest : List Rec) (e : Event) (cost : ℕ) (world : World) (ps : List Process) (old new : List (ℕ × Doing)) → Counting c most trace (record { kernel = kernel; event = e } ∷ rest) cost world ps old → Judges c ps e old false new → false ≡ bursts_are_counted c trace
+breaks_by c most kernel trace rest (event.Enter entry) cost world ps old new here judges =
+    not_met c most trace (record { kernel = kernel; event = event.Enter entry } ∷ rest) cost world ps old entry.pid here (dies_by c ps entry entry.call old new judges)
+breaks_by c most kernel trace rest (event.Burst pid count) cost world ps old new here judges = let so = judges.0 in absurd (cc (so))
+breaks_by c most kernel trace rest (event.Issue pid number call) cost world ps old new here judges = let so = judges.0 in absurd (cc (so))
+breaks_by c most kernel trace rest e cost world ps old new here judges = let so = judges.0 in absurd (cc (so))
+
 pub counting_breaks : (c : Description) (most : ℕ) (trace rest : List Rec) (rec : Rec) (cost : ℕ) (world : World) (ps : List Process) (old new : List (ℕ × Doing)) → Counting c most trace (rec ∷ rest) cost world ps old → Judges c ps rec.event old false new → false ≡ bursts_are_counted c trace
-counting_breaks c most trace rest rec cost world ps old new here judges =
-    ap (λ b. b && each_from c (λ p r behind. keeps_count c p r.event) (past_with c rec here.past) rest) (sym (event_kept c world ps here.past rec.event old new false here.unix here.counts judges))
-    ∙ here.left
+counting_breaks c most trace rest rec cost world ps old new here judges = breaks_by c most rec.kernel trace rest rec.event cost world ps old new here judges
+
+-- at an entry whose process didn't
+enters_by : (c : Description) (most kernel : ℕ) (trace rest : List Rec) (e : Event) (cost way : ℕ) (world world_after : World) (ps ps_after : List Process) (old mid new : List (ℕ × Doing)) → Counting c most trace (record { kernel = kernel; event = e } ∷ rest) cost world ps old → Judges c ps e old true mid → Takes c (most - cost) e world ps (applied.Made way) world_after ps_after → Enters e way mid false new → false ≡ bursts_are_counted c trace
+enters_by c most kernel trace rest (event.Enter entry) cost way world world_after ps ps_after old mid new here judges takes enters =
+    not_met c most trace (record { kernel = kernel; event = event.Enter entry } ∷ rest) cost world ps old entry.pid here (settles c world world_after ps ps_after entry way old mid new false judges takes.0 takes.2 enters).met
+enters_by c most kernel trace rest (event.Burst pid count) cost way world world_after ps ps_after old mid new here judges takes enters = let so = enters.0 in absurd (cc (so))
+enters_by c most kernel trace rest e cost way world world_after ps ps_after old mid new here judges takes enters = let so = enters.0 in absurd (cc (so))
+
+pub counting_not_met : (c : Description) (most : ℕ) (trace rest : List Rec) (rec : Rec) (cost way : ℕ) (world world_after : World) (ps ps_after : List Process) (old mid new : List (ℕ × Doing)) → Counting c most trace (rec ∷ rest) cost world ps old → Judges c ps rec.event old true mid → Takes c (most - cost) rec.event world ps (applied.Made way) world_after ps_after → Enters rec.event way mid false new → false ≡ bursts_are_counted c trace
+counting_not_met c most trace rest rec cost way world world_after ps ps_after old mid new here judges takes enters =
+    enters_by c most rec.kernel trace rest rec.event cost way world world_after ps ps_after old mid new here judges takes enters
 
 -- behind all
-pub counting_ends : (c : Description) (most : ℕ) (trace : List Rec) (cost : ℕ) (world : World) (ps : List Process) (doings : List (ℕ × Doing)) → Counting c most trace [] cost world ps doings → true ≡ bursts_are_counted c trace
-counting_ends c most trace cost world ps doings here = here.left
+all_from : (c : Description) (ps all : List Process) (doings : List (ℕ × Doing)) → AreMet c ps doings → all_met c ps doings all ≡ true
+all_from c ps [] doings met = refl
+all_from c ps (p ∷ more) doings met = ap (λ b. b && all_met c ps doings more) (met p.pid) ∙ all_from c ps more doings met
 
-left_on : (c : Description) (trace rest : List Rec) (rec : Rec) (past : Past) → keeps_count c past rec.event ≡ true → each_from c (λ p r behind. keeps_count c p r.event) past (rec ∷ rest) ≡ bursts_are_counted c trace → each_from c (λ p r behind. keeps_count c p r.event) (past_with c rec past) rest ≡ bursts_are_counted c trace
-left_on c trace rest rec past kept left = ap (λ b. b && each_from c (λ p r behind. keeps_count c p r.event) (past_with c rec past) rest) (sym kept) ∙ left
+found_met : (c : Description) (ps all : List Process) (doings : List (ℕ × Doing)) (pid : ℕ) (p : Process) → all_met c ps doings all ≡ true → process_at all pid ≡ Some p → is_met (doing_of doings pid) (due_by c ps pid) ≡ true
+found_met c ps [] doings pid p met found = absurd (cc (found))
+found_met c ps (q ∷ more) doings pid p met found = by (q.pid == pid) refl (found_met c ps more doings pid p parts.1) found
+  where
+    parts : (is_met (doing_of doings q.pid) (due_by c ps q.pid) ≡ true) × (all_met c ps doings more ≡ true)
+    parts = and_parts (is_met (doing_of doings q.pid) (due_by c ps q.pid)) (all_met c ps doings more) met
+
+    by : (b : Bool) → (q.pid == pid) ≡ b → (process_at more pid ≡ Some p → is_met (doing_of doings pid) (due_by c ps pid) ≡ true) → cond b (Some q) (process_at more pid) ≡ Some p → is_met (doing_of doings pid) (due_by c ps pid) ≡ true
+    by true is further so = subst (λ (n : ℕ). is_met (doing_of doings n) (due_by c ps n) ≡ true) (eqb-true q.pid pid is) parts.0
+    by false is further so = further so
+
+met_all : (c : Description) (ps : List Process) (doings : List (ℕ × Doing)) → all_met c ps doings ps ≡ true → AreMet c ps doings
+met_all c ps doings met pid = by (process_at ps pid) refl
+  where
+    by : (o : Option Process) → process_at ps pid ≡ o → is_met (doing_of doings pid) (due_by c ps pid) ≡ true
+    by None is = ap (is_met (doing_of doings pid)) (due_without c ps pid is) ∙ met_none (doing_of doings pid)
+    by (Some p) is = found_met c ps ps doings pid p met is
+
+same_truth : (a b : Bool) → (a ≡ true → b ≡ true) → (b ≡ true → a ≡ true) → a ≡ b
+same_truth true b on back = sym (on refl)
+same_truth false true on back = back refl
+same_truth false false on back = refl
+
+pub counting_ends : (c : Description) (most : ℕ) (trace : List Rec) (cost : ℕ) (world : World) (ps : List Process) (doings : List (ℕ × Doing)) → Counting c most trace [] cost world ps doings → all_met c ps doings ps ≡ bursts_are_counted c trace
+counting_ends c most trace cost world ps doings here =
+    same_truth (all_met c ps doings ps) (bursts_are_counted c trace) (λ met. here.on refl (met_all c ps doings met)) (λ counted. all_from c ps ps doings (here.back counted).1)
+
+both_true : (a b : Bool) → a ≡ true → b ≡ true → (a && b) ≡ true
+both_true true b is more = more
+both_true false b is more = is
 
 -- behind a record that is no entry
-goes_other : (c : Description) (most kernel : ℕ) (trace rest : List Rec) (e : Event) (cost way : ℕ) (world world_after : World) (ps ps_after : List Process) (old new : List (ℕ × Doing)) (here : Counting c most trace (record { kernel = kernel; event = e } ∷ rest) cost world ps old) → keeps_count c here.past e ≡ true → state_by c e here.past.unix ≡ here.past.unix → journal_of (record { kernel = kernel; event = e } ∷ rest) ≡ journal_of rest → applied.Made way ≡ applied.Made 0 → world_after ≡ world → ps_after ≡ ps → ((pid : ℕ) → (doing_of new pid).done ≡ done_since_entry pid (here.past.records ++ record { kernel = kernel; event = e } ∷ [])) → Know c ps new → Counting c most trace rest (cost + way) world_after ps_after new
-goes_other c most kernel trace rest e cost way world world_after ps ps_after old new here kept stays journal nothing world_stays ps_stay counts know =
+goes_other : (c : Description) (most kernel : ℕ) (trace rest : List Rec) (e : Event) (cost way : ℕ) (world world_after : World) (ps ps_after : List Process) (old new : List (ℕ × Doing)) (here : Counting c most trace (record { kernel = kernel; event = e } ∷ rest) cost world ps old) → state_by c e here.past.unix ≡ here.past.unix → journal_of (record { kernel = kernel; event = e } ∷ rest) ≡ journal_of rest → applied.Made way ≡ applied.Made 0 → world_after ≡ world → ps_after ≡ ps → ((pid : ℕ) → (doing_of new pid).done ≡ done_since_entry pid (here.past.records ++ record { kernel = kernel; event = e } ∷ [])) → ((pid : ℕ) → (doing_of new pid).most ≤ (doing_of new pid).done) → ((pid : ℕ) → process_at ps pid ≡ None → IsIdle (doing_of new pid)) → (AreMet c ps new → (keeps_count c here.past e ≡ true) × AreMet c ps old) → (keeps_count c here.past e ≡ true → AreMet c ps old → AreMet c ps new) → Counting c most trace rest (cost + way) world_after ps_after new
+goes_other c most kernel trace rest e cost way world world_after ps ps_after old new here stays journal nothing world_stays ps_stay counts few absent before behind =
     let rec : Rec = record { kernel = kernel; event = e } in
     let way_is : way ≡ 0 = ap way_in nothing in
     let cost_is : cost + way ≡ cost = omega (arith, way_is) in
@@ -183,10 +299,15 @@ goes_other c most kernel trace rest e cost way world world_after ps ps_after old
       unix = stays ∙ here.unix;
       ascends = here.ascends;
       counts = counts;
-      know = know;
+      few = few;
+      absent = absent;
       legal = sym (ap (verdict_from c most here.place cost (unix_of c world ps)) journal) ∙ here.legal;
       within = here.within;
-      left = left_on c trace rest rec here.past kept here.left;
+      on = λ each met. here.on (both_true (keeps_count c here.past e) (each_from c (λ p r behind. keeps_count c p r.event) (past_with c rec here.past) rest) (before met).0 each) (before met).1;
+      back = λ counted.
+          let h = here.back counted in
+          let parts = and_parts (keeps_count c here.past e) (each_from c (λ p r behind. keeps_count c p r.event) (past_with c rec here.past) rest) h.0 in
+          (parts.1, behind parts.0 h.1);
     })))
   where
     way_in : Applied → ℕ
@@ -194,8 +315,8 @@ goes_other c most kernel trace rest e cost way world world_after ps ps_after old
     way_in _ = 0
 
 -- behind an entry
-goes_entry : (c : Description) (most kernel : ℕ) (trace rest : List Rec) (entry : Entry) (cost way : ℕ) (world world_after : World) (ps ps_after : List Process) (old new : List (ℕ × Doing)) → Lawful c → (here : Counting c most trace (record { kernel = kernel; event = event.Enter entry } ∷ rest) cost world ps old) → keeps_count c here.past (event.Enter entry) ≡ true → Takes c (most - cost) (event.Enter entry) world ps (applied.Made way) world_after ps_after → ((other : ℕ) → doing_of new other ≡ without entry.pid old other) → Counting c most trace rest (cost + way) world_after ps_after new
-goes_entry c most kernel trace rest entry cost way world world_after ps ps_after old new lawful here kept takes anew =
+goes_entry : (c : Description) (most kernel : ℕ) (trace rest : List Rec) (entry : Entry) (cost way : ℕ) (world world_after : World) (ps ps_after : List Process) (old new : List (ℕ × Doing)) → Lawful c → (here : Counting c most trace (record { kernel = kernel; event = event.Enter entry } ∷ rest) cost world ps old) → Takes c (most - cost) (event.Enter entry) world ps (applied.Made way) world_after ps_after → Settles c ps entry old new true → Counting c most trace rest (cost + way) world_after ps_after new
+goes_entry c most kernel trace rest entry cost way world world_after ps ps_after old new lawful here takes settled =
     let u = unix_of c world ps in
     let v = unix_of c world_after ps_after in
     let rec : Rec = record { kernel = kernel; event = event.Enter entry } in
@@ -211,44 +332,81 @@ goes_entry c most kernel trace rest entry cost way world world_after ps ps_after
       led = state_from-append c (Some (boot_of c)) here.history (entry ∷ []) ∙ (ap (λ s. state_from c s (entry ∷ [])) here.led ∙ after_is);
       unix = ap (λ s. option_and_then (λ w. after c w entry) s) here.unix ∙ after_is;
       ascends = takes.3;
-      counts = entry_counts here.past.records kernel entry old new here.counts anew;
-      know = entry_knows c world world_after ps ps_after here.history entry old new lawful here.led after_is here.know anew;
+      counts = entry_counts here.past.records kernel entry old new here.counts settled.anew;
+      few = anew_keeps (λ pid (d : Doing). d.most ≤ d.done) entry.pid old new settled.anew (λ other is. here.few other) (λ other. omega arith);
+      absent = anew_keeps (λ pid (d : Doing). process_at ps_after pid ≡ None → IsIdle d) entry.pid old new settled.anew (λ other is none. here.absent other (absent_after c world world_after ps ps_after here.history entry other (process_at ps other) lawful here.led after_is is refl none)) (λ other none. (refl, refl));
       legal = sym (check_made c most here.place cost way u v entry (journal_of rest) way_is few after_is) ∙ here.legal;
       within = few;
-      left = left_on c trace rest rec here.past kept here.left;
+      on = λ each met. here.on each (λ other. was_met met other (entry.pid == other) refl);
+      back = λ counted.
+          let h = here.back counted in
+          (h.0, anew_keeps (λ pid (d : Doing). is_met d (due_by c ps_after pid) ≡ true) entry.pid old new settled.anew (λ other is. same other is ∙ h.1 other) (λ other. idle_met fresh (due_by c ps_after other) (refl, refl)));
     }
-
-swapped : (a b : ℕ) (more : ℕ) → cond (a == b) more 0 ≡ cond (b == a) more 0
-swapped a b more = by (a == b) (b == a) refl refl
   where
-    by : (x y : Bool) → (a == b) ≡ x → (b == a) ≡ y → cond x more 0 ≡ cond y more 0
-    by true true is so = refl
-    by false false is so = refl
-    by true false is so = let bad : true ≡ false = sym (eq-eqb b a (sym (eqb-true a b is))) ∙ so in absurd (cc (bad))
-    by false true is so = let bad : true ≡ false = sym (eq-eqb a b (sym (eqb-true b a so))) ∙ is in absurd (cc (bad))
+    same : (other : ℕ) → (entry.pid == other) ≡ false → is_met (doing_of old other) (due_by c ps_after other) ≡ is_met (doing_of old other) (due_by c ps other)
+    same other is = met_after c world world_after ps ps_after here.history entry other (doing_of old other) (process_at ps other) lawful here.led takes.2 is (here.absent other) refl
 
-goes_by : (c : Description) (most kernel : ℕ) (trace rest : List Rec) (e : Event) (cost way : ℕ) (world world_after : World) (ps ps_after : List Process) (old new : List (ℕ × Doing)) → Lawful c → Counting c most trace (record { kernel = kernel; event = e } ∷ rest) cost world ps old → Judges c ps e old true new → Takes c (most - cost) e world ps (applied.Made way) world_after ps_after → Counting c most trace rest (cost + way) world_after ps_after new
-goes_by c most kernel trace rest (event.Enter entry) cost way world world_after ps ps_after old new lawful here judges takes =
-    goes_entry c most kernel trace rest entry cost way world world_after ps ps_after old new lawful here (event_kept c world ps here.past (event.Enter entry) old new true here.unix here.counts judges) takes judges.1
-goes_by c most kernel trace rest (event.Burst pid count) cost way world world_after ps ps_after old new lawful here judges takes =
-    goes_other c most kernel trace rest (event.Burst pid count) cost way world world_after ps ps_after old new here (event_kept c world ps here.past (event.Burst pid count) old new true here.unix here.counts judges) refl refl takes.nothing takes.world_stays takes.processes_stay
-    (one_counts c ps here.past.records (record { kernel = kernel; event = event.Burst pid count }) pid count old new here.counts judges.1 (λ other. refl) (λ other. refl))
-    (one_knows c ps pid ((doing_of old pid).done + count) old new here.know judges.1)
-goes_by c most kernel trace rest (event.Issue pid number call) cost way world world_after ps ps_after old new lawful here judges takes =
-    let went = judges.1 in
-    let same : (doing_of old pid).done ≡ (doing_of old pid).done + 0 = none_more (doing_of old pid).done in
-    goes_other c most kernel trace rest (event.Issue pid number call) cost way world world_after ps ps_after old new here (event_kept c world ps here.past (event.Issue pid number call) old new true here.unix here.counts judges) refl refl takes.nothing takes.world_stays takes.processes_stay
-    (one_counts c ps here.past.records (record { kernel = kernel; event = event.Issue pid number call }) pid 0 old new here.counts (subst (λ (n : ℕ). WentOn c ps pid n old new) same went) (λ other. refl) (λ other. none_either (pid == other)))
-    (one_knows c ps pid (doing_of old pid).done old new here.know went)
+    was_met : AreMet c ps_after new → (other : ℕ) (b : Bool) → (entry.pid == other) ≡ b → is_met (doing_of old other) (due_by c ps other) ≡ true
+    was_met met other true is = subst (λ (n : ℕ). is_met (doing_of old n) (due_by c ps n) ≡ true) (eqb-true entry.pid other is) settled.met
+    was_met met other false is =
+        sym (same other is)
+        ∙ (sym (ap (λ (d : Doing). is_met d (due_by c ps_after other)) (settled.anew other ∙ ap (λ b. cond b fresh (doing_of old other)) is))
+        ∙ met other)
+
+few_burst : (there : Bool) (count : ℕ) (doing : Doing) → doing.most ≤ doing.done → (burst_behind there count doing).most ≤ (burst_behind there count doing).done
+few_burst true count doing few = omega (arith)
+few_burst false count doing few = omega (arith, few)
+
+idle_burst : (o : Option Process) (count : ℕ) (doing : Doing) → o ≡ None → IsIdle doing → IsIdle (burst_behind (is_some o) count doing)
+idle_burst None count doing none idle = idle
+idle_burst (Some p) count doing none idle = absurd (cc (none))
+
+idle_issue : (o : Option Process) (doing : Doing) → o ≡ None → IsIdle doing → IsIdle (issue_behind (is_some o) doing)
+idle_issue None doing none idle = idle
+idle_issue (Some p) doing none idle = absurd (cc (none))
+
+goes_by : (c : Description) (most kernel : ℕ) (trace rest : List Rec) (e : Event) (cost way : ℕ) (world world_after : World) (ps ps_after : List Process) (old mid new : List (ℕ × Doing)) → Lawful c → Counting c most trace (record { kernel = kernel; event = e } ∷ rest) cost world ps old → Judges c ps e old true mid → Takes c (most - cost) e world ps (applied.Made way) world_after ps_after → Enters e way mid true new → Counting c most trace rest (cost + way) world_after ps_after new
+goes_by c most kernel trace rest (event.Enter entry) cost way world world_after ps ps_after old mid new lawful here judges takes enters =
+    goes_entry c most kernel trace rest entry cost way world world_after ps ps_after old new lawful here takes (settles c world world_after ps ps_after entry way old mid new true judges takes.0 takes.2 enters)
+goes_by c most kernel trace rest (event.Burst pid count) cost way world world_after ps ps_after old mid new lawful here judges takes enters =
+    let there = is_some (process_at ps pid) in
+    let doing = doing_of old pid in
+    let later = burst_behind there count doing in
+    let went : WentOn pid later old new = subst (λ (m : List (ℕ × Doing)). WentOn pid later old m) (sym enters.1) judges.1 in
+    let kept_is : keeps_count c here.past (event.Burst pid count) ≡ is_at_most (doing.done + count) (due_by c ps pid) = ap₂ (λ n due. is_at_most (n + count) due) (sym (here.counts pid)) (due_is c world ps here.past pid here.unix) in
+    let owes = burst_owes doing there count (due_by c ps pid) (here.few pid) (λ none. nobody_due c ps pid (process_at ps pid) refl none) in
+    goes_other c most kernel trace rest (event.Burst pid count) cost way world world_after ps ps_after old new here refl refl takes.nothing takes.world_stays takes.processes_stay
+    (one_counts here.past.records (record { kernel = kernel; event = event.Burst pid count }) pid count later old new here.counts went refl (λ other. refl) (λ other. refl))
+    (one_keeps (λ other (d : Doing). d.most ≤ d.done) pid later old new went here.few (few_burst there count doing (here.few pid)))
+    (one_keeps (λ other (d : Doing). process_at ps other ≡ None → IsIdle d) pid later old new went here.absent (λ none. idle_burst (process_at ps pid) count doing none (here.absent pid none)))
+    (λ met. let h = before_one c ps pid later old new (is_at_most (doing.done + count) (due_by c ps pid)) went owes met in (kept_is ∙ h.0, h.1))
+    (λ kept met. behind_one c ps pid later old new (is_at_most (doing.done + count) (due_by c ps pid)) went owes (sym kept_is ∙ kept) met)
+goes_by c most kernel trace rest (event.Issue pid number call) cost way world world_after ps ps_after old mid new lawful here judges takes enters =
+    let there = is_some (process_at ps pid) in
+    let doing = doing_of old pid in
+    let later = issue_behind there doing in
+    let went : WentOn pid later old new = subst (λ (m : List (ℕ × Doing)). WentOn pid later old m) (sym enters.1) judges.1 in
+    let kept_is : keeps_count c here.past (event.Issue pid number call) ≡ is_exactly doing.done (due_by c ps pid) = ap₂ is_exactly (sym (here.counts pid)) (due_is c world ps here.past pid here.unix) in
+    let owes = issue_owes doing there (due_by c ps pid) (λ none. nobody_due c ps pid (process_at ps pid) refl none) in
+    goes_other c most kernel trace rest (event.Issue pid number call) cost way world world_after ps ps_after old new here refl refl takes.nothing takes.world_stays takes.processes_stay
+    (one_counts here.past.records (record { kernel = kernel; event = event.Issue pid number call }) pid 0 later old new here.counts went (none_more doing.done) (λ other. refl) (λ other. none_either (pid == other)))
+    (one_keeps (λ other (d : Doing). d.most ≤ d.done) pid later old new went here.few (here.few pid))
+    (one_keeps (λ other (d : Doing). process_at ps other ≡ None → IsIdle d) pid later old new went here.absent (λ none. idle_issue (process_at ps pid) doing none (here.absent pid none)))
+    (λ met. let h = before_one c ps pid later old new (is_exactly doing.done (due_by c ps pid)) went owes met in (kept_is ∙ h.0, h.1))
+    (λ kept met. behind_one c ps pid later old new (is_exactly doing.done (due_by c ps pid)) went owes (sym kept_is ∙ kept) met)
   where
     none_either : (b : Bool) → 0 ≡ cond {A = ℕ} b 0 0
     none_either true = refl
     none_either false = refl
-goes_by c most kernel trace rest e cost way world world_after ps ps_after old new lawful here judges takes =
-    goes_other c most kernel trace rest e cost way world world_after ps ps_after old new here (event_kept c world ps here.past e old new true here.unix here.counts judges) refl refl takes.nothing takes.world_stays takes.processes_stay
-    (λ pid. subst (λ (m : List (ℕ × Doing)). (doing_of m pid).done ≡ done_since_entry pid (here.past.records ++ record { kernel = kernel; event = e } ∷ [])) (sym judges.1) (none_counts here.past.records (record { kernel = kernel; event = e }) old here.counts (λ other. refl) (λ other. refl) pid))
-    (subst (λ (m : List (ℕ × Doing)). Know c ps m) (sym judges.1) here.know)
+goes_by c most kernel trace rest e cost way world world_after ps ps_after old mid new lawful here judges takes enters =
+    subst (λ (m : List (ℕ × Doing)). Counting c most trace rest (cost + way) world_after ps_after m) (sym (enters.1 ∙ judges.1))
+    (goes_other c most kernel trace rest e cost way world world_after ps ps_after old old here refl refl takes.nothing takes.world_stays takes.processes_stay
+    (none_counts here.past.records (record { kernel = kernel; event = e }) old here.counts (λ other. refl) (λ other. refl))
+    here.few
+    here.absent
+    (λ met. (refl, met))
+    (λ kept met. met))
 
-pub counting_goes : (c : Description) (most : ℕ) (trace rest : List Rec) (rec : Rec) (cost way : ℕ) (world world_after : World) (ps ps_after : List Process) (old new : List (ℕ × Doing)) → Lawful c → Counting c most trace (rec ∷ rest) cost world ps old → Judges c ps rec.event old true new → Takes c (most - cost) rec.event world ps (applied.Made way) world_after ps_after → Counting c most trace rest (cost + way) world_after ps_after new
-counting_goes c most trace rest rec cost way world world_after ps ps_after old new lawful here judges takes =
-    goes_by c most rec.kernel trace rest rec.event cost way world world_after ps ps_after old new lawful here judges takes
+pub counting_goes : (c : Description) (most : ℕ) (trace rest : List Rec) (rec : Rec) (cost way : ℕ) (world world_after : World) (ps ps_after : List Process) (old mid new : List (ℕ × Doing)) → Lawful c → Counting c most trace (rec ∷ rest) cost world ps old → Judges c ps rec.event old true mid → Takes c (most - cost) rec.event world ps (applied.Made way) world_after ps_after → Enters rec.event way mid true new → Counting c most trace rest (cost + way) world_after ps_after new
+counting_goes c most trace rest rec cost way world world_after ps ps_after old mid new lawful here judges takes enters =
+    goes_by c most rec.kernel trace rest rec.event cost way world world_after ps ps_after old mid new lawful here judges takes enters

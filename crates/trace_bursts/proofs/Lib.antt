@@ -1,6 +1,7 @@
 pub mod GoingLaws
 pub mod DoingLaws
+pub mod WayLaws
 pub mod ReasonLaws
-pub mod CountingLaws
 pub mod BehindLaws
 pub mod CostLaws
+pub mod CountingLaws

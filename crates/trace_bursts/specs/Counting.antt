@@ -1,12 +1,15 @@
 -- What the bursts of all processes did since their last entries, from one record to the next.
-use Rattle.std.specs.Prelude.{◌≡◌, ◌≤◌, ℕ, ◌+◌, ◌==◌, Bool, true, false, if◌then◌else◌, List, Option, Some, None}
+use Rattle.std.specs.Prelude.{◌≡◌, ◌≤◌, ℕ, ◌==◌, Bool, true, false, ◌&&◌, ◌||◌, if◌then◌else◌, List, [], ◌∷◌, Option, Some, None}
 use Rattle.std.specs.Map.{lookup}
+use Rattle.std.specs.Option.{is_none, is_some}
+use Rattle.process_machine.specs.declared.call.Call.{Call}
 use Rattle.unix_calls.specs.declared.description.Description.{Description}
 use Rattle.unix_calls.specs.declared.entry.Entry.{Entry}
 use Rattle.unix_calls.specs.declared.event.Event.{Event}
 use Rattle.unix_calls.specs.declared.event.Event.TheVariants as event
 use Rattle.unix_calls.specs.declared.event.Rec.{Rec}
 use Rattle.unix_calls.specs.declared.state.Process.{Process}
+use Rattle.unix_calls.specs.State.{process_at}
 use Rattle.unix_calls.specs.After.{state_of}
 use Rattle.unix_world.specs.declared.World.{World}
 use Rattle.unix_world.specs.Among.{Ascending}
@@ -15,9 +18,10 @@ use Rattle.one_kernel.specs.declared.Verdict.TheVariants as verdict
 use Rattle.one_kernel.specs.Verdicts.{verdict_from}
 use Rattle.call_journal.specs.Journal.{journal_of}
 use Rattle.call_journal.specs.Past.{Past, each_from}
-use Rattle.call_journal.specs.WorthBursts.{done_since_entry, is_at_most, is_exactly}
+use Rattle.call_journal.specs.WorthBursts.{done_since_entry}
 use Rattle.trace_bursts.specs.declared.doing.Doing.{Doing}
-use Rattle.trace_bursts.specs.Doing.{Knows, due_by, fresh}
+use Rattle.trace_bursts.specs.declared.doing.Issued.TheVariants.{Never}
+use Rattle.trace_bursts.specs.Doing.{burst_behind, due_by, fresh, is_met, issue_behind}
 use Rattle.trace_bursts.specs.Reasons.{bursts_are_counted, keeps_count}
 
 -- what a process did; of which nothing is kept, it did nothing
@@ -32,36 +36,53 @@ doing_of doings pid = doing_or (lookup (λ other. pid == other) doings)
 abbrev pub without : ℕ → List (ℕ × Doing) → ℕ → Doing
 without pid doings other = if pid == other then fresh else doing_of doings other
 
--- what is kept of each process is so
-abbrev pub Know : Description → List Process → List (ℕ × Doing) → Type 0
-Know c ps doings = (pid : ℕ) → Knows c ps pid (doing_of doings pid).done (doing_of doings pid).standing
-
 -- only one process went on
 abbrev pub OthersStay : ℕ → List (ℕ × Doing) → List (ℕ × Doing) → Type 0
 OthersStay pid old new = (other : ℕ) → (pid == other) ≡ false → doing_of new other ≡ doing_of old other
 
--- a process that went on, to so many instructions
-pub record WentOn (c : Description) (ps : List Process) (pid done : ℕ) (old new : List (ℕ × Doing)) : Type 0 where
-  pub count : (doing_of new pid).done ≡ done
-  pub knows : Knows c ps pid (doing_of new pid).done (doing_of new pid).standing
+-- one process went on so
+pub record WentOn (pid : ℕ) (later : Doing) (old new : List (ℕ × Doing)) : Type 0 where
+  pub one : doing_of new pid ≡ later
   pub others : OthersStay pid old new
 
-abbrev pub JudgesBurst : Description → List Process → ℕ → ℕ → List (ℕ × Doing) → Bool → List (ℕ × Doing) → Type 0
-JudgesBurst c ps pid count old false new = is_at_most ((doing_of old pid).done + count) (due_by c ps pid) ≡ false
-JudgesBurst c ps pid count old true new =
-    (is_at_most ((doing_of old pid).done + count) (due_by c ps pid) ≡ true) × WentOn c ps pid ((doing_of old pid).done + count) old new
+abbrev pub BurstsOn : List Process → ℕ → ℕ → List (ℕ × Doing) → List (ℕ × Doing) → Type 0
+BurstsOn ps pid count old new = WentOn pid (burst_behind (is_some (process_at ps pid)) count (doing_of old pid)) old new
 
-abbrev pub JudgesIssue : Description → List Process → ℕ → List (ℕ × Doing) → Bool → List (ℕ × Doing) → Type 0
-JudgesIssue c ps pid old false new = is_exactly (doing_of old pid).done (due_by c ps pid) ≡ false
-JudgesIssue c ps pid old true new =
-    (is_exactly (doing_of old pid).done (due_by c ps pid) ≡ true) × WentOn c ps pid (doing_of old pid).done old new
+abbrev pub IssuesOn : List Process → ℕ → List (ℕ × Doing) → List (ℕ × Doing) → Type 0
+IssuesOn ps pid old new = WentOn pid (issue_behind (is_some (process_at ps pid)) (doing_of old pid)) old new
 
--- an event's count is kept, and what is kept goes on; an entry's process begins anew
+-- before an entry nothing changes, and a process that dies is to have met what it did
+abbrev pub JudgesEntry : Description → List Process → Entry → Option Call → List (ℕ × Doing) → Bool → List (ℕ × Doing) → Type 0
+JudgesEntry c ps entry None old kept new = (kept ≡ is_met (doing_of old entry.pid) (due_by c ps entry.pid)) × (new ≡ old)
+JudgesEntry c ps entry (Some call) old kept new = (kept ≡ true) × (new ≡ old)
+
 abbrev pub Judges : Description → List Process → Event → List (ℕ × Doing) → Bool → List (ℕ × Doing) → Type 0
-Judges c ps (event.Burst pid count) old kept new = JudgesBurst c ps pid count old kept new
-Judges c ps (event.Issue pid number call) old kept new = JudgesIssue c ps pid old kept new
-Judges c ps (event.Enter entry) old kept new = (kept ≡ true) × ((other : ℕ) → doing_of new other ≡ without entry.pid old other)
+Judges c ps (event.Burst pid count) old kept new = (kept ≡ true) × BurstsOn ps pid count old new
+Judges c ps (event.Issue pid number call) old kept new = (kept ≡ true) × IssuesOn ps pid old new
+Judges c ps (event.Enter entry) old kept new = JudgesEntry c ps entry entry.call old kept new
 Judges c ps e old kept new = (kept ≡ true) × (new ≡ old)
+
+-- an entry's process begins anew, and is to have met what it did where it made a call after that way
+pub record EntersAt (entry : Entry) (way : ℕ) (old : List (ℕ × Doing)) (kept : Bool) (new : List (ℕ × Doing)) : Type 0 where
+  pub met : kept ≡ (is_none entry.call || is_met (doing_of old entry.pid) (Some way))
+  pub anew : (other : ℕ) → doing_of new other ≡ without entry.pid old other
+
+abbrev pub Enters : Event → ℕ → List (ℕ × Doing) → Bool → List (ℕ × Doing) → Type 0
+Enters (event.Enter entry) way old kept new = EntersAt entry way old kept new
+Enters e way old kept new = (kept ≡ true) × (new ≡ old)
+
+-- all of these processes have met what they did
+abbrev pub all_met : Description → List Process → List (ℕ × Doing) → List Process → Bool
+all_met c ps doings [] = true
+all_met c ps doings (p ∷ more) = is_met (doing_of doings p.pid) (due_by c ps p.pid) && all_met c ps doings more
+
+-- each process has
+abbrev pub AreMet : Description → List Process → List (ℕ × Doing) → Type 0
+AreMet c ps doings = (pid : ℕ) → is_met (doing_of doings pid) (due_by c ps pid) ≡ true
+
+-- where nothing is to be met
+abbrev pub IsIdle : Doing → Type 0
+IsIdle doing = (doing.most ≡ 0) × (doing.issued ≡ Never)
 
 -- a place before the rest of a trace with a legal journal, after so many instructions
 pub record Counting (c : Description) (most : ℕ) (trace rest : List Rec) (cost : ℕ) (world : World) (ps : List Process) (doings : List (ℕ × Doing)) : Type 0 where
@@ -72,7 +93,9 @@ pub record Counting (c : Description) (most : ℕ) (trace rest : List Rec) (cost
   pub unix : past.unix ≡ Some (unix_of c world ps)
   pub ascends : Ascending ps
   pub counts : (pid : ℕ) → (doing_of doings pid).done ≡ done_since_entry pid past.records
-  pub know : Know c ps doings
+  pub few : (pid : ℕ) → (doing_of doings pid).most ≤ (doing_of doings pid).done
+  pub absent : (pid : ℕ) → process_at ps pid ≡ None → IsIdle (doing_of doings pid)
   pub legal : verdict_from c most place cost (unix_of c world ps) (journal_of rest) ≡ verdict.Legal
   pub within : cost ≤ most
-  pub left : each_from c (λ past rec rest. keeps_count c past rec.event) past rest ≡ bursts_are_counted c trace
+  pub on : each_from c (λ past rec rest. keeps_count c past rec.event) past rest ≡ true → AreMet c ps doings → bursts_are_counted c trace ≡ true
+  pub back : bursts_are_counted c trace ≡ true → (each_from c (λ past rec rest. keeps_count c past rec.event) past rest ≡ true) × AreMet c ps doings

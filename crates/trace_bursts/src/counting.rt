@@ -1,11 +1,14 @@
-ghost use Rattle.std.specs.Prelude.{◌≡◌, ◌≤◌, ℕ, IfOk};
+ghost use Rattle.std.specs.Prelude.{◌≡◌, ◌≤◌, ℕ, IfOk, OnOk};
+ghost use Rattle.std.specs.Option.{is_some};
 ghost use Rattle.unix_calls.specs.Lawful.{Lawful};
+ghost use Rattle.unix_calls.specs.State.{process_at};
 ghost use Rattle.unix_world.specs.Among.{Ascending};
 ghost use Rattle.one_kernel.specs.Verdicts.{verdict_of};
 ghost use Rattle.one_kernel.specs.declared.Verdict.TheVariants.{Legal};
 ghost use Rattle.call_journal.specs.Journal.{journal_of};
 ghost use Rattle.trace_bursts.specs.Reasons.{bursts_are_counted};
-ghost use Rattle.trace_bursts.specs.Counting.{Judges, JudgesBurst, JudgesIssue, Know, doing_of, without};
+ghost use Rattle.trace_bursts.specs.Doing.{due_by, is_met};
+ghost use Rattle.trace_bursts.specs.Counting.{BurstsOn, Enters, EntersAt, IssuesOn, Judges, all_met, doing_of, without};
 
 use crate::doing::Doing;
 use crate::taking::take;
@@ -13,12 +16,15 @@ use indexmap::IndexMap;
 use one_kernel::Applied;
 use sprite_ids::{NoMemory, Pid};
 use std::alloc::Global;
-use unix_calls::{Description, Event, Process, Rec};
-use unix_world::boot;
+use unix_calls::{Description, Entry, Event, Process, Rec};
+use unix_world::{boot, find};
 
 /// Whether the bursts of a trace's processes do no more instructions than there are before their next calls, and exactly these where a
 /// call is issued. The journal must be legal, with processes that do at most `most` instructions in all. The one error is want of
 /// memory, which is also the answer where a process's bursts would do 2^64 instructions.
+///
+/// How many instructions there are before a call is told at its entry; only of processes whose call isn't entered in the trace, and of
+/// those that die, are the images run for it.
 pub(crate) fn bursts_are_counted(
     alloc: Global,
     c: &Description,
@@ -45,15 +51,21 @@ pub(crate) fn bursts_are_counted(
             most - cost,
             &rec.event,
         )? {
-            Applied::Made(way) => cost += way,
+            Applied::Made(way) => {
+                if !enter(&mut doings, &rec.event, way) {
+                    return Ok(false);
+                }
+                cost += way;
+            }
             Applied::NotMade => unreachable!(),
             Applied::Far => unreachable!(),
         }
     }
-    Ok(true)
+    let ps = processes.as_slice();
+    are_all_met(alloc, c, ps, &doings)
 }
 
-// Whether an event keeps the count of its process, which goes on with it, and begins anew behind an entry.
+// Keeps what a burst or an issue does; of a death, tells whether its process's bursts are met before it.
 fn judge(
     alloc: Global,
     c: &Description,
@@ -61,62 +73,100 @@ fn judge(
     doings: &mut IndexMap<Pid, Doing>,
     event: &Event,
 ) -> Result<bool, NoMemory>
-    requires ascending { Ascending ps.now }
-    requires know { Know c.now ps.now doings.old.entries }
+    requires { Ascending ps.now }
     ensures { IfOk result (λ kept. Judges c.now ps.now event.now doings.old.entries kept doings.new.entries) }
 {
     match event {
-        Event::Burst { pid, count } => judge_burst(alloc, c, ps, doings, *pid, u64::from(*count)),
-        Event::Issue { pid, .. } => judge_issue(alloc, c, ps, doings, *pid),
-        Event::Enter { entry } => {
-            doings.swap_remove(&entry.pid);
+        Event::Burst { pid, count } => {
+            keep_burst(ps, doings, *pid, u64::from(*count))?;
             Ok(true)
         }
+        Event::Issue { pid, .. } => {
+            keep_issue(ps, doings, *pid)?;
+            Ok(true)
+        }
+        Event::Enter { entry } => match &entry.call {
+            Some(_) => Ok(true),
+            None => is_met_there(alloc, c, ps, doings, entry.pid),
+        },
         _ => Ok(true),
     }
 }
 
-fn judge_burst(
-    alloc: Global,
-    c: &Description,
+fn keep_burst(
     ps: &[Process],
     doings: &mut IndexMap<Pid, Doing>,
     pid: Pid,
     count: u64,
-) -> Result<bool, NoMemory>
-    requires ascending { Ascending ps.now }
-    requires know { Know c.now ps.now doings.old.entries }
-    ensures { IfOk result (λ kept. JudgesBurst c.now ps.now pid count doings.old.entries kept doings.new.entries) }
+) -> Result<(), NoMemory>
+    requires { Ascending ps.now }
+    ensures { OnOk result (BurstsOn ps.now pid count doings.old.entries doings.new.entries) }
 {
-    let doing = taken(doings, pid);
-    match doing.burst(alloc, c, ps, pid, count)? {
-        Some(later) => {
-            doings.insert(pid, later)?;
-            Ok(true)
-        }
-        None => Ok(false),
+    let later = doing_of(doings, pid).burst(is_there(ps, pid), count)?;
+    doings.insert(pid, later)?;
+    Ok(())
+}
+
+fn keep_issue(ps: &[Process], doings: &mut IndexMap<Pid, Doing>, pid: Pid) -> Result<(), NoMemory>
+    requires { Ascending ps.now }
+    ensures { OnOk result (IssuesOn ps.now pid doings.old.entries doings.new.entries) }
+{
+    let later = doing_of(doings, pid).issue(is_there(ps, pid));
+    doings.insert(pid, later)?;
+    Ok(())
+}
+
+// Whether the one kernel has the process.
+fn is_there(ps: &[Process], pid: Pid) -> bool
+    requires { Ascending ps.now }
+    ensures { result ≡ is_some (process_at ps.now pid) }
+{
+    find(ps, pid).is_some()
+}
+
+// What a process's bursts did.
+fn doing_of(doings: &IndexMap<Pid, Doing>, pid: Pid) -> Doing
+    ensures { result ≡ doing_of doings.now.entries pid }
+{
+    match doings.get(&pid) {
+        Some(doing) => *doing,
+        None => Doing::new(),
     }
 }
 
-fn judge_issue(
+// Whether a process's bursts are met by its image in the one kernel.
+fn is_met_there(
     alloc: Global,
     c: &Description,
     ps: &[Process],
-    doings: &mut IndexMap<Pid, Doing>,
+    doings: &IndexMap<Pid, Doing>,
     pid: Pid,
 ) -> Result<bool, NoMemory>
-    requires ascending { Ascending ps.now }
-    requires know { Know c.now ps.now doings.old.entries }
-    ensures { IfOk result (λ kept. JudgesIssue c.now ps.now pid doings.old.entries kept doings.new.entries) }
+    requires { Ascending ps.now }
+    ensures { IfOk result (λ met. met ≡ is_met (doing_of doings.now.entries pid) (due_by c.now ps.now pid)) }
 {
-    let doing = taken(doings, pid);
-    match doing.issue(alloc, c, ps, pid)? {
-        Some(later) => {
-            doings.insert(pid, later)?;
-            Ok(true)
-        }
-        None => Ok(false),
+    let doing = doing_of(doings, pid);
+    match find(ps, pid) {
+        Some(at) => doing.is_met_by(alloc, c, &ps[at]),
+        None => Ok(true),
     }
+}
+
+// Begins anew behind an entry, and tells whether its process's bursts are met by its way to its call.
+fn enter(doings: &mut IndexMap<Pid, Doing>, event: &Event, way: u64) -> bool
+    ensures { Enters event.now way doings.old.entries result doings.new.entries }
+{
+    match event {
+        Event::Enter { entry } => enter_at(doings, entry, way),
+        _ => true,
+    }
+}
+
+fn enter_at(doings: &mut IndexMap<Pid, Doing>, entry: &Entry, way: u64) -> bool
+    ensures { EntersAt entry.now way doings.old.entries result doings.new.entries }
+{
+    let doing = taken(doings, entry.pid);
+    entry.call.is_none() || doing.is_met(way)
 }
 
 // Takes out what a process's bursts did.
@@ -128,4 +178,22 @@ fn taken(doings: &mut IndexMap<Pid, Doing>, pid: Pid) -> Doing
         Some(doing) => doing,
         None => Doing::new(),
     }
+}
+
+// Whether the bursts of all processes in the one kernel are met.
+fn are_all_met(
+    alloc: Global,
+    c: &Description,
+    ps: &[Process],
+    doings: &IndexMap<Pid, Doing>,
+) -> Result<bool, NoMemory>
+    requires { Ascending ps.now }
+    ensures { IfOk result (λ met. met ≡ all_met c.now ps.now doings.now.entries ps.now) }
+{
+    for p in ps {
+        if !is_met_there(alloc, c, ps, doings, p.pid)? {
+            return Ok(false);
+        }
+    }
+    Ok(true)
 }

@@ -1,34 +1,35 @@
-ghost use Rattle.std.specs.Prelude.{◌≡◌, IfOk};
-ghost use Rattle.unix_world.specs.Among.{Ascending};
-ghost use Rattle.trace_bursts.specs.Doing.{Advances, Bursts, IsNear, Issues, Knows, Reads, Stands, fresh};
-ghost use Rattle.trace_bursts.specs.declared.doing.Standing.TheVariants.{On};
+ghost use Rattle.std.specs.Prelude.{◌≡◌, ◌≤◌, IfOk, Some};
+ghost use Rattle.process_machine.specs.Runs.{call_bound};
+ghost use Rattle.call_journal.specs.WorthBursts.{distance_of, distance_within};
+ghost use Rattle.trace_bursts.specs.Doing.{burst_behind, fresh, is_met, issue_behind, issued_with, meets, reach_of};
 
 use crate::going::{Went, go_on};
-use process_machine::Image;
-use sprite_ids::{Copying, NoMemory, Pid};
+use process_machine::{Image, Program};
+use sprite_ids::{Copying, NoMemory};
 use std::alloc::Global;
 use unix_calls::{Description, Process};
-use unix_world::{find, program_at};
+use unix_world::program_at;
 
-/// No call is looked for behind so many instructions.
-const CALL_BOUND: u64 = 40_000_000_000;
-
-/// Where a process stands on the way to its next call (this project).
-#[derive(Drop)]
-pub(crate) enum Standing {
-    /// Its image isn't taken from the one kernel yet.
-    Unread,
-    /// Its image behind the instructions that its bursts did; a call may come within `left` more.
-    On { image: Image, left: u64 },
-    /// No call comes.
-    Free,
+/// Where a process's bursts stood when it issued its next call (this project).
+#[derive(Clone, Copy, Debug, PartialEq, Eq)]
+pub(crate) enum Issued {
+    /// It didn't.
+    Never,
+    /// Behind so many instructions.
+    At(u64),
+    /// Behind different numbers of them.
+    Apart,
 }
 
-/// What a process's bursts did since its last entry (this project).
-#[derive(Drop)]
+/// What a process's bursts did since its last entry (this project). Whether that is as much as there is before its next call is told at
+/// the entry of this call.
+#[derive(Clone, Copy, Debug, PartialEq, Eq)]
 pub(crate) struct Doing {
+    /// How many instructions.
     pub(crate) done: u64,
-    pub(crate) standing: Standing,
+    /// The same behind the last burst of the process while the one kernel had it.
+    pub(crate) most: u64,
+    pub(crate) issued: Issued,
 }
 
 impl Doing {
@@ -38,141 +39,119 @@ impl Doing {
     {
         Doing {
             done: 0,
-            standing: Standing::Unread,
+            most: 0,
+            issued: Issued::Never,
         }
     }
 
-    /// With a burst of so many instructions more; None where a call comes before. The one error is want of memory, which is also the
-    /// answer where the instructions would be 2^64 or more.
-    pub(crate) fn burst(
-        self,
-        alloc: Global,
-        c: &Description,
-        ps: &[Process],
-        pid: Pid,
-        count: u64,
-    ) -> Result<Option<Doing>, NoMemory>
-        requires ascending { Ascending ps.now }
-        requires knows { Knows c.now ps.now pid self.done self.standing }
-        ensures { IfOk result (Bursts c.now ps.now pid self.done count) }
+    /// With a burst of so many instructions more, of a process that the one kernel has or hasn't. The one error is that they would be
+    /// 2^64 or more.
+    pub(crate) fn burst(self, is_there: bool, count: u64) -> Result<Doing, NoMemory>
+        ensures { IfOk result (λ later. later ≡ burst_behind is_there count self) }
     {
-        let done = self.done;
-        let Some(standing) = read(alloc, c, ps, pid, done, self.standing)? else {
-            return Ok(None);
-        };
-        let Some(later) = advance(c, standing, count) else {
-            return Ok(None);
-        };
-        let more = done.checked_add(count).ok_or(NoMemory)?;
-        Ok(Some(Doing {
-            done: more,
-            standing: later,
-        }))
+        let done = self.done.checked_add(count).ok_or(NoMemory)?;
+        let most = if is_there { done } else { self.most };
+        Ok(Doing {
+            done,
+            most,
+            issued: self.issued,
+        })
     }
 
-    /// At a call that is issued; None where it isn't there yet, and a call comes. The one error is want of memory.
-    pub(crate) fn issue(
+    /// With a call that is issued, of a process that the one kernel has or hasn't.
+    pub(crate) fn issue(self, is_there: bool) -> Doing
+        ensures { result ≡ issue_behind is_there self }
+    {
+        let issued = if is_there {
+            issued_with(self.done, self.issued)
+        } else {
+            self.issued
+        };
+        Doing {
+            done: self.done,
+            most: self.most,
+            issued,
+        }
+    }
+
+    /// Whether the bursts did no more than the instructions before the call, and exactly these where it was issued.
+    pub(crate) fn is_met(self, way: u64) -> bool
+        ensures { result ≡ is_met self (Some way) }
+    {
+        self.most <= way && meets(self.issued, way)
+    }
+
+    /// The same of a process that stands where its last entry left it. The one error is want of memory.
+    pub(crate) fn is_met_by(
         self,
         alloc: Global,
         c: &Description,
-        ps: &[Process],
-        pid: Pid,
-    ) -> Result<Option<Doing>, NoMemory>
-        requires ascending { Ascending ps.now }
-        requires knows { Knows c.now ps.now pid self.done self.standing }
-        ensures { IfOk result (Issues c.now ps.now pid self.done) }
+        p: &Process,
+    ) -> Result<bool, NoMemory>
+        ensures { IfOk result (λ met. met ≡ is_met self (distance_of c.now p.now)) }
     {
-        let done = self.done;
-        let Some(standing) = read(alloc, c, ps, pid, done, self.standing)? else {
-            return Ok(None);
+        let Some(program) = program_at(c.programs.as_slice(), p.image.program_number()) else {
+            return Ok(true);
         };
-        match stand(c, standing) {
-            Some(standing) => Ok(Some(Doing { done, standing })),
-            None => Ok(None),
+        let mut image = p.image.copy(alloc)?;
+        Ok(self.is_met_on(program, &mut image, call_bound()))
+    }
+
+    // The same of a process with that image, where a call may come within `left`.
+    fn is_met_on(self, program: &Program, image: &mut Image, left: u64) -> bool
+        requires { left ≤ 40000000000 }
+        ensures { result ≡ is_met self (distance_within program.now left image.old) }
+    {
+        match go_on(program, image, left, self.reach(left)) {
+            Went::Called(way) => self.is_met(way),
+            Went::On(_) => true,
+            Went::Never => true,
+        }
+    }
+
+    // How many instructions tell whether they are met: no call comes behind `left`.
+    fn reach(self, left: u64) -> u64
+        requires { left ≤ 40000000000 }
+        ensures { result ≡ reach_of left self }
+    {
+        match self.issued {
+            Issued::Never => self.most,
+            Issued::At(_) | Issued::Apart => left + 1,
         }
     }
 }
 
-// Takes the process's image from the one kernel, where it wasn't yet and the process is there, and has it do what its bursts did;
-// None where a call comes before.
-fn read(
-    alloc: Global,
-    c: &Description,
-    ps: &[Process],
-    pid: Pid,
-    done: u64,
-    standing: Standing,
-) -> Result<Option<Standing>, NoMemory>
-    requires ascending { Ascending ps.now }
-    requires knows { Knows c.now ps.now pid done standing }
-    ensures { IfOk result (Reads c.now ps.now pid done) }
+// No call is looked for behind so many instructions.
+#[tactic(auto, unfolding(process_machine::specs::Runs::call_bound))]
+fn call_bound() -> u64
+    ensures bound { result ≡ call_bound }
+    ensures few { result ≤ 40000000000 }
 {
-    match standing {
-        Standing::Unread => match find(ps, pid) {
-            Some(at) => {
-                let image = ps[at].image.copy(alloc)?;
-                let on = Standing::On {
-                    image,
-                    left: CALL_BOUND,
-                };
-                Ok(advance(c, on, done))
-            }
-            None => Ok(Some(Standing::Unread)),
+    40_000_000_000
+}
+
+// A call is issued behind so many instructions.
+fn issued_with(done: u64, issued: Issued) -> Issued
+    ensures { result ≡ issued_with done issued }
+{
+    match issued {
+        Issued::Never => Issued::At(done),
+        Issued::At(before) => if before == done {
+            Issued::At(before)
+        } else {
+            Issued::Apart
         },
-        other => Ok(Some(other)),
+        Issued::Apart => Issued::Apart,
     }
 }
 
-// So many instructions later; None where a call comes before.
-fn advance(c: &Description, standing: Standing, count: u64) -> Option<Standing>
-    ensures { Advances c.now standing count result }
+// Whether the call that was issued comes behind so many instructions.
+fn meets(issued: Issued, way: u64) -> bool
+    ensures { result ≡ meets issued (Some way) }
 {
-    match standing {
-        Standing::On { image, left } => advance_image(c, image, left, count),
-        other => Some(other),
-    }
-}
-
-fn advance_image(c: &Description, image: Image, left: u64, count: u64) -> Option<Standing>
-    ensures { Advances c.now (On image left) count result }
-{
-    let mut later = image;
-    let Some(program) = program_at(c.programs.as_slice(), later.program_number()) else {
-        return Some(Standing::Free);
-    };
-    match go_on(program, &mut later, left, count) {
-        Went::On(rest) => Some(Standing::On {
-            image: later,
-            left: rest,
-        }),
-        Went::Called(_) => None,
-        Went::Never => Some(Standing::Free),
-    }
-}
-
-// At a call; None where a call comes later.
-fn stand(c: &Description, standing: Standing) -> Option<Standing>
-    requires { IsNear standing }
-    ensures { Stands c.now standing result }
-{
-    match standing {
-        Standing::On { image, left } => stand_image(c, image, left),
-        other => Some(other),
-    }
-}
-
-fn stand_image(c: &Description, image: Image, left: u64) -> Option<Standing>
-    requires { IsNear (On image left) }
-    ensures { Stands c.now (On image left) result }
-{
-    let mut later = image;
-    let Some(program) = program_at(c.programs.as_slice(), later.program_number()) else {
-        return Some(Standing::Free);
-    };
-    match go_on(program, &mut later, left, left + 1) {
-        Went::Called(0) => Some(Standing::On { image: later, left }),
-        Went::Called(_) => None,
-        Went::On(_) => Some(Standing::Free),
-        Went::Never => Some(Standing::Free),
+    match issued {
+        Issued::Never => true,
+        Issued::At(done) => done == way,
+        Issued::Apart => false,
     }
 }

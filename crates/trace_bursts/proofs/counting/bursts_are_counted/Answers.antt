@@ -1,13 +1,13 @@
-use Rattle.std.proofs.Common.{◌≡◌, ◌∙◌, suc, ◌+◌, ◌-◌, ◌∷◌, [], List, Bool, drop, sym, ap, subst, add-one, drop-cons}
+use Rattle.std.proofs.Common.{◌≡◌, IfOk, ◌∙◌, suc, ◌+◌, ◌-◌, ◌∷◌, [], List, Bool, drop, sym, ap, subst, add-one, drop-cons}
 use Rattle.std.proofs.lemmas.List.{drop_all}
 use Rattle.unix_calls.specs.declared.event.Rec.{Rec}
 use Rattle.unix_calls.specs.declared.state.Process.{Process}
 use Rattle.unix_world.proofs.BootLaws.{lawful_boots}
 use Rattle.one_kernel.specs.declared.Applied.{Applied}
 use Rattle.trace_bursts.specs.Taking.{Takes}
-use Rattle.trace_bursts.specs.Counting.{Counting, Judges}
+use Rattle.trace_bursts.specs.Counting.{Counting, Enters, Judges, all_met}
 use Rattle.trace_bursts.proofs.CostLaws.{none_is_far, none_is_not_made}
-use Rattle.trace_bursts.proofs.CountingLaws.{counting_begins, counting_breaks, counting_ends, counting_goes}
+use Rattle.trace_bursts.proofs.CountingLaws.{counting_begins, counting_breaks, counting_ends, counting_goes, counting_not_met}
 use Rattle.trace_bursts.proofs.counting.bursts_are_counted.Goals as goal
 
 pub boot-requires-clause-starts : goal.boot-requires-clause-starts
@@ -56,7 +56,23 @@ loop-rec-preserved c =
     let takes = subst (λ (t : Applied). Takes d (c.args.most - c.loop-rec.cost) r.event c.loop-rec.world c.loop-rec.processes t c.take.new.world c.take.new.ps) c.in-Made.is c.in_ok-way.ensures in
     let judged = subst (λ (qs : List Process). Judges d qs r.event old c.in_ok-judge.field-0 c.judge.new.doings.entries) c.as_slice.ensures c.in_ok-judge.ensures in
     let judges = subst (λ (b : Bool). Judges d c.loop-rec.processes r.event old b c.judge.new.doings.entries) c.if-not-branch.false judged in
-    counting_goes d c.args.most trace (drop (i + 1) trace) r c.loop-rec.cost c.in-Made.way c.loop-rec.world c.take.new.world c.loop-rec.processes c.take.new.ps old c.judge.new.doings.entries c.requires.lawful here judges takes
+    let enters = subst (λ (b : Bool). Enters r.event c.in-Made.way c.judge.new.doings.entries b c.enter.new.doings.entries) c.if-not-enter.false c.enter.ensures in
+    counting_goes d c.args.most trace (drop (i + 1) trace) r c.loop-rec.cost c.in-Made.way c.loop-rec.world c.take.new.world c.loop-rec.processes c.take.new.ps old c.judge.new.doings.entries c.enter.new.doings.entries c.requires.lawful here judges takes enters
+
+pub returns-then-not-enter : goal.returns-then-not-enter
+returns-then-not-enter c =
+    let d = c.args.c.now in
+    let trace = c.args.trace.now in
+    let i = c.loop-rec.rec-index in
+    let r = c.rec-item.result in
+    let old = c.loop-rec.doings.entries in
+    let cut : drop i trace ≡ r ∷ drop (i + 1) trace = rw add-one (drop-cons trace i r c.loop-rec-test.true ∙ ap (λ (x : Rec). x ∷ drop (suc i) trace) (sym c.rec-item.is)) in
+    let here = subst (λ (rest : List Rec). Counting d c.args.most trace rest c.loop-rec.cost c.loop-rec.world c.loop-rec.processes old) cut c.loop-rec.invariant in
+    let takes = subst (λ (t : Applied). Takes d (c.args.most - c.loop-rec.cost) r.event c.loop-rec.world c.loop-rec.processes t c.take.new.world c.take.new.ps) c.in-Made.is c.in_ok-way.ensures in
+    let judged = subst (λ (qs : List Process). Judges d qs r.event old c.in_ok-judge.field-0 c.judge.new.doings.entries) c.as_slice.ensures c.in_ok-judge.ensures in
+    let judges = subst (λ (b : Bool). Judges d c.loop-rec.processes r.event old b c.judge.new.doings.entries) c.if-not-branch.false judged in
+    let enters = subst (λ (b : Bool). Enters r.event c.in-Made.way c.judge.new.doings.entries b c.enter.new.doings.entries) c.if-not-enter.true c.enter.ensures in
+    counting_not_met d c.args.most trace (drop (i + 1) trace) r c.loop-rec.cost c.in-Made.way c.loop-rec.world c.take.new.world c.loop-rec.processes c.take.new.ps old c.judge.new.doings.entries c.enter.new.doings.entries here judges takes enters
 
 pub returns-then-not-branch : goal.returns-then-not-branch
 returns-then-not-branch c =
@@ -73,7 +89,11 @@ returns-then-not-branch c =
 
 pub returns : goal.returns
 returns c =
+    let d = c.args.c.now in
     let trace = c.args.trace.now in
     let i = c.loop-rec.rec-index in
+    let doings = c.loop-rec.doings.entries in
     let all : drop i trace ≡ [] = drop_all i trace c.loop-rec-test.false in
-    counting_ends c.args.c.now c.args.most trace c.loop-rec.cost c.loop-rec.world c.loop-rec.processes c.loop-rec.doings.entries (subst (λ (rest : List Rec). Counting c.args.c.now c.args.most trace rest c.loop-rec.cost c.loop-rec.world c.loop-rec.processes c.loop-rec.doings.entries) all c.loop-rec.invariant)
+    let here = subst (λ (rest : List Rec). Counting d c.args.most trace rest c.loop-rec.cost c.loop-rec.world c.loop-rec.processes doings) all c.loop-rec.invariant in
+    let met = subst (λ (qs : List Process). IfOk c.are_all_met.result (λ (k : Bool). k ≡ all_met d qs doings qs)) c.as_slice-ps.ensures c.are_all_met.ensures in
+    subst (λ (b : Bool). IfOk c.are_all_met.result (λ (k : Bool). k ≡ b)) (counting_ends d c.args.most trace c.loop-rec.cost c.loop-rec.world c.loop-rec.processes doings here) met
