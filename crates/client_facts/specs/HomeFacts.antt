@@ -145,7 +145,7 @@ abbrev pub ForksAreOnce : ClientProcs → Type 0
 ForksAreOnce s = EachOnce same_call_row s.forks
 
 abbrev pub may_come : ClientProcs → ℕ × TxNo → Bool
-may_come s row = list_any (is_under is_call row.1) s.forks && not (is_here row.0 s)
+may_come s row = list_any (is_under is_call row.1) s.forks
 
 -- a process whose kill came before it waits for `fork`s alone that have no answer
 abbrev pub EarlyMayCome : ClientProcs → Type 0

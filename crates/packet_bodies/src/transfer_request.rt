@@ -10,7 +10,7 @@ use std::alloc::Global;
 pub struct TransferRequest {
     /// The process whose call it is.
     pub pid: Pid,
-    /// The number of its next call, or of its `migrate`.
+    /// The number of the call that it came to last.
     pub number: u32,
     /// Its image.
     pub image: Image,
