@@ -1,46 +1,18 @@
--- What a fact of the operations that wait, and of the requests that a step has begun so far, must bear: that requests go out, that operations
--- wait and are taken out, and that one waits in a broadcast that went out for it.
+-- That each operation that waits in a broadcast asked for its prefix bears what a client's files' side does.
 use Rattle.std.proofs.Common.{◌≡◌, ℕ, ◌+◌, ◌⊎◌, Bool, true, false, cond, List, [], ◌∷◌, ◌++◌, length, length-append, slice_get, zero, suc, Option, Some, option_map, inl, inr, arith, refl, subst}
 use Rattle.std.specs.List.{AllByRecursion, find}
 use Rattle.sprite_ids.specs.declared.TxNo.{TxNo}
 use Rattle.sprite_ids.specs.Lists.{less}
 use Rattle.sprite_ids.proofs.ListLaws.{each_push, each_weaken, some_is}
-use Rattle.packet_bodies.specs.declared.Request.TheVariants.{Prefix}
 use Rattle.kernel_steps.specs.declared.Sending.{Sending}
-use Rattle.kernel_steps.specs.Outs.{number_after}
 use Rattle.kernel_steps.specs.Rows.{is_under}
-use Rattle.client_file_tables.specs.declared.names.NameWork.{NameWork}
 use Rattle.client_file_tables.specs.declared.pending.Pending.{Pending}
 use Rattle.client_file_tables.specs.declared.pending.Pending.TheVariants as operations
 use Rattle.client_file_tables.specs.declared.states.NameState.{NameState}
 use Rattle.client_file_tables.specs.declared.states.NameState.TheVariants as states
-use Rattle.client_file_tables.specs.Rows.{first_of, less_of, same_pid}
+use Rattle.client_file_tables.specs.Rows.{less_of, same_pid}
+use Rattle.client_walks.proofs.Bearing.{Bears, Seen, is_plain, is_plain_state, waiting_so}
 use Rattle.broadcast_laws.specs.Broadcasts.{AsksNow, Parts}
-
--- whether a name call waits in no broadcast, and an operation
-abbrev pub is_plain_state : NameState → Bool
-is_plain_state (states.Broadcasting tx prefix) = false
-is_plain_state (states.Echoing tx server) = true
-is_plain_state (states.Asking tx) = true
-
-abbrev pub is_plain : Pending → Bool
-is_plain (operations.Name call) = is_plain_state call.state
-is_plain (operations.Data call) = true
-is_plain (operations.Sync call) = true
-is_plain (operations.Close work) = true
-is_plain (operations.Move work) = true
-
--- the operation of a name call that waits so
-abbrev pub waiting_so : NameWork → NameState → Pending
-waiting_so work state = operations.Name (record { work = work; state = state })
-
-pub record BearsAsking (Q : List (ℕ × Pending) → TxNo → List Sending → Type 0) : Type 0 where
-  pub says : (rows : List (ℕ × Pending)) (next : TxNo) (sends : List Sending) (sending : Sending) → Q rows next sends → Q rows (number_after next) (sends ++ sending ∷ [])
-  pub keeps : (rows : List (ℕ × Pending)) (next : TxNo) (sends : List Sending) (pid : ℕ) (operation : Pending) → is_plain operation ≡ true → Q rows next sends → Q (rows ++ (pid, operation) ∷ []) next sends
-  pub puts_back : (rows : List (ℕ × Pending)) (next : TxNo) (sends : List Sending) (pid : ℕ) (operation : Pending) → first_of pid rows ≡ Some operation → Q rows next sends → Q (less_of pid rows ++ (pid, operation) ∷ []) next sends
-  pub left : (rows : List (ℕ × Pending)) (next : TxNo) (sends : List Sending) (pid : ℕ) → Q rows next sends → Q (less_of pid rows) next sends
-  pub broadcasts : (rows : List (ℕ × Pending)) (next : TxNo) (sends : List Sending) (pid : ℕ) (work : NameWork) (prefix : Parts) (sending : Sending) → sending.body ≡ Prefix prefix → Q rows next sends
-      → Q (rows ++ (pid, waiting_so work (states.Broadcasting next prefix)) ∷ []) (number_after next) (sends ++ sending ∷ [])
 
 -- ---- what each operation that waits in a broadcast asked before, or asks now
 
@@ -67,6 +39,9 @@ RowsAsk Asks rows = AllByRecursion (λ (row : ℕ × Pending). OperationAsks Ask
 pub record AskSo (Old : TxNo → Parts → Type 0) (first : ℕ) (rows : List (ℕ × Pending)) (next : TxNo) (sends : List Sending) : Type 0 where
   pub numbered : next.0 ≡ first + length sends
   pub asks : RowsAsk (Known Old first sends) rows
+
+abbrev pub Asked : (TxNo → Parts → Type 0) → ℕ → Seen → Type 0
+Asked Old first seen = AskSo Old first seen.rows seen.next seen.sends
 
 -- ---- lists
 
@@ -138,18 +113,23 @@ module _ (Old : TxNo → Parts → Type 0) (first : ℕ) where
   left_asks : (rows : List (ℕ × Pending)) (sends : List Sending) (pid : ℕ) → RowsAsk (Known Old first sends) rows → RowsAsk (Known Old first sends) (less_of pid rows)
   left_asks rows sends pid h = each_less (λ (row : ℕ × Pending). OperationAsks (Known Old first sends) row.1) (is_under same_pid pid) rows h
 
-  pub asking : BearsAsking (AskSo Old first)
+  pub asking : Bears (Asked Old first)
   asking = record {
-    says = λ rows next sends sending q. record { numbered = more_length first next.0 sends sending q.numbered; asks = asks_more sends sending rows q.asks };
-    keeps = λ rows next sends pid operation plain q. record { numbered = q.numbered; asks = kept_asks rows sends pid operation (plain_so (Known Old first sends) operation plain) q.asks };
-    puts_back = λ rows next sends pid operation e q. record {
-      numbered = q.numbered;
-      asks = kept_asks (less_of pid rows) sends pid operation (found_so (OperationAsks (Known Old first sends)) (is_under same_pid pid) rows operation q.asks e) (left_asks rows sends pid q.asks);
+    telling = record {
+      tells = λ seen event h q. q;
+      says = λ seen sending kind h q. record { numbered = more_length first seen.next.0 seen.sends sending q.numbered; asks = asks_more seen.sends sending seen.rows q.asks };
+      answers = λ seen tx body here q. record { numbered = q.numbered; asks = q.asks };
+      keeps = λ seen pid operation plain q. record { numbered = q.numbered; asks = kept_asks seen.rows seen.sends pid operation (plain_so (Known Old first seen.sends) operation plain) q.asks };
+      left = λ seen pid q. record { numbered = q.numbered; asks = left_asks seen.rows seen.sends pid q.asks };
+      puts_back = λ seen pid operation e q. record {
+        numbered = q.numbered;
+        asks = kept_asks (less_of pid seen.rows) seen.sends pid operation (found_so (OperationAsks (Known Old first seen.sends)) (is_under same_pid pid) seen.rows operation q.asks e) (left_asks seen.rows seen.sends pid q.asks);
+      };
+      broadcasts = λ seen pid work prefix sending asks e q. record {
+        numbered = more_length first seen.next.0 seen.sends sending q.numbered;
+        asks = kept_asks seen.rows (seen.sends ++ sending ∷ []) pid (waiting_so work (states.Broadcasting seen.next prefix))
+            (inr (record { at = length seen.sends; sending = sending; there = got_last seen.sends sending; number = q.numbered; asks = asks })) (asks_more seen.sends sending seen.rows q.asks);
+      };
     };
-    left = λ rows next sends pid q. record { numbered = q.numbered; asks = left_asks rows sends pid q.asks };
-    broadcasts = λ rows next sends pid work prefix sending e q. record {
-      numbered = more_length first next.0 sends sending q.numbered;
-      asks = kept_asks rows (sends ++ sending ∷ []) pid (waiting_so work (states.Broadcasting next prefix))
-          (inr (record { at = length sends; sending = sending; there = got_last sends sending; number = q.numbered; asks = e })) (asks_more sends sending rows q.asks);
-    };
+    learns = λ seen prefix server e q. q;
   }

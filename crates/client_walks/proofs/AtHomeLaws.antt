@@ -15,7 +15,6 @@ use Rattle.packet_bodies.specs.declared.HomeRequest.{HomeRequest}
 use Rattle.packet_bodies.specs.declared.ReplyBody.{ReplyBody}
 use Rattle.packet_bodies.specs.declared.ReplyBody.TheVariants.{Done}
 use Rattle.unix_calls.specs.declared.About.{About}
-use Rattle.client_file_tables.specs.Says.{about_of}
 use Rattle.client_homes.specs.declared.client.ClientProcs.{ClientProcs}
 use Rattle.client_homes.specs.declared.client.KillState.{KillState}
 use Rattle.client_homes.specs.declared.client.KillState.TheVariants as kill_states
@@ -254,29 +253,29 @@ module _ (P : ClientProcs → Hand → Type 0) (came : Input) (keeps : KeepsWith
 
   -- another kernel asks
   waited_for : (o : Option Reply) (tx : TxNo) (pid number : ℕ) (s : ClientProcs) → At s → At (issuing.answers_or_parks tx o (record { pid = pid; number = number; call = home_calls.Wait }) s)
-  waited_for (Some reply) tx pid number s p = keeps.homes.answers s h tx (words.packet_of reply) tt p
+  waited_for (Some reply) tx pid number s p = keeps.homes.answers s h tx reply tt p
   waited_for None tx pid number s p = keeps.homes.parks s h pid (record { number = number; tx = Some tx }) tt p
 
   pub home_served : (call : HomeCall) (tx : TxNo) (pid number : ℕ) (s : ClientProcs) → At s → At (issuing.serves_home tx (record { pid = pid; number = number; call = call }) s)
   home_served (home_calls.Print bytes) tx pid number s p =
       let request : HomeRequest = record { pid = pid; number = number; call = home_calls.Print bytes } in
-      keeps.homes.answers (waiting.enters_home request (value 0 0) s) h tx (words.packet_of (value 0 0)) tt (keeps.homes.enters_home s h request (value 0 0) refl tt p)
+      keeps.homes.answers (waiting.enters_home request (value 0 0) s) h tx (value 0 0) tt (keeps.homes.enters_home s h request (value 0 0) refl tt p)
   home_served (home_calls.Exit code) tx pid number s p =
       let request : HomeRequest = record { pid = pid; number = number; call = home_calls.Exit code } in
       let about : About = record { pid = pid; number = number } in
       let ended : ClientProcs = ending.ends_by_death about s in
       on_if (holds Nothing h) (code == 257) (issuing.serves_death tx request s) (says.answers tx (words.packet_of (value 0 0)) (calling.exits request code s))
-      (λ e. keeps.homes.answers (waiting.wakes_after pid ended) h tx (words.packet_of (value 0 0)) tt (woken_after pid ended (keeps.homes.ends_by_death s h about tt p)))
-      (λ e. keeps.homes.answers (calling.exits request code s) h tx (words.packet_of (value 0 0)) tt (exited request code s p))
+      (λ e. keeps.homes.answers (waiting.wakes_after pid ended) h tx (value 0 0) tt (woken_after pid ended (keeps.homes.ends_by_death s h about tt p)))
+      (λ e. keeps.homes.answers (calling.exits request code s) h tx (value 0 0) tt (exited request code s p))
   home_served home_calls.Getppid tx pid number s p =
       let request : HomeRequest = record { pid = pid; number = number; call = home_calls.Getppid } in
-      keeps.homes.answers (waiting.enters_home request (calling.parent_reply pid s) s) h tx (words.packet_of (calling.parent_reply pid s)) tt (keeps.homes.enters_home s h request (calling.parent_reply pid s) refl tt p)
+      keeps.homes.answers (waiting.enters_home request (calling.parent_reply pid s) s) h tx (calling.parent_reply pid s) tt (keeps.homes.enters_home s h request (calling.parent_reply pid s) refl tt p)
   home_served (home_calls.Host max) tx pid number s p =
       let request : HomeRequest = record { pid = pid; number = number; call = home_calls.Host max } in
-      keeps.homes.answers (waiting.enters_home request (calling.host_reply max s) s) h tx (words.packet_of (calling.host_reply max s)) tt (keeps.homes.enters_home s h request (calling.host_reply max s) refl tt p)
+      keeps.homes.answers (waiting.enters_home request (calling.host_reply max s) s) h tx (calling.host_reply max s) tt (keeps.homes.enters_home s h request (calling.host_reply max s) refl tt p)
   home_served home_calls.Tick tx pid number s p =
       let request : HomeRequest = record { pid = pid; number = number; call = home_calls.Tick } in
-      keeps.homes.answers (calling.ticks_for request s) h tx (words.packet_of (calling.tick_reply s)) tt (keeps.homes.ticks_for s h request tt p)
+      keeps.homes.answers (calling.ticks_for request s) h tx (calling.tick_reply s) tt (keeps.homes.ticks_for s h request tt p)
   home_served home_calls.Fork tx pid number s p =
       let request : HomeRequest = record { pid = pid; number = number; call = home_calls.Fork } in
       keeps.homes.hands_on (calling.forks request s) h tx (homes.born_pid pid s) tt (keeps.homes.forks s h request tt p)
@@ -285,7 +284,7 @@ module _ (P : ClientProcs → Hand → Type 0) (came : Input) (keeps : KeepsWith
       waited_for (waiting.wait_reply pid s) tx pid number (waiting.waits request s) (keeps.homes.waits s h request tt p)
   home_served (home_calls.Kill target) tx pid number s p =
       let request : HomeRequest = record { pid = pid; number = number; call = home_calls.Kill target } in
-      keeps.homes.answers (calling.kills request target s) h tx (words.packet_of (calling.kill_reply target s)) tt (killed request target s p)
+      keeps.homes.answers (calling.kills request target s) h tx (calling.kill_reply target s) tt (killed request target s p)
 
 -- each of these functions keeps what its deeds keep
 pub at_home : (P : ClientProcs → Hand → Type 0) (came : Input) → KeepsWithin came Always P → KeepsAtHome P came

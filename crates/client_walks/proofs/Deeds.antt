@@ -133,7 +133,7 @@ pub record KeepsHomes (F P : ClientProcs → Hand → Type 0) : Type 0 where
   pub parks_here : (s : ClientProcs) (h : Hand) (request : HomeRequest) → F s (holds Nothing h) → P s (holds Nothing h) → P (issuing.parks_here request s) (holds Nothing h)
   pub fetches_for_fork : (s : ClientProcs) (h : Hand) (pid page : ℕ) → F s (holds Nothing h) → P s (holds Nothing h) → P (pages.fetches_for_fork pid page s) (holds Nothing h)
   pub asks_home : (s : ClientProcs) (h : Hand) (kernel : ℕ) (request : HomeRequest) → (kernel == s.home.home) ≡ false → F s (holds Nothing h) → P s (holds Nothing h) → P (issuing.asks_home kernel request s) (holds Nothing h)
-  pub answers : (s : ClientProcs) (h : Hand) (tx : TxNo) (body : ReplyBody) → F s (holds Nothing h) → P s (holds Nothing h) → P (says.answers tx body s) (holds Nothing h)
+  pub answers : (s : ClientProcs) (h : Hand) (tx : TxNo) (reply : Reply) → F s (holds Nothing h) → P s (holds Nothing h) → P (says.answers tx (words.packet_of reply) s) (holds Nothing h)
   -- the home's answer to a `fork` takes the child to another kernel
   pub hands_on : (s : ClientProcs) (h : Hand) (tx : TxNo) (o : Option ℕ) → F s (holds (hand_of o) h) → P s (holds (hand_of o) h) → P (says.answers tx (words.packet_of (calling.born_reply o)) s) (holds Nothing h)
   pub forgets_fork : (s : ClientProcs) (h : Hand) (tx : TxNo) → F s h → P s h → P (issuing.forgets_fork tx s) h

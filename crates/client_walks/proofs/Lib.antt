@@ -2,6 +2,11 @@ pub mod Deeds
 pub mod JoinedLaws
 pub mod AtHomeLaws
 pub mod WalkLaws
+pub mod Bearing
+pub mod DataBearing
+pub mod NameBearing
+pub mod StepBearing
+pub mod AnswerLaws
 pub mod RowLaws
 pub mod Spots
 pub mod SpotLaws

@@ -8,7 +8,6 @@ use Rattle.kernel_steps.specs.declared.Input.{Input}
 use Rattle.kernel_steps.specs.declared.Input.TheVariants as inputs
 use Rattle.kernel_steps.specs.Rows.{is_under}
 use Rattle.unix_calls.specs.declared.Description.{Description}
-use Rattle.unix_calls.specs.declared.Event.{Event}
 use Rattle.unix_calls.specs.declared.Event.TheVariants as events
 use Rattle.unix_calls.specs.declared.SendKind.TheVariants as sendings
 use Rattle.prefix_table.specs.declared.prefixes.Domain.{Domain}
@@ -24,9 +23,9 @@ use Rattle.client_file_tables.specs.declared.states.NameState.TheVariants as nam
 use Rattle.client_file_tables.specs.Rows.{first_call, first_of, less_call, less_of, same_call}
 use Rattle.client_names.specs.Answers.{takes_end}
 use Rattle.client_file_tables.specs.Says as says
-use Rattle.client_file_tables.specs.Says.{about_of}
 use Rattle.client_file_tables.specs.Steps.{owns}
 use Rattle.client_names.specs.Lookups as lookups
+use Rattle.client_names.specs.Requests.{request_to}
 use Rattle.client_streams.specs.Closing.{closed_at_server}
 use Rattle.client_files.specs.Answered as answering
 use Rattle.client_files.specs.Asked as asked
@@ -40,19 +39,20 @@ use Rattle.client_procs.specs.Readers.{with_image}
 use Rattle.client_procs.specs.Steps.{begins_step, client_step, takes}
 use Rattle.client_procs.specs.Turning.{goes_on}
 use Rattle.prefix_laws.specs.Prefixes.{LearnsSo, learned_by_call, learned_by_operation, learned_by_process, learned_from, learned_from_answer, learned_in}
-use Rattle.prefix_laws.proofs.Bearing.{Bears, learned_so, learning}
-use Rattle.prefix_laws.proofs.DataBearing as data_side
-use Rattle.prefix_laws.proofs.NameBearing as files_side
+use Rattle.client_walks.proofs.Bearing.{Seen, seen_of}
+use Rattle.client_walks.proofs.DataBearing as data_side
+use Rattle.client_walks.proofs.NameBearing as files_side
+use Rattle.client_walks.proofs.StepBearing.{goes, heard, rounds}
+use Rattle.prefix_laws.proofs.Bearing.{HasLearned, Learns, learned_so, learning}
 use Rattle.prefix_laws.proofs.ServerBearing.{server_takes}
-use Rattle.prefix_laws.proofs.StepBearing.{goes, heard, rounds}
-use Rattle.prefix_laws.proofs.TellsLaws.{learned_append, learns_nothing}
+use Rattle.prefix_laws.proofs.TellsLaws.{learned_append, learns_nothing, learns_told}
 
 -- ---- what is known grows by what is told
 
 pub clients_learn : (s : ClientProcs) (input : Input) (next : TxNo) (step : ℕ) → LearnsSo s.files.prefixes (client_step s input next step).0.files.prefixes (client_step s input next step).1.events
 clients_learn s input next step =
-    let bears : Bears (λ known told. LearnsSo s.files.prefixes known told) = learning s.files.prefixes in
-    goes (λ known told. LearnsSo s.files.prefixes known told) bears.telling input (λ tx source body t e q. files_side.answered (λ known told. LearnsSo s.files.prefixes known told) bears tx source body t q) (begins_step next step s) (learns_nothing s.files.prefixes)
+    let before : List Domain = s.files.prefixes in
+    goes (Learns before) (learning before).telling input (λ tx source body t e q. files_side.answered (Learns before) (learning before) tx source body t q) (begins_step next step s) (learns_nothing before)
 
 pub clients_begin : (c : Description) (kernel : ℕ) → (boots c kernel).files.prefixes ≡ []
 clients_begin c kernel = refl
@@ -65,7 +65,7 @@ pub images_leave : (s : ClientProcs) (pid : ℕ) (image : Machine) → (with_ima
 images_leave s pid image = image_leaves (proc_at pid s) s pid (λ proc. record proc { image = image })
 
 pub servers_learn : (s : Server) (input : Input) (next : TxNo) → LearnsSo [] [] (server_steps.server_step s input next).1.events
-servers_learn s input next = server_takes (λ told. LearnsSo [] [] told) (λ told event h q. (learning []).telling.tells [] told event h q) input (server_steps.begins next s) (learns_nothing [])
+servers_learn s input next = server_takes (λ told. LearnsSo [] [] told) (λ told event h q. learns_told [] [] told event h q) input (server_steps.begins next s) (learns_nothing [])
 
 -- ---- which steps learn
 
@@ -74,26 +74,26 @@ module _ (domains : List Domain) where
   abbrev Told : ClientFiles → List Domain → Type 0
   Told s more = learned_in s.out.events ≡ domains ++ more
 
-  abbrev Q : List Domain → List Event → Type 0
-  Q known told = learned_in told ≡ domains
+  abbrev Q : Seen → Type 0
+  Q = HasLearned domains
 
-  no_more : (s : ClientFiles) → Q s.prefixes s.out.events → Told s []
+  no_more : (s : ClientFiles) → Q (seen_of s) → Told s []
   no_more s q = q ∙ sym (append-nil domains)
 
-  learns_by : (b : Bool) (prefix : List (List ℕ)) (server : ℕ) (s : ClientFiles) → Q s.prefixes s.out.events → Told (cond b s (says.notes (events.Learned prefix server) (record s { prefixes = learned s.prefixes prefix server }))) (cond b [] (domain prefix server ∷ []))
+  learns_by : (b : Bool) (prefix : List (List ℕ)) (server : ℕ) (s : ClientFiles) → Q (seen_of s) → Told (cond b s (says.notes (events.Learned prefix server) (record s { prefixes = learned s.prefixes prefix server }))) (cond b [] (domain prefix server ∷ []))
   learns_by true prefix server s q = no_more s q
   learns_by false prefix server s q = learned_append s.out.events (events.Learned prefix server ∷ []) ∙ ap (λ (ds : List Domain). ds ++ domain prefix server ∷ []) q
 
-  call_learns : (state : NameState) (pid : ℕ) (work : NameWork) (source : ℕ) (body : ReplyBody) (s : ClientFiles) → Q s.prefixes s.out.events → Told (asked.answers_name_by state pid work source body s) (learned_by_call state source s.prefixes)
+  call_learns : (state : NameState) (pid : ℕ) (work : NameWork) (source : ℕ) (body : ReplyBody) (s : ClientFiles) → Q (seen_of s) → Told (asked.answers_name_by state pid work source body s) (learned_by_call state source s.prefixes)
   call_learns (name_states.Broadcasting tx prefix) pid work source body s q =
       let more : List Domain = learned_by_call (name_states.Broadcasting tx prefix) source s.prefixes in
-      files_side.looks_up (λ known told. learned_in told ≡ domains ++ more) (learned_so (domains ++ more)) pid work (lookups.learns prefix source s) (learns_by (knows s.prefixes prefix) prefix source s q)
+      files_side.looks_up (HasLearned (domains ++ more)) (learned_so (domains ++ more)) pid work (lookups.learns prefix source s) (learns_by (knows s.prefixes prefix) prefix source s q)
   call_learns (name_states.Echoing tx server) pid work source body s q =
-      no_more (asked.answers_name_by (name_states.Echoing tx server) pid work source body s) (data_side.sent Q (learned_so domains) server (Some (about_of pid work.number)) sendings.Other s refl q)
+      no_more (asked.answers_name_by (name_states.Echoing tx server) pid work source body s) (data_side.sent Q (learned_so domains) (request_to server pid work) sendings.Other s refl q)
   call_learns (name_states.Asking tx) pid work source body s q =
       no_more (asked.answers_name_by (name_states.Asking tx) pid work source body s) (files_side.ends_asked Q (learned_so domains) body pid work s q)
 
-  operation_learns : (o : Option Pending) (pid source : ℕ) (body : ReplyBody) (s : ClientFiles) → Q s.prefixes s.out.events → Told (answering.answered_by o pid source body s) (learned_by_operation o source s.prefixes)
+  operation_learns : (o : Option Pending) (pid source : ℕ) (body : ReplyBody) (s : ClientFiles) → Q (seen_of s) → Told (answering.answered_by o pid source body s) (learned_by_operation o source s.prefixes)
   operation_learns (Some (operations.Name call)) pid source body s q = call_learns call.state pid call.work source body s q
   operation_learns (Some (operations.Data call)) pid source body s q = no_more (answering.answered_by (Some (operations.Data call)) pid source body s) (data_side.answered_in Q (learned_so domains) call.state pid call body s q)
   operation_learns (Some (operations.Sync call)) pid source body s q = no_more s q
@@ -106,12 +106,12 @@ module _ (domains : List Domain) where
   taken_learns true s t more learns stays = learns
   taken_learns false s t more learns stays = stays
 
-  process_learns : (o : Option ℕ) (tx : TxNo) (source : ℕ) (body : ReplyBody) (s : ClientFiles) → Q s.prefixes s.out.events → Told (answering.answered_first o tx source body s) (learned_by_process o tx source s.pending s.prefixes)
+  process_learns : (o : Option ℕ) (tx : TxNo) (source : ℕ) (body : ReplyBody) (s : ClientFiles) → Q (seen_of s) → Told (answering.answered_first o tx source body s) (learned_by_process o tx source s.pending s.prefixes)
   process_learns (Some pid) tx source body s q =
       taken_learns (takes_end tx (first_of pid s.pending)) s _ _ (operation_learns (first_of pid s.pending) pid source body (record s { pending = less_of pid s.pending }) q) (no_more s q)
   process_learns None tx source body s q = no_more s q
 
-  answer_by : (b : Bool) (tx : TxNo) (source : ℕ) (body : ReplyBody) (s t : ClientFiles) → Q t.prefixes t.out.events → Q s.prefixes s.out.events → Told (cond b t (answering.answered_first (first_call tx s.txs) tx source body (record s { txs = less_call tx s.txs }))) (cond b [] (learned_by_process (first_call tx s.txs) tx source s.pending s.prefixes))
+  answer_by : (b : Bool) (tx : TxNo) (source : ℕ) (body : ReplyBody) (s t : ClientFiles) → Q (seen_of t) → Q (seen_of s) → Told (cond b t (answering.answered_first (first_call tx s.txs) tx source body (record s { txs = less_call tx s.txs }))) (cond b [] (learned_by_process (first_call tx s.txs) tx source s.pending s.prefixes))
   answer_by true tx source body s t back q = no_more t back
   answer_by false tx source body s t back q = process_learns (first_call tx s.txs) tx source body (record s { txs = less_call tx s.txs }) q
 
@@ -123,7 +123,7 @@ abbrev Apart : Input → Type 0
 Apart input = (tx : TxNo) (source : ℕ) (body : ReplyBody) → input ≡ inputs.Replied tx source body → ⊥
 
 goes_apart : (input : Input) → Apart input → (s : ClientProcs) → learned_in s.files.out.events ≡ [] → learned_in (goes_on (takes input s)).files.out.events ≡ []
-goes_apart input apart s q = goes (λ known told. learned_in told ≡ []) (learned_so []) input (λ tx source body t e p. absurd (apart tx source body e)) s q
+goes_apart input apart s q = goes (HasLearned []) (learned_so []) input (λ tx source body t e p. absurd (apart tx source body e)) s q
 
 -- the rounds of a step have no such answer
 no_call : TxNo
@@ -133,10 +133,10 @@ due_apart : Apart (inputs.GaveUp no_call)
 due_apart tx source body e = absurd (cc)
 
 rounds_so : (domains : List Domain) (s : ClientProcs) → learned_in s.files.out.events ≡ domains → learned_in (goes_on s).files.out.events ≡ domains
-rounds_so domains s q = rounds (λ known told. learned_in told ≡ domains) (learned_so domains) (inputs.GaveUp no_call) (λ tx source body t e p. absurd (due_apart tx source body e)) s q
+rounds_so domains s q = rounds (HasLearned domains) (learned_so domains) (inputs.GaveUp no_call) (λ tx source body t e p. absurd (due_apart tx source body e)) s q
 
 heard_so : (tx : TxNo) (body : ReplyBody) (s : ClientProcs) → learned_in s.files.out.events ≡ [] → learned_in (hears_own tx body s).files.out.events ≡ []
-heard_so tx body s q = heard (λ known told. learned_in told ≡ []) (learned_so []) (inputs.GaveUp no_call) (λ tx source body t e p. absurd (due_apart tx source body e)) tx body s q
+heard_so tx body s q = heard (HasLearned []) (learned_so []) (inputs.GaveUp no_call) (λ tx source body t e p. absurd (due_apart tx source body e)) tx body s q
 
 replied_so : (b : Bool) (tx : TxNo) (source : ℕ) (body : ReplyBody) (s : ClientProcs) → learned_in s.files.out.events ≡ [] → learned_in (goes_on (cond b (with_files (answering.answered tx source body s.files) s) (hears_own tx body s))).files.out.events ≡ cond b (learned_from_answer tx source s.files) []
 replied_so true tx source body s q = rounds_so (learned_from_answer tx source s.files) (with_files (answering.answered tx source body s.files) s) (answer_learns [] tx source body s.files q)

@@ -65,7 +65,7 @@ use Rattle.server_kernel.specs.Says as says
 use Rattle.server_kernel.specs.Served as serving
 use Rattle.server_kernel.specs.Steps as stepping
 use Rattle.server_kernel.specs.Waits as waiting
-use Rattle.prefix_laws.specs.Prefixes.{is_other}
+use Rattle.client_walks.proofs.Bearing.{is_other}
 
 module _ (Q : List Event → Type 0) (tells : (told : List Event) (event : Event) → is_other event ≡ true → Q told → Q (told ++ event ∷ [])) where
   abbrev P : Server → Type 0

@@ -5,11 +5,13 @@ use Rattle.kernel_steps.specs.Outs.{send_event}
 use Rattle.unix_calls.specs.declared.About.{About}
 use Rattle.unix_calls.specs.declared.Event.{Event}
 use Rattle.unix_calls.specs.declared.Event.TheVariants as events
+use Rattle.unix_calls.specs.declared.SendKind.{SendKind}
 use Rattle.unix_calls.specs.declared.SendKind.TheVariants.{Broadcast}
 use Rattle.prefix_table.specs.declared.prefixes.Domain.{Domain}
 use Rattle.prefix_table.specs.Prefixes.{knows, learned}
 use Rattle.prefix_table.proofs.PrefixLaws.{learned_last}
-use Rattle.prefix_laws.specs.Prefixes.{AreOfUnknown, LearnsSo, domain_in, is_of_unknown, is_other, learned_in}
+use Rattle.client_walks.proofs.Bearing.{asks_none, is_other}
+use Rattle.prefix_laws.specs.Prefixes.{AreOfUnknown, LearnsSo, domain_in, is_of_unknown, learned_in}
 
 -- ---- events that tell nothing of prefixes
 
@@ -57,6 +59,19 @@ learns_other known event h = record {
   grown = sym (append-nil known) ∙ ap (λ (ds : List Domain). known ++ (ds ++ [])) (sym (other_none event h));
   unknown = (other_unknown known event h, tt);
 }
+
+-- one event more, and the packets of a request that asks for none
+pub learns_told : (before known : List Domain) (told : List Event) (event : Event) → is_other event ≡ true → LearnsSo before known told → LearnsSo before known (told ++ event ∷ [])
+learns_told before known told event h q = learns_joined before known known told (event ∷ []) q (learns_other known event h)
+
+sent_other : (tx : TxNo) (to : ℕ) (about : Option About) (kind : SendKind) → asks_none kind ≡ true → is_other (events.Send tx to about kind) ≡ true
+sent_other tx to about (Broadcast prefix) h = absurd (cc)
+sent_other tx to about _ h = refl
+
+pub learns_all_sent : (servers : List ℕ) (known : List Domain) (tx : TxNo) (about : Option About) (kind : SendKind) → asks_none kind ≡ true → LearnsSo known known (map (send_event tx about kind) servers)
+learns_all_sent [] known tx about kind h = learns_nothing known
+learns_all_sent (to ∷ servers) known tx about kind h =
+    learns_joined known known known (events.Send tx to about kind ∷ []) (map (send_event tx about kind) servers) (learns_other known (events.Send tx to about kind) (sent_other tx to about kind h)) (learns_all_sent servers known tx about kind h)
 
 pub learns_asked : (known : List Domain) (tx : TxNo) (to : ℕ) (about : Option About) (prefix : List (List ℕ)) → knows known prefix ≡ false → LearnsSo known known (events.Send tx to about (Broadcast prefix) ∷ [])
 learns_asked known tx to about prefix e = record { grown = sym (append-nil known); unknown = (ap not e, tt) }

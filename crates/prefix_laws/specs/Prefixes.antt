@@ -1,5 +1,5 @@
 -- What kernels tell of prefixes: which servers they learn, and for which they ask.
-use Rattle.std.specs.Prelude.{◌≡◌, ℕ, Bool, true, false, not, if◌then◌else◌, List, [], ◌∷◌, ◌++◌, Option, Some, None}
+use Rattle.std.specs.Prelude.{◌≡◌, ℕ, Bool, true, not, if◌then◌else◌, List, [], ◌∷◌, ◌++◌, Option, Some, None}
 use Rattle.std.specs.List.{list_any}
 use Rattle.sprite_ids.specs.declared.TxNo.{TxNo}
 use Rattle.kernel_steps.specs.declared.Input.{Input}
@@ -45,12 +45,6 @@ AreOfUnknown known (event ∷ rest) = (is_of_unknown known event ≡ true) × Ar
 pub record LearnsSo (before after : List Domain) (told : List Event) : Type 0 where
   pub grown : after ≡ before ++ learned_in told
   pub unknown : AreOfUnknown before told
-
--- whether an event tells nothing of prefixes
-abbrev pub is_other : Event → Bool
-is_other (events.Learned prefix server) = false
-is_other (events.Send tx to about (Broadcast prefix)) = false
-is_other event = true
 
 -- what an answer from that server teaches a name call that waits so: the answer to a broadcast the prefix, where that isn't known
 abbrev pub learned_by_call : NameState → ℕ → List Domain → List Domain

@@ -6,7 +6,8 @@ use Rattle.unix_calls.specs.declared.Event.{Event}
 use Rattle.unix_calls.specs.declared.Event.TheVariants as events
 use Rattle.prefix_table.specs.declared.prefixes.Domain.{Domain}
 use Rattle.cluster_wire.specs.Noted.{faulted, faulted_all, is_fault, without_faults}
-use Rattle.prefix_laws.specs.Prefixes.{AreOfUnknown, LearnsSo, domain_in, is_other, learned_in}
+use Rattle.client_walks.proofs.Bearing.{is_other}
+use Rattle.prefix_laws.specs.Prefixes.{AreOfUnknown, LearnsSo, domain_in, learned_in}
 use Rattle.prefix_laws.proofs.TellsLaws.{learns_joined, learns_other, other_none, other_same, other_unknown}
 
 fault_other : (event : Event) → is_fault event ≡ true → is_other event ≡ true

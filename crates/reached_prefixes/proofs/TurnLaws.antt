@@ -35,7 +35,8 @@ use Rattle.cluster_bursts.specs.declared.BurstOutcome.TheVariants as outcome
 use Rattle.cluster_bursts.specs.declared.Job.{Job}
 use Rattle.cluster_bursts.specs.Bursts.{EndsAs, GoesOn, begun_by, came_to, recorded, taken_back}
 use Rattle.sprite_cluster.specs.Steps.{begun_turn}
-use Rattle.prefix_laws.specs.Prefixes.{LearnsSo, is_other}
+use Rattle.client_walks.proofs.Bearing.{is_other}
+use Rattle.prefix_laws.specs.Prefixes.{LearnsSo}
 use Rattle.prefix_laws.proofs.LearnLaws.{clients_learn, images_leave, servers_learn}
 use Rattle.prefix_laws.proofs.TellsLaws.{learns_joined, learns_nothing, learns_other}
 use Rattle.reached_prefixes.specs.Known.{known_at, known_in}

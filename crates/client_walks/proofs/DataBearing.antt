@@ -1,5 +1,6 @@
--- The files' side of a client's kernel, but for names: no deed of it changes which prefixes are known, or tells of any.
-use Rattle.std.proofs.Common.{◌≡◌, ℕ, zero, suc, ◌+◌, Bool, true, false, cond, List, [], ◌∷◌, ◌++◌, Option, Some, None, refl}
+-- The files' side of a client's kernel, but for names: its operations wait in no broadcast, its requests ask for no prefix, and nothing is
+-- learned or told of one.
+use Rattle.std.proofs.Common.{◌≡◌, ℕ, zero, suc, ◌+◌, Bool, true, false, cond, List, [], ◌∷◌, ◌++◌, Option, Some, None, is_some, refl}
 use Rattle.std.specs.List.{list_any}
 use Rattle.sprite_ids.specs.declared.BlockNo.{BlockNo}
 use Rattle.sprite_ids.specs.declared.CallKind.{CallKind}
@@ -42,7 +43,6 @@ use Rattle.stream_table.specs.Entries.{may_be_at}
 use Rattle.stream_table.specs.Owners.{descriptor}
 use Rattle.stream_table.specs.Streams.{closed_stream, is_last}
 use Rattle.write_delay.specs.Delays.{listed}
-use Rattle.prefix_table.specs.declared.prefixes.Domain.{Domain}
 use Rattle.client_file_tables.specs.declared.client_files.ClientFiles.{ClientFiles}
 use Rattle.client_file_tables.specs.declared.extent.Extent.{Extent}
 use Rattle.client_file_tables.specs.declared.moves.CloseWork.{CloseWork}
@@ -86,37 +86,58 @@ use Rattle.client_data.specs.Grants as grants
 use Rattle.client_data.specs.Looks as looking
 use Rattle.client_data.specs.Plans.{plan_of}
 use Rattle.client_data.specs.Replies as replied
+use Rattle.client_data.specs.ServerOps as server_ops
 use Rattle.client_data.specs.Sync as syncing
 use Rattle.client_data.specs.SyncAnswers as synced
 use Rattle.client_data.specs.WriteBacks as written
 use Rattle.client_streams.specs.Closing as closing
 use Rattle.client_streams.specs.Descriptors as descriptors
 use Rattle.client_streams.specs.Moving as moving
-use Rattle.prefix_laws.specs.Prefixes.{is_other}
-use Rattle.prefix_laws.proofs.Bearing.{BearsTelling}
+use Rattle.kernel_steps.specs.declared.Sending.{Sending}
+use Rattle.client_walks.proofs.Bearing.{BearsTelling, Seen, asks_none, is_other, seen_of}
 
-module _ (Q : List Domain → List Event → Type 0) (bears : BearsTelling Q) where
+module _ (Q : Seen → Type 0) (bears : BearsTelling Q) where
   abbrev pub P : ClientFiles → Type 0
-  P s = Q s.prefixes s.out.events
+  P s = Q (seen_of s)
 
   pub on_if : (b : Bool) (s t : ClientFiles) → P s → P t → P (cond b s t)
   on_if true s t p q = p
   on_if false s t p q = q
 
-  -- What is said
+  -- What is said, what goes out, and what waits
 
   pub noted : (event : Event) (s : ClientFiles) → is_other event ≡ true → P s → P (says.notes event s)
-  noted event s h p = bears.tells s.prefixes s.out.events event h p
+  noted event s h p = bears.tells (seen_of s) event h p
 
   pub entered : (entry : Entry) (s : ClientFiles) → P s → P (says.notes (events.Enter entry) s)
   entered entry s p = noted (events.Enter entry) s refl p
 
-  -- one packet went out
-  pub sent : (to : ℕ) (about : Option About) (kind : SendKind) (s : ClientFiles) → is_other (events.Send s.out.next to about kind) ≡ true → P s → Q s.prefixes (s.out.events ++ events.Send s.out.next to about kind ∷ [])
-  sent to about kind s h p = bears.tells s.prefixes s.out.events (events.Send s.out.next to about kind) h p
-
   pub answers_here : (about : About) (call : Call) (reply : Reply) (s : ClientFiles) → P s → P (says.answers_here about call reply s)
   answers_here about call reply s p = entered _ s p
+
+  -- a request more
+  pub sent : (sending : Sending) (kind : SendKind) (s : ClientFiles) → asks_none kind ≡ true → P s → P (says.sends sending kind s)
+  sent sending kind s h p = bears.says (seen_of s) sending kind h p
+
+  -- an operation more, which waits in no broadcast
+  pub kept_data : (pid : ℕ) (call : DataCall) (s : ClientFiles) → P s → P (steps.keeps pid (operations.Data call) s)
+  kept_data pid call s p = bears.keeps (seen_of s) pid (operations.Data call) refl p
+
+  pub kept_sync : (pid : ℕ) (call : SyncCall) (s : ClientFiles) → P s → P (steps.keeps pid (operations.Sync call) s)
+  kept_sync pid call s p = bears.keeps (seen_of s) pid (operations.Sync call) refl p
+
+  pub kept_close : (pid : ℕ) (work : CloseWork) (s : ClientFiles) → P s → P (steps.keeps pid (operations.Close work) s)
+  kept_close pid work s p = bears.keeps (seen_of s) pid (operations.Close work) refl p
+
+  pub kept_move : (pid : ℕ) (work : MoveWork) (s : ClientFiles) → P s → P (steps.keeps pid (operations.Move work) s)
+  kept_move pid work s p = bears.keeps (seen_of s) pid (operations.Move work) refl p
+
+  -- an operation less, and one that is put back as it was
+  pub taken_out : (pid : ℕ) (rows : List (ℕ × Pending)) (s : ClientFiles) → P (record s { pending = rows }) → P (record s { pending = less_of pid rows })
+  taken_out pid rows s p = bears.left (seen_of (record s { pending = rows })) pid p
+
+  pub puts_back : (pid : ℕ) (operation : Pending) (rows : List (ℕ × Pending)) (s : ClientFiles) → first_of pid rows ≡ Some operation → P (record s { pending = rows }) → P (record s { pending = less_of pid rows ++ (pid, operation) ∷ [] })
+  puts_back pid operation rows s e p = bears.puts_back (seen_of (record s { pending = rows })) pid operation e p
 
   -- Locks and turns to fill
 
@@ -235,7 +256,9 @@ module _ (Q : List Domain → List Event → Type 0) (bears : BearsTelling Q) wh
   pub called_back : (tx : TxNo) (r : CallbackRequest) (s : ClientFiles) → P s → P (grants.called_back tx r s)
   called_back tx r s p =
       let taken : ClientFiles = grants.takes_callback r s in
-      settles_called r.kind r.file (grants.dirty_in r.file s) (grants.held_in r.file s) (grants.notes_mode r.file r.stamp taken) (noted (events.Mode r.file r.stamp _) taken refl p)
+      let noted_so : ClientFiles = grants.notes_mode r.file r.stamp taken in
+      let settled : ClientFiles = grants.settles_called r.kind r.file (grants.dirty_in r.file s) (grants.held_in r.file s) noted_so in
+      bears.answers (seen_of settled) tx _ refl (settles_called r.kind r.file (grants.dirty_in r.file s) (grants.held_in r.file s) noted_so (noted (events.Mode r.file r.stamp _) taken refl p))
 
   -- Operations that end
 
@@ -296,18 +319,18 @@ module _ (Q : List Domain → List Event → Type 0) (bears : BearsTelling Q) wh
   fills_zeros file extent s p = zero_turns 5 file extent s p
 
   pub sends_back : (file : FileId) (block : BlockNo) (number : ℕ) (about : Option About) (s : ClientFiles) → P s → P (written.sends_back file block number about s)
-  sends_back file block number about s p = sent file.server about (sendings.WriteBack file block) s refl p
+  sends_back file block number about s p = sent (written.write_back_sending file block about s) (sendings.WriteBack file block) s refl p
 
   fetches : (pid : ℕ) (call : DataCall) (block : BlockNo) (s : ClientFiles) → P s → P (filling.fetches pid call block s)
-  fetches pid call block s p = sent call.file.server (Some (about_of pid call.number)) (sendings.Fetch call.file block) s refl p
+  fetches pid call block s p = kept_data pid _ (filling.sends_fetch pid call block s) (sent (filling.fetch_sending pid call block s) (sendings.Fetch call.file block) s refl p)
 
   waits_by : (o : Option TxNo) (pid : ℕ) (call : DataCall) (file : FileId) (block : BlockNo) (number : ℕ) (s : ClientFiles) → P s → P (filling.waits_by o pid call file block number s)
-  waits_by (Some tx) pid call file block number s p = p
-  waits_by None pid call file block number s p = sends_back file block number (Some (about_of pid call.number)) s p
+  waits_by (Some tx) pid call file block number s p = kept_data pid _ s p
+  waits_by None pid call file block number s p = kept_data pid _ (written.sends_back file block number (Some (about_of pid call.number)) s) (sends_back file block number (Some (about_of pid call.number)) s p)
 
   waits_oldest : (o : Option (FileId × BlockNo × ℕ)) (pid : ℕ) (call : DataCall) (s : ClientFiles) → P s → P (filling.waits_oldest o pid call s)
   waits_oldest (Some oldest) pid call s p = waits_by (current_write_back oldest.0 oldest.1 s) pid call oldest.0 oldest.1 oldest.2 s p
-  waits_oldest None pid call s p = p
+  waits_oldest None pid call s p = kept_data pid _ s p
 
   needs_first : (o : Option BlockNo) (pid : ℕ) (call : DataCall) (extent : Extent) (s : ClientFiles) → P s → P (filling.needs_first o pid call extent s)
   needs_first (Some block) pid call extent s p =
@@ -325,7 +348,7 @@ module _ (Q : List Domain → List Event → Type 0) (bears : BearsTelling Q) wh
   fills_first pid call extent s p =
       let begun : ClientFiles = fillers.begins_filling pid s in
       let so = begins_filling pid s p in
-      on_if (is_filling pid begun) _ _ (fills_own pid call extent begun so) so
+      on_if (is_filling pid begun) _ _ (fills_own pid call extent begun so) (kept_data pid _ begun so)
 
   -- Operations that look at everything anew
 
@@ -336,19 +359,19 @@ module _ (Q : List Domain → List Event → Type 0) (bears : BearsTelling Q) wh
   does : (plan : Plan) (pid : ℕ) (call : DataCall) (append : Bool) (s : ClientFiles) → P s → P (looking.does plan pid call append s)
   does (plans.Seek to) pid call append s p = ends_here pid call _ (streams.moves_offset call.stream to s) (moves_offset call.stream to s p)
   does plans.Refuse pid call append s p = ends_here pid call _ s p
-  does (plans.Ask offset) pid call append s p = sent call.file.server (Some (about_of pid call.number)) (sendings.Op call.file) (fillers.leaves_filling pid s) refl (leaves_filling pid s p)
+  does (plans.Ask offset) pid call append s p = let left : ClientFiles = fillers.leaves_filling pid s in kept_data pid _ (server_ops.sends_op pid call offset append left) (sent (server_ops.op_sending pid call offset append left) (sendings.Op call.file) left refl (leaves_filling pid s p))
   does (plans.Tell size) pid call append s p = ends_here pid call _ s p
   does (plans.Use extent) pid call append s p = uses_by (cached.missing_of call extent s) pid call extent s p
 
   looks_by : (o : Option Stream) (pid : ℕ) (call : DataCall) (s : ClientFiles) → P s → P (looking.looks_by o pid call s)
   looks_by (Some stream) pid call s p = does (plan_of call stream s) pid call stream.append s p
-  looks_by None pid call s p = p
+  looks_by None pid call s p = kept_data pid _ s p
 
   pub looks : (pid : ℕ) (call : DataCall) (s : ClientFiles) → P s → P (looking.looks pid call s)
   looks pid call s p =
       let locked : ClientFiles = locking.locks pid call.stream s in
       let so = locks pid call.stream s p in
-      on_if (gets_lock pid call.stream s) _ _ (looks_by (stream_at call.stream locked) pid call locked so) so
+      on_if (gets_lock pid call.stream s) _ _ (looks_by (stream_at call.stream locked) pid call locked so) (kept_data pid _ locked so)
 
   -- Answers to them
 
@@ -370,7 +393,7 @@ module _ (Q : List Domain → List Event → Type 0) (bears : BearsTelling Q) wh
   served (bodies.Again grant) pid call s p = looks pid call (grants.takes_grant grant s) (takes_grant grant s p)
   served (bodies.Refused errno) pid call s p = ends_there pid call _ s p
   served (bodies.Value value) pid call s p = ends_there pid call _ (replied.moves_by call value s) (moves_in (stream_at call.stream s) call value s p)
-  served body pid call s p = p
+  served body pid call s p = kept_data pid _ s p
 
   takes_block : (body : ReplyBody) (file : FileId) (block : BlockNo) (s : ClientFiles) → P s → P (replied.takes_block file block body s)
   takes_block (bodies.Block stamp bytes) file block s p = fills file stamp block bytes s p
@@ -380,18 +403,18 @@ module _ (Q : List Domain → List Event → Type 0) (bears : BearsTelling Q) wh
   pub answered_in : (state : DataState) (pid : ℕ) (call : DataCall) (body : ReplyBody) (s : ClientFiles) → P s → P (replied.answered_in state pid call body s)
   answered_in (data_states.Fetching tx block) pid call body s p = looks pid call (replied.takes_block call.file block body s) (takes_block body call.file block s p)
   answered_in (data_states.AtServer tx) pid call body s p = served body pid call s p
-  answered_in data_states.WaitLock pid call body s p = p
-  answered_in data_states.Turn pid call body s p = p
-  answered_in (data_states.Room tx) pid call body s p = p
+  answered_in data_states.WaitLock pid call body s p = kept_data pid _ s p
+  answered_in data_states.Turn pid call body s p = kept_data pid _ s p
+  answered_in (data_states.Room tx) pid call body s p = kept_data pid _ s p
 
   -- Syncs
 
   syncs_dirty : (o : Option ℕ) (pid : ℕ) (call : SyncCall) (block : BlockNo) (s : ClientFiles) → P s → P (syncing.syncs_dirty pid call block o s)
-  syncs_dirty (Some number) pid call block s p = sends_back call.file block number (Some (about_of pid call.number)) s p
-  syncs_dirty None pid call block s p = p
+  syncs_dirty (Some number) pid call block s p = kept_sync pid _ (says.expects pid s.out.next (written.sends_back call.file block number (Some (about_of pid call.number)) s)) (sends_back call.file block number (Some (about_of pid call.number)) s p)
+  syncs_dirty None pid call block s p = kept_sync pid _ s p
 
   syncs_out : (o : Option TxNo) (pid : ℕ) (call : SyncCall) (block : BlockNo) (s : ClientFiles) → P s → P (syncing.syncs_out pid call block o s)
-  syncs_out (Some tx) pid call block s p = p
+  syncs_out (Some tx) pid call block s p = kept_sync pid _ s p
   syncs_out None pid call block s p = syncs_dirty (dirty_at s.cache.blocks call.file block.0) pid call block s p
 
   syncs_first : (o : Option BlockNo) (pid : ℕ) (call : SyncCall) (s : ClientFiles) → P s → P (syncing.syncs_first pid call o s)
@@ -405,16 +428,20 @@ module _ (Q : List Domain → List Event → Type 0) (bears : BearsTelling Q) wh
 
   -- Write-backs
 
-  go_on_by : (operation : Pending) (pid : ℕ) (body : ReplyBody) (s : ClientFiles) → P s → P (synced.go_on_by pid operation body s)
-  go_on_by (operations.Sync call) pid body s p = p
-  go_on_by operation pid body s p = p
+  -- the operation of the process, which was taken out of those rows, goes on
+  go_on_by : (operation : Pending) (pid : ℕ) (body : ReplyBody) (rows : List (ℕ × Pending)) (s : ClientFiles) → first_of pid rows ≡ Some operation → P (record s { pending = rows }) → P (synced.go_on_by pid operation body (record s { pending = less_of pid rows }))
+  go_on_by (operations.Sync call) pid body rows s e p = kept_sync pid _ (record s { pending = less_of pid rows }) (taken_out pid rows s p)
+  go_on_by (operations.Name call) pid body rows s e p = puts_back pid (operations.Name call) rows s e p
+  go_on_by (operations.Data call) pid body rows s e p = puts_back pid (operations.Data call) rows s e p
+  go_on_by (operations.Close work) pid body rows s e p = puts_back pid (operations.Close work) rows s e p
+  go_on_by (operations.Move work) pid body rows s e p = puts_back pid (operations.Move work) rows s e p
 
-  go_on_first : (o : Option Pending) (pid : ℕ) (body : ReplyBody) (s : ClientFiles) → P s → P (synced.go_on_first pid o body s)
-  go_on_first (Some operation) pid body s p = go_on_by operation pid body s p
-  go_on_first None pid body s p = p
+  go_on_first : (o : Option Pending) (pid : ℕ) (body : ReplyBody) (rows : List (ℕ × Pending)) (s : ClientFiles) → first_of pid rows ≡ o → P (record s { pending = rows }) → P (synced.go_on_first pid o body (record s { pending = less_of pid rows }))
+  go_on_first (Some operation) pid body rows s e p = go_on_by operation pid body rows s e p
+  go_on_first None pid body rows s e p = taken_out pid rows s p
 
   answers_by : (o : Option ℕ) (body : ReplyBody) (s : ClientFiles) → P s → P (synced.answers_by o body s)
-  answers_by (Some pid) body s p = go_on_first (first_of pid s.pending) pid body (record s { pending = less_of pid s.pending }) p
+  answers_by (Some pid) body s p = go_on_first (first_of pid s.pending) pid body s.pending s refl p
   answers_by None body s p = p
 
   answers_sync : (tx : TxNo) (body : ReplyBody) (s : ClientFiles) → P s → P (synced.answers_sync tx body s)
@@ -462,10 +489,10 @@ module _ (Q : List Domain → List Event → Type 0) (bears : BearsTelling Q) wh
 
   closes_rest : (fds : List ℕ) (pid : ℕ) (cause : ClosingOf) (s : ClientFiles) → P s → P (closing.closes_rest fds pid cause s)
   closes_rest [] pid cause s p = ends_closing cause pid s p
-  closes_rest (fd ∷ fds) pid cause s p = p
+  closes_rest (fd ∷ fds) pid cause s p = kept_close pid _ s p
 
   closes_last : (o : Option (StreamNo × Stream)) (pid : ℕ) (work : CloseWork) (number : StreamNo) (file : FileId) (s : ClientFiles) → P s → P (closing.closes_last pid work number file o s)
-  closes_last (Some last) pid work number file s p = sent file.server (closing.closing_about pid work.of) sendings.Other s refl p
+  closes_last (Some last) pid work number file s p = let many : ℕ = last.1.grants in kept_close pid _ (says.sends_for pid (closing.close_to pid work.of number file many) sendings.Other s) (sent (closing.close_to pid work.of number file many) sendings.Other s refl p)
   closes_last None pid work number file s p = closes_rest work.fds pid work.of (locking.unlocks number s) (unlocks number s p)
 
   closes_file : (pid : ℕ) (work : CloseWork) (fd : ℕ) (number : StreamNo) (file : FileId) (s : ClientFiles) → P s → P (closing.closes_file pid work fd number file s)
@@ -474,7 +501,7 @@ module _ (Q : List Domain → List Event → Type 0) (bears : BearsTelling Q) wh
       let so = locks pid number s p in
       on_if (gets_lock pid number s) _ _
       (closes_last (closed_stream locked.streams pid fd) pid (closing.without_first work) number file (closing.enters_closed pid work.of (descriptors.drops pid fd locked)) (enters_closed work.of pid (descriptors.drops pid fd locked) so))
-      so
+      (kept_close pid _ locked so)
 
   reports_last : (b : Bool) (device : DeviceId) (s : ClientFiles) → P s → P (closing.reports_last b device s)
   reports_last true device s p = p
@@ -504,11 +531,11 @@ module _ (Q : List Domain → List Event → Type 0) (bears : BearsTelling Q) wh
 
   pub runs_close : (state : CloseState) (pid : ℕ) (work : CloseWork) (s : ClientFiles) → P s → P (closing.runs_close_by state pid work s)
   runs_close close_states.WaitLock pid work s p = closes_next_by _ pid work s p
-  runs_close (close_states.Closing tx stream) pid work s p = p
+  runs_close (close_states.Closing tx stream) pid work s p = kept_close pid _ s p
 
   pub close_answers : (o : Option StreamNo) (pid : ℕ) (work : CloseWork) (s : ClientFiles) → P s → P (closing.close_answers_by o pid work s)
   close_answers (Some stream) pid work s p = closes_rest work.fds pid work.of (locking.unlocks stream s) (unlocks stream s p)
-  close_answers None pid work s p = p
+  close_answers None pid work s p = kept_close pid _ s p
 
   -- Moves
 
@@ -529,7 +556,9 @@ module _ (Q : List Domain → List Event → Type 0) (bears : BearsTelling Q) wh
   moves_object (objects.File file) pid work stream s p =
       let locked : ClientFiles = locking.locks pid work.stream s in
       let so = locks pid work.stream s p in
-      on_if (gets_lock pid work.stream s) _ _ (sent file.server work.about sendings.Other (descriptors.drops_each pid work.stream locked) refl (drops_each pid work.stream locked so)) so
+      let dropped : ClientFiles = descriptors.drops_each pid work.stream locked in
+      let request : Sending = moving.move_to work stream file (is_some (stream_at work.stream dropped)) in
+      on_if (gets_lock pid work.stream s) _ _ (kept_move pid _ (says.sends_for pid request sendings.Other dropped) (sent request sendings.Other dropped refl (drops_each pid work.stream locked so))) (kept_move pid _ locked so)
   moves_object (objects.Device device) pid work stream s p = drops_each pid work.stream s p
   moves_object (objects.Master device) pid work stream s p = drops_each pid work.stream s p
 
@@ -539,11 +568,11 @@ module _ (Q : List Domain → List Event → Type 0) (bears : BearsTelling Q) wh
 
   pub runs_move : (state : MoveState) (pid : ℕ) (work : MoveWork) (s : ClientFiles) → P s → P (moving.runs_move_by state pid work s)
   runs_move move_states.WaitLock pid work s p = moves_on_by (stream_at work.stream s) pid work s p
-  runs_move (move_states.MovingOut tx kept place) pid work s p = p
+  runs_move (move_states.MovingOut tx stays place) pid work s p = kept_move pid _ s p
 
-  shares : (kept : Bool) (number : StreamNo) (s : ClientFiles) → P s → P (moving.shares kept number s)
-  shares kept number s p = on_if kept _ s (moves_place number Shared s p) p
+  shares : (stays : Bool) (number : StreamNo) (s : ClientFiles) → P s → P (moving.shares stays number s)
+  shares stays number s p = on_if stays _ s (moves_place number Shared s p) p
 
   pub move_answers : (o : Option (Bool × Place)) (pid : ℕ) (work : MoveWork) (grant : Option Grant) (many : ℕ) (s : ClientFiles) → P s → P (moving.move_answers_by o pid work grant many s)
   move_answers (Some out) pid work grant many s p = unlocks work.stream (moving.shares out.0 work.stream s) (shares out.0 work.stream s p)
-  move_answers None pid work grant many s p = p
+  move_answers None pid work grant many s p = kept_move pid _ s p

@@ -1,4 +1,5 @@
--- Name calls learn prefixes, and ask for them, where they aren't known; with that, all that a client's kernel does on its files' side.
+-- Name calls learn prefixes, and ask for them, where they aren't known, and wait in the broadcasts that asked; with that, all that a client's
+-- kernel does on its files' side.
 use Rattle.std.proofs.Common.{◌≡◌, ℕ, zero, suc, nat_lt, Bool, true, false, not, cond, List, [], ◌∷◌, Option, Some, None, Result, Ok, Err, option_map, refl, sym, subst}
 use Rattle.std.proofs.lemmas.Bool.{or_from}
 use Rattle.std.specs.List.{AllByRecursion, list_any}
@@ -21,9 +22,9 @@ use Rattle.packet_bodies.specs.declared.OpenedReply.{OpenedReply}
 use Rattle.packet_bodies.specs.declared.ReplyBody.{ReplyBody}
 use Rattle.packet_bodies.specs.declared.ReplyBody.TheVariants as bodies
 use Rattle.packet_bodies.specs.declared.ValueReply.{ValueReply}
+use Rattle.kernel_steps.specs.declared.Sending.{Sending}
 use Rattle.kernel_steps.specs.Rows.{is_under}
 use Rattle.unix_calls.specs.declared.About.{About}
-use Rattle.unix_calls.specs.declared.Event.{Event}
 use Rattle.unix_calls.specs.declared.SendKind.TheVariants as sendings
 use Rattle.unix_calls.specs.Opening.{reads, writes}
 use Rattle.stream_table.specs.declared.Carried.{Carried}
@@ -46,6 +47,7 @@ use Rattle.client_file_tables.specs.declared.pending.Pending.TheVariants as oper
 use Rattle.client_file_tables.specs.declared.states.NameState.{NameState}
 use Rattle.client_file_tables.specs.declared.states.NameState.TheVariants as name_states
 use Rattle.client_file_tables.specs.Rows.{first_call, first_of, less_call, less_of, same_call}
+use Rattle.client_file_tables.specs.Says as says
 use Rattle.client_file_tables.specs.Says.{about_of}
 use Rattle.client_file_tables.specs.Streams as streams
 use Rattle.client_file_tables.specs.Streams.{stream_at}
@@ -54,6 +56,7 @@ use Rattle.client_data.specs.WriteBacks as written
 use Rattle.client_names.specs.Answers as name_answers
 use Rattle.client_names.specs.Issues as naming
 use Rattle.client_names.specs.Lookups as lookups
+use Rattle.client_names.specs.Requests as asked_of
 use Rattle.client_names.specs.Making.{counts_stream, free_descriptor}
 use Rattle.client_names.specs.OpenFlags.{lawful}
 use Rattle.client_names.specs.Paths.{Parts, cleaned}
@@ -68,8 +71,8 @@ use Rattle.client_files.specs.CallIssues as issuing
 use Rattle.client_files.specs.DataIssues as datas
 use Rattle.client_files.specs.Reaches.{reach_by, reach_named, reach_stream}
 use Rattle.client_files.specs.Turns as turning
-use Rattle.prefix_laws.proofs.Bearing.{Bears, BearsTelling}
-use Rattle.prefix_laws.proofs.DataBearing as data_side
+use Rattle.client_walks.proofs.Bearing.{Bears, BearsTelling, Seen, is_plain_state, seen_of, waiting_so}
+use Rattle.client_walks.proofs.DataBearing as data_side
 
 -- ---- the root is a prefix of every path, so where none of a path is known it isn't
 
@@ -88,9 +91,9 @@ none_found : (o : Option Domain) → option_map (λ (d : Domain). d.server) o �
 none_found None e = refl
 none_found (Some d) e = absurd (cc)
 
-module _ (Q : List Domain → List Event → Type 0) (bears : BearsTelling Q) where
+module _ (Q : Seen → Type 0) (bears : BearsTelling Q) where
   abbrev pub P : ClientFiles → Type 0
-  P s = Q s.prefixes s.out.events
+  P s = Q (seen_of s)
 
   on_test : (b : Bool) (s t : ClientFiles) → (b ≡ true → P s) → (b ≡ false → P t) → P (cond b s t)
   on_test true s t f g = f refl
@@ -101,11 +104,15 @@ module _ (Q : List Domain → List Event → Type 0) (bears : BearsTelling Q) wh
 
   -- Look-ups
 
+  -- a request to one server more, for which the call waits so
+  waits : (pid : ℕ) (work : NameWork) (state : NameState) (sending : Sending) (s : ClientFiles) → is_plain_state state ≡ true → P s → P (lookups.waits pid work state (says.sends_for pid sending sendings.Other s))
+  waits pid work state sending s plain p = bears.keeps (seen_of (says.sends sending sendings.Other s)) pid (waiting_so work state) plain (data_side.sent Q bears sending sendings.Other s refl p)
+
   broadcasts : (pid : ℕ) (work : NameWork) (prefix : Parts) (s : ClientFiles) → knows s.prefixes prefix ≡ false → P s → P (lookups.broadcasts pid work prefix s)
-  broadcasts pid work prefix s e p = bears.asks s.prefixes s.out.events s.out.next (Some (about_of pid work.number)) prefix s.servers e p
+  broadcasts pid work prefix s e p = bears.broadcasts (seen_of s) pid work prefix (asked_of.broadcast_of pid work prefix s) refl e p
 
   looks_up_by : (o : Option ℕ) (pid : ℕ) (work : NameWork) (s : ClientFiles) → lookups.server_for work.path s ≡ o → P s → P (lookups.looks_up_by pid work o s)
-  looks_up_by (Some server) pid work s e p = data_side.sent Q bears server (Some (about_of pid work.number)) sendings.Other s refl p
+  looks_up_by (Some server) pid work s e p = waits pid work (name_states.Echoing s.out.next server) (asked_of.echo_to server pid work) s refl p
   looks_up_by None pid work s e p = broadcasts pid work [] s (root_unknown s.prefixes work.path (none_found (longest s.prefixes work.path) e)) p
 
   pub looks_up : (pid : ℕ) (work : NameWork) (s : ClientFiles) → P s → P (lookups.looks_up pid work s)
@@ -179,7 +186,7 @@ module _ (Q : List Domain → List Event → Type 0) (bears : BearsTelling Q) wh
   -- Other calls at their issue
 
   read_object : (object : Object) (named : Named) (stream : Stream) (about : About) (call : Call) (many : ℕ) (s : ClientFiles) → P s → P (datas.reads_by (reach_by object named stream) about call many s)
-  read_object (objects.File file) named stream about call many s p = on_if (not (reads stream.mode)) _ _ (refused about call _ s p) p
+  read_object (objects.File file) named stream about call many s p = on_if (not (reads stream.mode)) _ _ (refused about call _ s p) (data_side.kept_data Q bears about.pid _ s p)
   read_object (objects.Device device) named stream about call many s p = refused about call _ s p
   read_object (objects.Master device) named stream about call many s p = refused about call _ s p
 
@@ -192,7 +199,7 @@ module _ (Q : List Domain → List Event → Type 0) (bears : BearsTelling Q) wh
   read_named None about call many s p = refused about call _ s p
 
   write_object : (object : Object) (named : Named) (stream : Stream) (about : About) (call : Call) (bytes : List ℕ) (s : ClientFiles) → P s → P (datas.writes_found (reach_by object named stream) about call bytes s)
-  write_object (objects.File file) named stream about call bytes s p = on_if (not (writes stream.mode)) _ _ (refused about call _ s p) p
+  write_object (objects.File file) named stream about call bytes s p = on_if (not (writes stream.mode)) _ _ (refused about call _ s p) (data_side.kept_data Q bears about.pid _ s p)
   write_object (objects.Device device) named stream about call bytes s p = refused about call _ s p
   write_object (objects.Master device) named stream about call bytes s p = refused about call _ s p
 
@@ -205,7 +212,7 @@ module _ (Q : List Domain → List Event → Type 0) (bears : BearsTelling Q) wh
   write_named None about call bytes s p = refused about call _ s p
 
   seek_object : (object : Object) (named : Named) (stream : Stream) (about : About) (call : Call) (offset : ℕ) (s : ClientFiles) → P s → P (datas.seeks_found (reach_by object named stream) about call offset s)
-  seek_object (objects.File file) named stream about call offset s p = on_if (nat_lt s.limit offset) _ _ (refused about call _ s p) p
+  seek_object (objects.File file) named stream about call offset s p = on_if (nat_lt s.limit offset) _ _ (refused about call _ s p) (data_side.kept_data Q bears about.pid _ s p)
   seek_object (objects.Device device) named stream about call offset s p = refused about call _ s p
   seek_object (objects.Master device) named stream about call offset s p = refused about call _ s p
 
@@ -218,7 +225,7 @@ module _ (Q : List Domain → List Event → Type 0) (bears : BearsTelling Q) wh
   seek_named None about call offset s p = refused about call _ s p
 
   size_object : (object : Object) (named : Named) (stream : Stream) (about : About) (call : Call) (s : ClientFiles) → P s → P (datas.sizes_found (reach_by object named stream) about call s)
-  size_object (objects.File file) named stream about call s p = p
+  size_object (objects.File file) named stream about call s p = data_side.kept_data Q bears about.pid _ s p
   size_object (objects.Device device) named stream about call s p = refused about call _ s p
   size_object (objects.Master device) named stream about call s p = refused about call _ s p
 
@@ -231,7 +238,7 @@ module _ (Q : List Domain → List Event → Type 0) (bears : BearsTelling Q) wh
   size_named None about call s p = refused about call _ s p
 
   sync_object : (object : Object) (named : Named) (stream : Stream) (about : About) (call : Call) (s : ClientFiles) → P s → P (datas.syncs_found (reach_by object named stream) about call s)
-  sync_object (objects.File file) named stream about call s p = p
+  sync_object (objects.File file) named stream about call s p = data_side.kept_sync Q bears about.pid _ s p
   sync_object (objects.Device device) named stream about call s p = refused about call _ s p
   sync_object (objects.Master device) named stream about call s p = refused about call _ s p
 
@@ -247,7 +254,7 @@ module _ (Q : List Domain → List Event → Type 0) (bears : BearsTelling Q) wh
   issues_read about call fd many s p = on_if (nat_lt 4294967295 many) _ _ (refused about call _ s p) (read_named (descriptor_of about.pid fd s) about call many s p)
 
   issues_close : (o : Option Named) (about : About) (call : Call) (s : ClientFiles) → P s → P (issuing.closes_named o about call s)
-  issues_close (Some named) about call s p = p
+  issues_close (Some named) about call s p = data_side.kept_close Q bears about.pid _ s p
   issues_close None about call s p = refused about call _ s p
 
   dups_by : (r : Result ℕ StreamEnd) (about : About) (call : Call) (s : ClientFiles) → P s → P (issuing.dups_by r about call s)
@@ -312,15 +319,18 @@ module _ (Q : List Domain → List Event → Type 0) (bears : BearsTelling Q) wh
 
   pub answers_move : (body : ReplyBody) (pid : ℕ) (work : MoveWork) (s : ClientFiles) → P s → P (answering.answers_move pid work body s)
   answers_move (bodies.Moved grant many) pid work s p = data_side.move_answers Q bears (moving.moved_out work.state) pid work grant many s p
-  answers_move body pid work s p = p
+  answers_move body pid work s p = data_side.kept_move Q bears pid _ s p
 
-  gives_up_by : (o : Option Pending) (pid : ℕ) (s : ClientFiles) → P s → P (name_answers.gives_up_by pid o s)
-  gives_up_by (Some (operations.Name call)) pid s p = data_side.answers_here Q bears (about_of pid call.work.number) call.work.call _ s p
-  gives_up_by (Some operation) pid s p = p
-  gives_up_by None pid s p = p
+  gives_up_by : (o : Option Pending) (pid : ℕ) (rows : List (ℕ × Pending)) (s : ClientFiles) → first_of pid rows ≡ o → P (record s { pending = rows }) → P (name_answers.gives_up_by pid o (record s { pending = less_of pid rows }))
+  gives_up_by (Some (operations.Name call)) pid rows s e p = data_side.answers_here Q bears (about_of pid call.work.number) call.work.call _ (record s { pending = less_of pid rows }) (data_side.taken_out Q bears pid rows s p)
+  gives_up_by (Some (operations.Data call)) pid rows s e p = data_side.puts_back Q bears pid (operations.Data call) rows s e p
+  gives_up_by (Some (operations.Sync call)) pid rows s e p = data_side.puts_back Q bears pid (operations.Sync call) rows s e p
+  gives_up_by (Some (operations.Close work)) pid rows s e p = data_side.puts_back Q bears pid (operations.Close work) rows s e p
+  gives_up_by (Some (operations.Move work)) pid rows s e p = data_side.puts_back Q bears pid (operations.Move work) rows s e p
+  gives_up_by None pid rows s e p = data_side.taken_out Q bears pid rows s p
 
   gives_up_first : (o : Option ℕ) (tx : TxNo) (s : ClientFiles) → P s → P (name_answers.gives_up_first o tx s)
-  gives_up_first (Some pid) tx s p = on_if (name_answers.takes_end tx (first_of pid s.pending)) _ s (gives_up_by (first_of pid s.pending) pid (record s { pending = less_of pid s.pending }) p) p
+  gives_up_first (Some pid) tx s p = on_if (name_answers.takes_end tx (first_of pid s.pending)) _ s (gives_up_by (first_of pid s.pending) pid s.pending s refl p) p
   gives_up_first None tx s p = p
 
   pub gives_up : (tx : TxNo) (s : ClientFiles) → P s → P (name_answers.gives_up tx s)
@@ -328,17 +338,17 @@ module _ (Q : List Domain → List Event → Type 0) (bears : BearsTelling Q) wh
 
   -- Turns
 
-  runs_by : (o : Option Pending) (pid : ℕ) (s : ClientFiles) → P s → P (turning.runs_by o pid s)
-  runs_by (Some (operations.Name call)) pid s p = p
-  runs_by (Some (operations.Data call)) pid s p = data_side.looks Q bears pid call s p
-  runs_by (Some (operations.Sync call)) pid s p = data_side.syncs Q bears pid call s p
-  runs_by (Some (operations.Close work)) pid s p = data_side.runs_close Q bears work.state pid work s p
-  runs_by (Some (operations.Move work)) pid s p = data_side.runs_move Q bears work.state pid work s p
-  runs_by None pid s p = p
+  runs_by : (o : Option Pending) (pid : ℕ) (rows : List (ℕ × Pending)) (s : ClientFiles) → first_of pid rows ≡ o → P (record s { pending = rows }) → P (turning.runs_by o pid (record s { pending = less_of pid rows }))
+  runs_by (Some (operations.Name call)) pid rows s e p = data_side.puts_back Q bears pid (operations.Name call) rows s e p
+  runs_by (Some (operations.Data call)) pid rows s e p = data_side.looks Q bears pid call (record s { pending = less_of pid rows }) (data_side.taken_out Q bears pid rows s p)
+  runs_by (Some (operations.Sync call)) pid rows s e p = data_side.syncs Q bears pid call (record s { pending = less_of pid rows }) (data_side.taken_out Q bears pid rows s p)
+  runs_by (Some (operations.Close work)) pid rows s e p = data_side.runs_close Q bears work.state pid work (record s { pending = less_of pid rows }) (data_side.taken_out Q bears pid rows s p)
+  runs_by (Some (operations.Move work)) pid rows s e p = data_side.runs_move Q bears work.state pid work (record s { pending = less_of pid rows }) (data_side.taken_out Q bears pid rows s p)
+  runs_by None pid rows s e p = data_side.taken_out Q bears pid rows s p
 
   turned_by : (list : List ℕ) (s : ClientFiles) → P s → P (turning.turned_by list s)
   turned_by [] s p = p
-  turned_by (pid ∷ pids) s p = runs_by (first_of pid s.pending) pid (record s { ready = pids; pending = less_of pid s.pending }) p
+  turned_by (pid ∷ pids) s p = runs_by (first_of pid s.pending) pid s.pending (record s { ready = pids }) refl p
 
   turns : (count : ℕ) (s : ClientFiles) → P s → P (turning.turns count s)
   turns zero s p = p
@@ -373,29 +383,29 @@ module _ (Q : List Domain → List Event → Type 0) (bears : BearsTelling Q) wh
 
 -- where prefixes are learned
 
-module _ (Q : List Domain → List Event → Type 0) (bears : Bears Q) where
+module _ (Q : Seen → Type 0) (bears : Bears Q) where
   abbrev PQ : ClientFiles → Type 0
-  PQ s = Q s.prefixes s.out.events
+  PQ s = Q (seen_of s)
 
   learns : (prefix : Parts) (server : ℕ) (s : ClientFiles) → PQ s → PQ (lookups.learns prefix server s)
-  learns prefix server s p = on_test Q bears.telling (knows s.prefixes prefix) s _ (λ e. p) (λ e. bears.learns s.prefixes s.out.events prefix server e p)
+  learns prefix server s p = on_test Q bears.telling (knows s.prefixes prefix) s _ (λ e. p) (λ e. bears.learns (seen_of s) prefix server e p)
 
   answers_name : (state : NameState) (pid : ℕ) (work : NameWork) (source : ℕ) (body : ReplyBody) (s : ClientFiles) → PQ s → PQ (asked.answers_name_by state pid work source body s)
   answers_name (name_states.Broadcasting tx prefix) pid work source body s p = looks_up Q bears.telling pid work (lookups.learns prefix source s) (learns prefix source s p)
-  answers_name (name_states.Echoing tx server) pid work source body s p = data_side.sent Q bears.telling server (Some (about_of pid work.number)) sendings.Other s refl p
+  answers_name (name_states.Echoing tx server) pid work source body s p = waits Q bears.telling pid work (name_states.Asking s.out.next) (asked_of.request_to server pid work) s refl p
   answers_name (name_states.Asking tx) pid work source body s p = ends_asked Q bears.telling body pid work s p
 
   answered_by : (o : Option Pending) (pid source : ℕ) (body : ReplyBody) (s : ClientFiles) → PQ s → PQ (answering.answered_by o pid source body s)
   answered_by (Some (operations.Name call)) pid source body s p = answers_name call.state pid call.work source body s p
   answered_by (Some (operations.Data call)) pid source body s p = data_side.answered_in Q bears.telling call.state pid call body s p
-  answered_by (Some (operations.Sync call)) pid source body s p = p
+  answered_by (Some (operations.Sync call)) pid source body s p = data_side.kept_sync Q bears.telling pid _ s p
   answered_by (Some (operations.Close work)) pid source body s p = data_side.close_answers Q bears.telling (closing.closed_at_server work.state) pid work s p
   answered_by (Some (operations.Move work)) pid source body s p = answers_move Q bears.telling body pid work s p
   answered_by None pid source body s p = p
 
   answered_first : (o : Option ℕ) (tx : TxNo) (source : ℕ) (body : ReplyBody) (s : ClientFiles) → PQ s → PQ (answering.answered_first o tx source body s)
   answered_first (Some pid) tx source body s p =
-      on_if Q bears.telling (name_answers.takes_end tx (first_of pid s.pending)) _ s (answered_by (first_of pid s.pending) pid source body (record s { pending = less_of pid s.pending }) p) p
+      on_if Q bears.telling (name_answers.takes_end tx (first_of pid s.pending)) _ s (answered_by (first_of pid s.pending) pid source body (record s { pending = less_of pid s.pending }) (data_side.taken_out Q bears.telling pid s.pending s p)) p
   answered_first None tx source body s p = p
 
   pub answered : (tx : TxNo) (source : ℕ) (body : ReplyBody) (s : ClientFiles) → PQ s → PQ (answering.answered tx source body s)

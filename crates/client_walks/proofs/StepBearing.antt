@@ -1,10 +1,9 @@
--- All deeds of a client's kernel: what a fact of known prefixes and of what was told bears, each of them keeps, and so each step.
-use Rattle.std.proofs.Common.{◌≡◌, ℕ, Bool, true, false, cond, List, [], ◌∷◌, ◌++◌, Option, Some, None, option_map, refl}
+-- All deeds of a client's kernel: what a fact of its operations, its prefixes and what was said bears, each of them keeps, and so each step.
+use Rattle.std.proofs.Common.{◌≡◌, ℕ, Bool, true, false, cond, List, [], ◌∷◌, Option, Some, None, option_map, refl}
 use Rattle.sprite_ids.specs.declared.Errno.{Errno}
 use Rattle.sprite_ids.specs.declared.Errno.TheVariants as errnos
 use Rattle.sprite_ids.specs.declared.TxNo.{TxNo}
 use Rattle.sprite_ids.specs.Lists.{less, without}
-use Rattle.sprite_ids.specs.Pid.{home_of}
 use Rattle.process_machine.specs.declared.Reply.{Reply}
 use Rattle.process_machine.specs.declared.Reply.TheVariants.{Value, Error}
 use Rattle.process_machine.specs.Machine.{Machine}
@@ -19,13 +18,13 @@ use Rattle.pseudo_device.specs.Device.{Asks, take_refusal, told}
 use Rattle.home_table.specs.Home.{Table}
 use Rattle.kernel_steps.specs.declared.Input.{Input}
 use Rattle.kernel_steps.specs.declared.Input.TheVariants as inputs
+use Rattle.kernel_steps.specs.declared.Sending.{Sending}
 use Rattle.kernel_steps.specs.Rows.{first_under, is_under}
 use Rattle.unix_calls.specs.declared.About.{About}
 use Rattle.unix_calls.specs.declared.Entry.{Entry}
 use Rattle.unix_calls.specs.declared.Event.{Event}
 use Rattle.unix_calls.specs.declared.Event.TheVariants as events
 use Rattle.unix_calls.specs.declared.SendKind.TheVariants as sendings
-use Rattle.prefix_table.specs.declared.prefixes.Domain.{Domain}
 use Rattle.client_file_tables.specs.declared.client_files.ClientFiles.{ClientFiles}
 use Rattle.client_file_tables.specs.Streams.{cwd_of}
 use Rattle.client_files.specs.Answered as file_answers
@@ -38,11 +37,13 @@ use Rattle.client_homes.specs.Calls as calling
 use Rattle.client_homes.specs.Ends as ending
 use Rattle.client_homes.specs.Homes as homes
 use Rattle.client_homes.specs.Issuing as issuing
+use Rattle.client_homes.specs.Kills as kills
 use Rattle.client_homes.specs.Pages as pages
 use Rattle.client_homes.specs.Procs as procs_of
 use Rattle.client_homes.specs.Says as says
 use Rattle.client_homes.specs.Says.{next_tx, value}
 use Rattle.client_homes.specs.Waits as waiting
+use Rattle.client_homes.specs.Words as words
 use Rattle.client_devices.specs.Asking as asking
 use Rattle.client_devices.specs.Getting as getting
 use Rattle.client_devices.specs.Making as making
@@ -56,15 +57,16 @@ use Rattle.client_procs.specs.Issues as issuing_calls
 use Rattle.client_procs.specs.Launching as launching
 use Rattle.client_procs.specs.Steps as stepping
 use Rattle.client_procs.specs.Turning as turning
+use Rattle.client_walks.specs.Answers.{is_redirect}
 use Rattle.client_walks.proofs.Deeds.{Always, Hand, KeepsCalls, KeepsComings, KeepsDevices, KeepsFiles, KeepsHomes, KeepsKills, KeepsMoves, KeepsWithin, nothing}
 use Rattle.client_walks.proofs.WalkLaws.{heard_own, rounds_keep, within_keeps}
-use Rattle.prefix_laws.specs.Prefixes.{is_other}
-use Rattle.prefix_laws.proofs.Bearing.{BearsTelling}
-use Rattle.prefix_laws.proofs.NameBearing as files_side
+use Rattle.client_walks.proofs.Bearing.{BearsTelling, Seen, is_other, seen_of, sent_more}
+use Rattle.client_walks.proofs.DataBearing as data_side
+use Rattle.client_walks.proofs.NameBearing as files_side
 
-module _ (Q : List Domain → List Event → Type 0) (bears : BearsTelling Q) (came : Input) (hears : (tx : TxNo) (source : ℕ) (body : ReplyBody) (s : ClientFiles) → came ≡ inputs.Replied tx source body → Q s.prefixes s.out.events → Q (file_answers.answered tx source body s).prefixes (file_answers.answered tx source body s).out.events) where
+module _ (Q : Seen → Type 0) (bears : BearsTelling Q) (came : Input) (hears : (tx : TxNo) (source : ℕ) (body : ReplyBody) (s : ClientFiles) → came ≡ inputs.Replied tx source body → Q (seen_of s) → Q (seen_of (file_answers.answered tx source body s))) where
   abbrev P : ClientProcs → Type 0
-  P s = Q s.files.prefixes s.files.out.events
+  P s = Q (seen_of s.files)
 
   abbrev Holds : ClientProcs → Hand → Type 0
   Holds s h = P s
@@ -76,14 +78,22 @@ module _ (Q : List Domain → List Event → Type 0) (bears : BearsTelling Q) (c
   -- What is said
 
   noted : (event : Event) (s : ClientProcs) → is_other event ≡ true → P s → P (says.notes event s)
-  noted event s h p = bears.tells s.files.prefixes s.files.out.events event h p
+  noted event s h p = bears.tells (seen_of s.files) event h p
 
   entered : (entry : Entry) (s : ClientProcs) → P s → P (says.notes (events.Enter entry) s)
   entered entry s p = noted (events.Enter entry) s refl p
 
-  -- one packet went out
-  sent : (to : ℕ) (about : Option About) (s : ClientProcs) → P s → Q s.files.prefixes (s.files.out.events ++ events.Send s.files.out.next to about sendings.Other ∷ [])
-  sent to about s p = bears.tells s.files.prefixes s.files.out.events (events.Send s.files.out.next to about sendings.Other) refl p
+  -- a request more
+  sent : (sending : Sending) (s : ClientProcs) → P s → Q (sent_more (seen_of s.files) sending sendings.Other)
+  sent sending s p = bears.says (seen_of s.files) sending sendings.Other refl p
+
+  -- a request is answered
+  answered : (tx : TxNo) (body : ReplyBody) (s : ClientProcs) → is_redirect body ≡ false → P s → P (says.answers tx body s)
+  answered tx body s here p = bears.answers (seen_of s.files) tx body here p
+
+  replied : (reply : Reply) (tx : TxNo) (s : ClientProcs) → P s → P (says.answers tx (words.packet_of reply) s)
+  replied (Value first second bytes) tx s p = answered tx _ s refl p
+  replied (Error errno) tx s p = answered tx _ s refl p
 
   -- Processes that are changed
 
@@ -128,14 +138,14 @@ module _ (Q : List Domain → List Event → Type 0) (bears : BearsTelling Q) (c
 
   ends : (pid : ℕ) (about : Option About) (s : ClientProcs) → P s → P (ending.ends pid about s)
   unfolding ending.closes_all
-  ends pid about s p = in_state pid states.Ending s p
+  ends pid about s p = data_side.kept_close Q bears pid _ (procs_of.in_state pid states.Ending s).files (in_state pid states.Ending s p)
 
   ends_wait : (o : Option TxNo) (pid : ℕ) (reply : Reply) (s : ClientProcs) → P s → P (waiting.ends_wait pid o reply s)
-  ends_wait (Some tx) pid reply s p = p
+  ends_wait (Some tx) pid reply s p = replied reply tx s p
   ends_wait None pid reply s p = replies pid reply s p
 
   fetches : (pid page : ℕ) (s : ClientProcs) → P s → P (pages.fetches pid page s)
-  fetches pid page s p = sent s.swap_server None s p
+  fetches pid page s p = sent _ s p
 
   with_cwd : (o : Option (List (List ℕ))) (child : ℕ) (s : ClientProcs) → P s → P (births.with_cwd child o s)
   with_cwd (Some cwd) child s p = files_side.sets_cwd Q bears child cwd s.files p
@@ -148,7 +158,7 @@ module _ (Q : List Domain → List Event → Type 0) (bears : BearsTelling Q) (c
   with_device None device s p = p
 
   gives_to : (o : Option (Option TxNo)) (pid : ℕ) (reply : Reply) (s : ClientProcs) → P s → P (asking.gives_to pid o reply s)
-  gives_to (Some (Some tx)) pid reply s p = p
+  gives_to (Some (Some tx)) pid reply s p = replied reply tx s p
   gives_to (Some None) pid reply s p = replies pid reply s p
   gives_to None pid reply s p = p
 
@@ -238,16 +248,16 @@ module _ (Q : List Domain → List Event → Type 0) (bears : BearsTelling Q) (c
     kills_none = λ s h request target e u p. enters_home request (Error errnos.NoProcess) (homes.kills_at target s) (home_if (homes.is_native target s) _ s p);
     ends_by_exit = λ s h request code u p. let done : ClientProcs = waiting.enters_home request (value 0 0) s in home_if (homes.is_native request.pid done) _ done (enters_home request (value 0 0) s p);
     ends_by_death = λ s h about u p. let done : ClientProcs = says.enters_death about s in home_if (homes.is_native about.pid done) _ done (entered _ s p);
-    dies_elsewhere = λ s h about e u p. in_state about.pid (states.Dying (next_tx s)) _ (sent (home_of about.pid) None s p);
+    dies_elsewhere = λ s h about e u p. in_state about.pid (states.Dying (next_tx s)) _ (sent _ s p);
     ends = λ s h pid about u p. ends pid about s p;
     takes_waiter = λ s h pid u p. p;
     ends_wait = λ s h pid tx reply u p. ends_wait tx pid reply s p;
     parks = λ s h pid parked u p. p;
     parks_here = λ s h request u p. in_state request.pid states.Waiting s p;
     fetches_for_fork = λ s h pid page u p. in_state pid (states.ForkPages (next_tx s) page) (pages.fetches pid page s) (fetches pid page s p);
-    asks_home = λ s h kernel request e u p. on_if (issuing.is_fork request.call) _ _ (in_state request.pid (states.AtHome (next_tx s)) _ (sent kernel (Some (waiting.about_of request)) s p)) (in_state request.pid (states.AtHome (next_tx s)) _ (sent kernel (Some (waiting.about_of request)) s p));
-    answers = λ s h tx body u p. p;
-    hands_on = λ s h tx o u p. p;
+    asks_home = λ s h kernel request e u p. on_if (issuing.is_fork request.call) _ _ (in_state request.pid (states.AtHome (next_tx s)) _ (sent _ s p)) (in_state request.pid (states.AtHome (next_tx s)) _ (sent _ s p));
+    answers = λ s h tx reply u p. replied reply tx s p;
+    hands_on = λ s h tx o u p. replied (calling.born_reply o) tx s p;
     forgets_fork = λ s h tx u p. p;
     forgets_early = λ s h tx u p. p;
     places_child = λ s h parent child image e u p. let forked : ClientProcs = births.forks_streams parent child s in with_cwd (cwd_of parent forked.files) child forked p;
@@ -261,10 +271,10 @@ module _ (Q : List Domain → List Event → Type 0) (bears : BearsTelling Q) (c
     breaks_off = λ s h pid device max proc e g u p. answers_here pid (Error errnos.Interrupted) _ p;
     notes_kill = λ s h pid kill u p. p;
     forgets_kill = λ s h pid u p. p;
-    goes_after = λ s h about pid place u p. sent place about s p;
-    hears_here = λ s h tx pid e u p. killed_at pid s p;
-    hears_gone = λ s h tx pid e u p. p;
-    tells_place = λ s h tx pid kernel u p. home_if (homes.is_native pid s) _ s p;
+    goes_after = λ s h about pid place u p. sent _ s p;
+    hears_here = λ s h tx pid e u p. answered tx bodies.Done (procs_of.killed_at pid s) refl (killed_at pid s p);
+    hears_gone = λ s h tx pid e u p. answered tx bodies.Gone (kills.notes_early pid s) refl p;
+    tells_place = λ s h tx pid kernel u p. answered tx bodies.Done (homes.moves_to pid kernel s) refl (home_if (homes.is_native pid s) _ s p);
   }
 
   devices : KeepsDevices Always Holds
@@ -274,7 +284,7 @@ module _ (Q : List Domain → List Event → Type 0) (bears : BearsTelling Q) (c
     waits_at = λ s h device ask e u p. with_device _ device s p;
     ends_ask = λ s h ask reply u p. ends_ask ask reply s p;
     serves_getter = λ s h device pid e u p. serves_getter (tables.asks_in device s) device pid (getting.max_of pid s) (tables.takes_at device (getting.max_of pid s) s) (with_device _ device s p);
-    sends_ask = λ s h pid request u p. in_state pid (states.InAsk (Some (next_tx s))) _ (sent request.device.kernel (asking.request_about pid request) s p);
+    sends_ask = λ s h pid request u p. in_state pid (states.InAsk (Some (next_tx s))) _ (sent _ s p);
     waits_for_ask = λ s h pid device max u p. in_state pid (states.Getting device max) s p;
     puts_with = λ s h pid device bytes errno u p. puts_if (tables.answer_at device bytes errno s) pid device bytes errno s p;
     left_at = λ s h device u p. with_device _ device s p;
@@ -288,25 +298,25 @@ module _ (Q : List Domain → List Event → Type 0) (bears : BearsTelling Q) (c
     takes_proc = λ s h pid proc e u p. p;
     takes_none = λ s h pid e u p. p;
     takes_ended = λ s h pid u p. p;
-    puts_page = λ s h pid page bytes u p. sent s.swap_server None s p;
+    puts_page = λ s h pid page bytes u p. sent _ s p;
     drops_cwd = λ s h pid u p. p;
     keeps_leaving = λ s h pid step about u p. p;
     takes_leaving = λ s h pid found e u p. p;
     leaves_none = λ s h pid e u p. p;
-    begins_move = λ s h pid one about u p. p;
-    sends_process = λ s h pid sent_one about e u p. sent sent_one.to about s p;
+    begins_move = λ s h pid one about u p. data_side.kept_move Q bears pid _ s.files p;
+    sends_process = λ s h pid sent_one about e u p. sent _ s p;
   }
 
   comings : KeepsComings Always Holds
   comings = record {
     brings = λ s h pid e u p. p;
     refuses = λ s h pid e u p. p;
-    answers_done = λ s h tx pid u p. p;
+    answers_done = λ s h tx pid u p. answered tx bodies.Done s refl p;
     has_streams = λ s h process streams u p. files_side.arrives Q bears process.pid process.cwd streams process.streams s.files p;
     puts_in = λ s h process fresh u p. p;
     comes_home = λ s h pid e u p. home_if (homes.is_native pid s) _ s p;
     thaws = λ s h pid u p. in_state pid states.Ready (says.notes (events.Thaw pid) s) (noted (events.Thaw pid) s refl p);
-    tells_home = λ s h pid moved e u p. in_state pid (states.Arriving (next_tx s) moved) _ (sent (home_of pid) None s p);
+    tells_home = λ s h pid moved e u p. in_state pid (states.Arriving (next_tx s) moved) _ (sent _ s p);
     waits_for_page = λ s h pid page e u p. in_state pid (states.PageWait (next_tx s) page) (pages.fetches pid page s) (fetches pid page s p);
     has_page = λ s h pid page body u p. has_page body pid page s p;
     is_ready = λ s h pid u p. in_state pid states.Ready s p;
