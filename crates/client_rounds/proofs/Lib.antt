@@ -1,0 +1,11 @@
+pub mod Totals
+pub mod Ledgers
+pub mod OpLaws
+pub mod RunLaws
+pub mod CallLaws
+pub mod HearLaws
+pub mod Sides
+pub mod DeedLaws
+pub mod EnoughLaws
+pub mod BeginLaws
+pub mod StepLaws
