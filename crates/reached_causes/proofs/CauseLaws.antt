@@ -54,14 +54,14 @@ use Rattle.sprite_cluster.specs.Reached.{At, Reached}
 use Rattle.sprite_cluster.specs.Steps.{begun_turn}
 use Rattle.sprite_cluster.proofs.ReachedLaws.{Lasts, lasts_on}
 use Rattle.broadcast_laws.specs.Broadcasts.{WaitsFor}
-use Rattle.reached_domains.proofs.DomainLaws.{broadcasts_ask, one_answers}
+use Rattle.reached_domains.proofs.DomainLaws.{broadcasts_ask, one_answers, redirects_lead}
 use Rattle.reached_prefixes.specs.Known.{told_by}
 use Rattle.reached_prefixes.proofs.TraceLaws.{told_append, told_other_more, told_own_more}
 use Rattle.cause_entries.specs.Causes.{given_up, given_up_by, given_up_for, unreachable_in}
 use Rattle.cause_entries.specs.Sayings.{IsFor, IsSaid, SaysSo, awaited, kind_of}
 use Rattle.cause_entries.proofs.CauseLaws.{unreachable_append}
 use Rattle.cause_entries.proofs.SaidLaws.{found_said}
-use Rattle.reached_causes.specs.Causes.{RedirectsAreDomains, UnreachableForCause}
+use Rattle.reached_causes.specs.Causes.{UnreachableForCause}
 use Rattle.reached_causes.proofs.GiveUpLaws.{given_up_behind_sends, sent_to_owner}
 use Rattle.reached_causes.proofs.RunLaws.{not_counted, reached_so}
 use Rattle.reached_causes.proofs.TurnLaws.{Calls, Leads, NoServer, OneServer, SaidIn, TurnSays, burst_says, choice_says, entries_of, said_on}
@@ -308,7 +308,7 @@ fired_by (Some call) kernel machine tx known fires last =
     let parts = and_parts (call.from == kernel) (may_expire machine tx) fires in
     record { call = call; known = known; own = eqb-true call.from kernel parts.0; due = parts.1; last = last }
 
-module _ {L : Type 0} (faults asked : L → ℕ → ℕ → ℕ) (c : Description) (begun : L) (redirects : RedirectsAreDomains faults asked) (root : is_domain c [] ≡ true) where
+module _ {L : Type 0} (faults asked : L → ℕ → ℕ → ℕ) (c : Description) (begun : L) (root : is_domain c [] ≡ true) where
   -- where a name call waits so, what goes out for it may end in that
   may_end : (state : NameState) (old : At L) (kernel : ℕ) (client : ClientProcs) (tx : TxNo) (call : Call) (name : NameCall) (told : List Event) (next : ℕ) (about : About) → 1 ≤ kernel → Reached faults asked c begun old → client_at kernel old.state ≡ Some client → Found client.files.pending (operations.Name name)
       → name.state ≡ state → awaited state ≡ tx.0 → call_of old.wire.machine tx ≡ Some call → IsSaid (is_domain c) told next about state → may_give_up c call.owner (kind_of state) ≡ true
@@ -437,7 +437,7 @@ module _ {L : Type 0} (faults asked : L → ℕ → ℕ → ℕ) (c : Descriptio
       }))
 
   leads : (old : At L) → Reached faults asked c begun old → Leads c old.wire.machine
-  leads old reached tx call reply packet path known answered reads is = redirects c begun old tx call reply packet path reached known answered reads is
+  leads old reached tx call reply packet path known answered reads is = redirects_lead faults asked c begun old tx call reply packet path reached known answered reads is
 
   same_stands : (old now : At L) → now.wire ≡ old.wire → ((kernel : ℕ) → client_at kernel now.state ≡ client_at kernel old.state) → now.trace ≡ old.trace → Stands c old.wire.machine old.state old.trace → Stands c now.wire.machine now.state now.trace
   same_stands old now wire same written h = subst (λ (w : Wired L). Stands c w.machine now.state now.trace) (sym wire) (subst (λ (trace : List Rec). Stands c old.wire.machine now.state trace) (sym written) (record {
@@ -477,9 +477,8 @@ module _ {L : Type 0} (faults asked : L → ℕ → ℕ → ℕ) (c : Descriptio
   all_stand : (now : At L) → Reached faults asked c begun now → Stands c now.wire.machine now.state now.trace
   all_stand now reached = lasts_on faults asked c begun (λ (at : At L). Stands c at.wire.machine at.state at.trace) now stands_last reached
 
--- where redirects lead to domains
-pub unreachable_so : {L : Type 0} (faults asked : L → ℕ → ℕ → ℕ) → RedirectsAreDomains faults asked → UnreachableForCause faults asked
-unreachable_so faults asked redirects c begun now lawful reached = rule_kept c now.trace (all_stand faults asked c begun redirects (root_is lawful) now reached).caused
+pub unreachable_so : {L : Type 0} (faults asked : L → ℕ → ℕ → ℕ) → UnreachableForCause faults asked
+unreachable_so faults asked c begun now lawful reached = rule_kept c now.trace (all_stand faults asked c begun (root_is lawful) now reached).caused
   where
     root_is : Lawful c → is_domain c [] ≡ true
     root_is lawful = lawful.the_root

@@ -1,4 +1,4 @@
-ghost use Rattle.reached_causes.specs.Causes.{RedirectsAreDomains, ServersLinkToDomains, UnreachableForCause};
+ghost use Rattle.reached_causes.specs.Causes.{ServersLinkToDomains, UnreachableForCause};
 ghost use Rattle.reached_causes.specs.GivenUp.{GivenUpBehindSends};
 
 use link_plan::Link;
@@ -10,11 +10,10 @@ pub fn given_up_behind_sends()
     ensures { GivenUpBehindSends }
 {}
 
-/// A law: where the answers that lead name calls on, to other domains, lead them to domains of the description, the trace of each
-/// reached cluster of a lawful description calls a server unreachable only for cause: behind eight lost tries of an echo, a broadcast or
-/// a request that went out for the sake of that very call (Welch 1986; this project).
-pub fn unreachable_for_cause_where_redirects_lead_to_domains<L: Link>()
-    ensures { RedirectsAreDomains L.faults L.asked → UnreachableForCause L.faults L.asked }
+/// A law: the trace of each reached cluster of a lawful description calls a server unreachable only for cause: behind eight lost tries of
+/// an echo, a broadcast or a request that went out for the sake of that very call (Welch 1986; this project).
+pub fn unreachable_for_cause<L: Link>()
+    ensures { UnreachableForCause L.faults L.asked }
 {}
 
 /// A law: in each reached cluster others hang in a server's domains at roots of the description's domains alone, so that it leads name

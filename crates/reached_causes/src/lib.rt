@@ -3,7 +3,4 @@
 
 mod laws;
 
-pub use laws::{
-    given_up_behind_sends, servers_link_to_domains,
-    unreachable_for_cause_where_redirects_lead_to_domains,
-};
+pub use laws::{given_up_behind_sends, servers_link_to_domains, unreachable_for_cause};

@@ -29,6 +29,7 @@ use Rattle.packet_bodies.specs.declared.ReplyBody.TheVariants.{Here}
 use Rattle.packet_bodies.specs.declared.Request.{Request}
 use Rattle.packet_bodies.specs.declared.Request.TheVariants as requests
 use Rattle.unix_calls.specs.declared.Description.{Description}
+use Rattle.unix_calls.specs.Domains.{begins_domain, roots_of}
 use Rattle.wire_format.specs.declared.Packet.{Packet}
 use Rattle.wire_format.specs.Packets.{IsPacket, reading, spelling}
 use Rattle.wire_format.specs.PacketLaws.{spelled_is_read}
@@ -37,6 +38,7 @@ use Rattle.cluster_wire.specs.Goings.{Going, broadcast_to, call_to, goes, goes_b
 use Rattle.cluster_wire.specs.Ran.{EachDone}
 use Rattle.cluster_wire.specs.Replying.{IsAnswer, asker, asker_by, goes_back, reply_packet}
 use Rattle.server_answers.specs.Sorts.{fits}
+use Rattle.redirect_laws.specs.Links.{AnswerLeads}
 use Rattle.broadcast_laws.specs.Broadcasts.{Parts}
 use Rattle.wire_bodies.specs.Bodies.{KeepsBodies, body_at}
 use Rattle.wire_bodies.proofs.BodyLaws.{after_stays, run_stays, stays_through}
@@ -50,6 +52,10 @@ pub record IsTold (c : Description) (kernel : ℕ) (request : Request) (reply : 
   pub fit : (path : Parts) → serves c kernel path ≡ true → fits request reply ≡ true
   pub served : (prefix : Parts) → prefix_of request ≡ Some prefix → (serves c kernel prefix ≡ true) × (reply ≡ Here prefix)
 
+-- an answer that sends a name call on sends it to the root of a domain
+abbrev pub SendsOn : Description → ReplyBody → Type 0
+SendsOn c reply = AnswerLeads (begins_domain (roots_of c.kernels)) reply
+
 -- the reply of a call, as it is spelled, is its owner's answer
 pub record Told (c : Description) (owner : ℕ) (asks : List ℕ) (reply : List ℕ) : Type 0 where
   pub packet : Packet
@@ -57,6 +63,7 @@ pub record Told (c : Description) (owner : ℕ) (asks : List ℕ) (reply : List 
   pub reads : reading reply ≡ Some packet
   pub source : packet.from ≡ owner
   pub is : packet.body ≡ bodies.Reply body
+  pub sends_on : SendsOn c body
   pub told : (request : Request) → asked_request asks ≡ Some request → IsTold c owner request body
 
 pub record Fine (c : Description) (call : Call) : Type 0 where
@@ -227,7 +234,8 @@ module _ (c : Description) where
   -- an answer of the kernel, to a call that stood so at first
   abbrev pub MayBeTold : ℕ → Machine → TxNo × ReplyBody → Type 0
   MayBeTold kernel first answer =
-      (machine : Machine) (call : Call) (request : Request) → KeepsBodies first machine → call_of machine answer.0 ≡ Some call → Fine c call → call.owner ≡ kernel → asked_request call.body ≡ Some request → IsTold c kernel request answer.1
+      SendsOn c answer.1
+      × ((machine : Machine) (call : Call) (request : Request) → KeepsBodies first machine → call_of machine answer.0 ≡ Some call → Fine c call → call.owner ≡ kernel → asked_request call.body ≡ Some request → IsTold c kernel request answer.1)
 
   answered_to : (kernel : ℕ) (answer : TxNo × ReplyBody) (o : Option ℕ) (packet : Packet) → option_map (reply_packet kernel answer) o ≡ Some packet → (to : ℕ) × (o ≡ Some to) × (packet ≡ reply_packet kernel answer to)
   answered_to kernel answer (Some to) packet e = (to, refl, sym (some_is (reply_packet kernel answer to) packet e))
@@ -241,8 +249,8 @@ module _ (c : Description) where
   asker_owner true kernel to found e = owner_by (found.owner == kernel) kernel to found refl e
   asker_owner false kernel to found e = absurd (cc)
 
-  fine_answered : (kernel to : ℕ) (answer : TxNo × ReplyBody) (found : Call) → IsPacket (reply_packet kernel answer to) → found.owner ≡ kernel → ((request : Request) → asked_request found.body ≡ Some request → IsTold c kernel request answer.1) → Fine c found → Fine c (answered (spelling (reply_packet kernel answer to)) found)
-  fine_answered kernel to answer found is owner may k = record {
+  fine_answered : (kernel to : ℕ) (answer : TxNo × ReplyBody) (found : Call) → IsPacket (reply_packet kernel answer to) → found.owner ≡ kernel → SendsOn c answer.1 → ((request : Request) → asked_request found.body ≡ Some request → IsTold c kernel request answer.1) → Fine c found → Fine c (answered (spelling (reply_packet kernel answer to)) found)
+  fine_answered kernel to answer found is owner led may k = record {
     owned = k.owned;
     answer = λ reply e. record {
       packet = reply_packet kernel answer to;
@@ -250,6 +258,7 @@ module _ (c : Description) where
       reads = ap reading (sym (some_is (spelling (reply_packet kernel answer to)) reply e)) ∙ spelled_is_read (reply_packet kernel answer to) is;
       source = sym owner;
       is = refl;
+      sends_on = led;
       told = λ request f. subst (λ (n : ℕ). IsTold c n request answer.1) (sym owner) (may request f);
     };
   }
@@ -267,7 +276,7 @@ module _ (c : Description) where
       let owner = λ (found : Call) (e : call_of machine answer.0 ≡ Some found). asker_owner (may_answer machine answer.0) kernel to found (subst (λ (o : Option Call). asker_by (may_answer machine answer.0) kernel o ≡ Some to) e got.1) in
       subst (λ (a : Act). AllFine c (after machine a)) (sym act_is)
       (answered_all (call_of machine answer.0) answer.0 (spelling own) is.given machine ordered
-      (λ found e k. fine_answered kernel to answer found (subst IsPacket got.2 is.is_packet) (owner found e) (λ request f. may machine found request keeps e k (owner found e) f) k) h)
+      (λ found e k. fine_answered kernel to answer found (subst IsPacket got.2 is.is_packet) (owner found e) may.0 (λ request f. may.1 machine found request keeps e k (owner found e) f) k) h)
 
   pub answers_fine : (kernel : ℕ) (first : Machine) (answers : List (TxNo × ReplyBody)) (machine : Machine) (steps : List (Act × Counts)) → EachDone (goes_back kernel) IsAnswer answers machine steps → Ordered machine → KeepsBodies first machine → AllByRecursion (MayBeTold kernel first) answers → AllFine c machine → AllFine c (reached machine steps)
   answers_fine kernel first [] machine steps e ordered keeps may h = subst (λ (all : List (Act × Counts)). AllFine c (reached machine all)) (sym e) h

@@ -12,11 +12,13 @@ use Rattle.kernel_rpc.proofs.SoundLaws.{found_sound}
 use Rattle.packet_bodies.specs.declared.Body.{Body}
 use Rattle.packet_bodies.specs.declared.Body.TheVariants as bodies
 use Rattle.packet_bodies.specs.declared.ReplyBody.{ReplyBody}
+use Rattle.packet_bodies.specs.declared.ReplyBody.TheVariants.{Redirect}
 use Rattle.packet_bodies.specs.declared.Request.{Request}
 use Rattle.wire_format.specs.declared.Packet.{Packet}
 use Rattle.wire_format.specs.Packets.{reading}
 use Rattle.unix_calls.specs.declared.Description.{Description}
 use Rattle.unix_calls.specs.declared.KernelLine.{KernelLine}
+use Rattle.unix_calls.specs.Domains.{begins_domain, roots_of}
 use Rattle.client_file_tables.specs.declared.pending.Pending.{Pending}
 use Rattle.client_file_tables.specs.declared.pending.Pending.TheVariants as operations
 use Rattle.client_homes.specs.declared.ClientProcs.{ClientProcs}
@@ -35,7 +37,9 @@ use Rattle.broadcast_laws.proofs.Asking.{OperationAsks, RowsAsk, StateAsks}
 use Rattle.server_answers.specs.Sorts.{fits}
 use Rattle.server_answers.proofs.Answering.{AllKept}
 use Rattle.server_answers.proofs.RootLaws.{roots_are_served, servers_begin_with_none}
-use Rattle.reached_domains.specs.Domains.{AnswersAreOwners, AnswersTellDomains, BroadcastsAskSo, OneServerAnswers, ServersAnswersFit, ServersServeTheirs, TellsADomain, asked_prefix, asked_request, prefix_by, prefix_of}
+use Rattle.redirect_laws.specs.Links.{AnswerLeads}
+use Rattle.redirect_laws.proofs.BootLinks.{servers_begin_linked}
+use Rattle.reached_domains.specs.Domains.{AnswersAreOwners, AnswersTellDomains, BroadcastsAskSo, OneServerAnswers, RedirectsAreDomains, ServersAnswersFit, ServersServeTheirs, TellsADomain, asked_prefix, asked_request, prefix_by, prefix_of}
 use Rattle.reached_domains.proofs.CallLaws.{AsksAt, Fine, Told}
 use Rattle.reached_domains.proofs.KernelLaws.{Fits, KeptAt}
 use Rattle.reached_domains.proofs.TurnLaws.{OfAll, Stands, begun_stands, ended, happened, one_at, told_stands}
@@ -53,7 +57,7 @@ booted_one : (serves : List Path) (c : Description) (kernel : ℕ) (line : Kerne
 booted_one [] c kernel line state there is e = subst (Fits c idle kernel) (sym e) (record { line = line; there = there; none = is; asks = tt })
 booted_one (path ∷ paths) c kernel line (kernels.Server made) there is e =
     let none = servers_begin_with_none c kernel made e in
-    record { roots = λ root h. roots_are_served c kernel made root e h; asking = none_kept made.asking none.0; waiting = none_kept made.waiting none.1 }
+    record { roots = λ root h. roots_are_served c kernel made root e h; links = (servers_begin_linked c kernel made e).0; asking = none_kept made.asking none.0; waiting = none_kept made.waiting none.1 }
 booted_one (path ∷ paths) c kernel line (kernels.Client made) there is e = absurd e
 
 -- of the lines behind those before them
@@ -149,6 +153,12 @@ answers_fit faults asked c begun now tx call request reply packet body path reac
     let told = (call_fine c now.wire.machine now.state tx call (all_stand faults asked c begun now reached) e).answer reply f in
     let same : bodies.Reply told.body ≡ bodies.Reply body = sym told.is ∙ (ap (λ (p : Packet). p.body) (some_is told.packet packet (sym told.reads ∙ g)) ∙ is) in
     subst (λ (b : ReplyBody). fits request b ≡ true) (ap (body_or body) same) ((told.told request asks).fit path serving)
+
+pub redirects_lead : {L : Type 0} (faults asked : L → ℕ → ℕ → ℕ) → RedirectsAreDomains faults asked
+redirects_lead faults asked c begun now tx call reply packet path reached e f g is =
+    let told = (call_fine c now.wire.machine now.state tx call (all_stand faults asked c begun now reached) e).answer reply f in
+    let same : bodies.Reply told.body ≡ bodies.Reply (Redirect path) = sym told.is ∙ (ap (λ (p : Packet). p.body) (some_is told.packet packet (sym told.reads ∙ g)) ∙ is) in
+    subst (AnswerLeads (begins_domain (roots_of c.kernels))) (ap (body_or (Redirect path)) same) told.sends_on
 
 -- what an operation waits for
 pub waits_asks : (c : Description) (machine : Machine) (rows : List (ℕ × Pending)) (tx : TxNo) (prefix : Parts) → RowsAsk (AsksAt c machine) rows → WaitsFor rows tx prefix → AsksAt c machine tx prefix

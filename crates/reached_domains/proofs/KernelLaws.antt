@@ -13,7 +13,7 @@ use Rattle.kernel_steps.specs.declared.Input.{Input}
 use Rattle.kernel_steps.specs.declared.Input.TheVariants as inputs
 use Rattle.kernel_steps.specs.declared.Out.{Out}
 use Rattle.packet_bodies.specs.declared.ReplyBody.{ReplyBody}
-use Rattle.packet_bodies.specs.declared.ReplyBody.TheVariants.{Here}
+use Rattle.packet_bodies.specs.declared.ReplyBody.TheVariants.{Here, Redirect}
 use Rattle.packet_bodies.specs.declared.Request.{Request}
 use Rattle.packet_bodies.specs.declared.Request.TheVariants as requests
 use Rattle.unix_calls.specs.declared.Description.{Description}
@@ -28,6 +28,8 @@ use Rattle.client_homes.specs.declared.ClientProcs.{ClientProcs}
 use Rattle.client_homes.specs.declared.process.Proc.{Proc}
 use Rattle.client_homes.specs.Procs.{proc_at, with_proc}
 use Rattle.client_procs.specs.Steps.{client_step}
+use Rattle.client_walks.specs.Answers.{SendNoneOn, is_redirect}
+use Rattle.client_walks.proofs.AnswerLaws.{send_none_on}
 use Rattle.cluster_kernels.specs.declared.KernelState.{KernelState}
 use Rattle.cluster_kernels.specs.declared.KernelState.TheVariants as kernels
 use Rattle.cluster_kernels.specs.Kernels.{image_put, kernel_step}
@@ -38,9 +40,11 @@ use Rattle.server_answers.specs.Servers.{asks_for_server}
 use Rattle.server_answers.proofs.Answering.{AllKept, FreeFor, MayAnswer, MayTake}
 use Rattle.server_answers.proofs.RootLaws.{roots_same}
 use Rattle.server_answers.proofs.ServerLaws.{step_answers}
+use Rattle.redirect_laws.specs.Links.{AnswersLead, LinksIn}
+use Rattle.redirect_laws.proofs.ServerLinks.{servers_lead}
 use Rattle.wire_bodies.specs.Bodies.{KeepsBodies, body_at}
 use Rattle.reached_domains.specs.Domains.{asked_request, prefix_by, prefix_of, serves}
-use Rattle.reached_domains.proofs.CallLaws.{AsksAt, IsTold, MayBeTold, asks_on}
+use Rattle.reached_domains.proofs.CallLaws.{AsksAt, IsTold, MayBeTold, SendsOn, asks_on}
 
 -- ---- what is so of a kernel
 
@@ -57,9 +61,10 @@ pub record FitsClient (c : Description) (machine : Machine) (kernel : ℕ) (s : 
   pub none : line.serves ≡ []
   pub asks : RowsAsk (AsksAt c machine) s.files.pending
 
--- a server serves its own domains, and keeps no request for the server of a prefix
+-- a server serves its own domains, in which others hang at roots of domains alone, and keeps no request for the server of a prefix
 pub record FitsServer (c : Description) (machine : Machine) (kernel : ℕ) (s : Server) : Type 0 where
   pub roots : (path : Parts) → is_root path s ≡ true → serves c kernel path ≡ true
+  pub links : LinksIn (begins_domain (roots_of c.kernels)) s.domains
   pub asking : AllKept (KeptAt machine) s.asking
   pub waiting : AllKept (KeptAt machine) s.waiting
 
@@ -83,7 +88,7 @@ fits_on c old new kernel (kernels.Client client) keeps h = record {
   none = h.none;
   asks = rows_weaken (AsksAt c old) (AsksAt c new) (λ tx prefix k. asks_on c old new tx prefix keeps k) client.files.pending h.asks;
 }
-fits_on c old new kernel (kernels.Server server) keeps h = record { roots = h.roots; asking = kept_on old new server.asking keeps h.asking; waiting = kept_on old new server.waiting keeps h.waiting }
+fits_on c old new kernel (kernels.Server server) keeps h = record { roots = h.roots; links = h.links; asking = kept_on old new server.asking keeps h.asking; waiting = kept_on old new server.waiting keeps h.waiting }
 
 -- ---- a process's instructions
 
@@ -166,8 +171,12 @@ module _ (c : Description) (machine : Machine) (kernel : ℕ) where
   may_take (inputs.Request tx source body) s h came = may_answer body s tx source h came
   may_take input s h came = tt
 
-  told_so : (answer : TxNo × ReplyBody) → Tells answer.0 answer.1 → MayBeTold c kernel machine answer
-  told_so answer tells on call request keeps e fine owner f = tells.1 call.body request (keeps.same answer.0 call.body tells.0 (ap body_of e)) f
+  told_so : (answer : TxNo × ReplyBody) → SendsOn c answer.1 → Tells answer.0 answer.1 → MayBeTold c kernel machine answer
+  told_so answer led tells = (led, λ on call request keeps e fine owner f. tells.1 call.body request (keeps.same answer.0 call.body tells.0 (ap body_of e)) f)
+
+  all_told : (answers : List (TxNo × ReplyBody)) → AnswersLead (begins_domain (roots_of c.kernels)) answers → AllByRecursion (λ (answer : TxNo × ReplyBody). Tells answer.0 answer.1) answers → AllByRecursion (MayBeTold c kernel machine) answers
+  all_told [] led tells = tt
+  all_told (answer ∷ answers) led tells = (told_so answer led.0 tells.0, all_told answers led.1 tells.1)
 
   -- a client serves nothing, and answers no request for the server of a prefix
   none_served : (paths : List Path) (path : Parts) → paths ≡ [] → begins_domain paths path ≡ true → ⊥
@@ -177,17 +186,23 @@ module _ (c : Description) (machine : Machine) (kernel : ℕ) where
   client_serves_none : (s : ClientProcs) (path : Parts) → FitsClient c machine kernel s → serves c kernel path ≡ true → ⊥
   client_serves_none s path h e = none_served h.line.serves path h.none (subst (λ (o : Option KernelLine). begins_domain (serves_in o) path ≡ true) h.there e)
 
-  client_told : (s : ClientProcs) (answer : TxNo × ReplyBody) → 1 ≤ kernel → FitsClient c machine kernel s → MayBeTold c kernel machine answer
-  client_told s answer low h on call request keeps e fine owner f =
-      let up : kernel ≡ 1 + (kernel - 1) = omega (arith, low) in
-      record {
-        fit = λ path serving. absurd (client_serves_none s path h serving);
-        served = λ prefix g. absurd (serves_none c.kernels 1 (domain_of (roots_of c.kernels) prefix) (kernel - 1) h.line (sym (fine.owned prefix (ap prefix_by f ∙ g)) ∙ (owner ∙ up)) h.there h.none);
-      }
+  none_sent_on : (body : ReplyBody) → is_redirect body ≡ false → SendsOn c body
+  none_sent_on (Redirect path) here = absurd (cc)
+  none_sent_on body here = tt
 
-  clients_told : (s : ClientProcs) (answers : List (TxNo × ReplyBody)) → 1 ≤ kernel → FitsClient c machine kernel s → AllByRecursion (MayBeTold c kernel machine) answers
-  clients_told s [] low h = tt
-  clients_told s (answer ∷ answers) low h = (client_told s answer low h, clients_told s answers low h)
+  client_told : (s : ClientProcs) (answer : TxNo × ReplyBody) → 1 ≤ kernel → FitsClient c machine kernel s → is_redirect answer.1 ≡ false → MayBeTold c kernel machine answer
+  client_told s answer low h here =
+      let up : kernel ≡ 1 + (kernel - 1) = omega (arith, low) in (
+        none_sent_on answer.1 here,
+        λ on call request keeps e fine owner f. record {
+          fit = λ path serving. absurd (client_serves_none s path h serving);
+          served = λ prefix g. absurd (serves_none c.kernels 1 (domain_of (roots_of c.kernels) prefix) (kernel - 1) h.line (sym (fine.owned prefix (ap prefix_by f ∙ g)) ∙ (owner ∙ up)) h.there h.none);
+        },
+      )
+
+  clients_told : (s : ClientProcs) (answers : List (TxNo × ReplyBody)) → 1 ≤ kernel → FitsClient c machine kernel s → SendNoneOn answers → AllByRecursion (MayBeTold c kernel machine) answers
+  clients_told s [] low h here = tt
+  clients_told s (answer ∷ answers) low h here = (client_told s answer low h here.0, clients_told s answers low h here.1)
 
 -- ---- a step of a kernel
 
@@ -209,19 +224,21 @@ kernel_steps c machine kernel (kernels.Client client) input next step low number
     let out : Out = (client_step client input next step).1 in
     record {
       fits = (h.line, h.there, h.none, subst (λ (n : ℕ). RowsAsk (Known (AsksAt c machine) n out.sends) after.files.pending) numbered asked.asks);
-      answers = clients_told c machine kernel client out.answers low h;
+      answers = clients_told c machine kernel client out.answers low h (send_none_on client input next step);
     }
 kernel_steps c machine kernel (kernels.Server server) input next step low numbered came h =
+    let led = servers_lead (begins_domain (roots_of c.kernels)) server input next h.links in
     let so = step_answers (Tells c machine kernel) (KeptAt machine) (kept_free c machine kernel) server input next h.asking h.waiting (may_take c machine kernel input server h came) in
     let after : Server = (server_step server input next).0 in
     let out : Out = (server_step server input next).1 in
     record {
       fits = record {
         roots = λ path e. h.roots path (sym (roots_same after.domains server.domains path so.hang) ∙ e);
+        links = led.0;
         asking = so.ask;
         waiting = so.wait;
       };
-      answers = each_weaken (λ (answer : TxNo × ReplyBody). Tells c machine kernel answer.0 answer.1) (MayBeTold c kernel machine) out.answers (λ answer tells. told_so c machine kernel answer tells) so.are;
+      answers = all_told c machine kernel out.answers led.1 so.are;
     }
 
 -- and where the requests went out that it began, it is so at the wire that it then is

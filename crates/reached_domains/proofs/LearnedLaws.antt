@@ -1,5 +1,5 @@
 -- What the trace of a reached cluster tells of what was learned.
-use Rattle.std.proofs.Common.{◌≡◌, ℕ, ◌≤◌, ◌==◌, Bool, true, false, cond, List, [], ◌∷◌, ◌++◌, Option, Some, None, refl, sym, ap, ◌∙◌, subst}
+use Rattle.std.proofs.Common.{◌≡◌, ℕ, ◌≤◌, ◌==◌, Bool, true, false, cond, List, [], ◌∷◌, Option, Some, None, refl, subst}
 use Rattle.std.proofs.lemmas.Bool.{eq-eqb}
 use Rattle.std.specs.List.{AllByRecursion}
 use Rattle.sprite_ids.proofs.ListLaws.{each_of_append}
@@ -13,7 +13,7 @@ use Rattle.cluster_kernels.specs.States.{client_at}
 use Rattle.prefix_laws.specs.Prefixes.{domain_in, learned_in}
 use Rattle.reached_laws.specs.Records.{IsByKernel}
 use Rattle.reached_laws.proofs.RecordLaws.{records_by_kernels}
-use Rattle.reached_prefixes.specs.Known.{known_at, known_in, learned_by, told_by}
+use Rattle.reached_prefixes.specs.Known.{known_in, learned_by, told_by}
 use Rattle.reached_prefixes.proofs.KnownLaws.{kernels_know}
 use Rattle.sprite_cluster.specs.Reached.{At, Reached}
 use Rattle.reached_domains.specs.Domains.{LearnedAreDomains, LearnsDomains, is_domain, learns_domain}

@@ -5,7 +5,7 @@ use Rattle.sprite_ids.specs.declared.TxNo.{TxNo}
 use Rattle.packet_bodies.specs.declared.Body.{Body}
 use Rattle.packet_bodies.specs.declared.Body.TheVariants as bodies
 use Rattle.packet_bodies.specs.declared.ReplyBody.{ReplyBody}
-use Rattle.packet_bodies.specs.declared.ReplyBody.TheVariants.{Here}
+use Rattle.packet_bodies.specs.declared.ReplyBody.TheVariants.{Here, Redirect}
 use Rattle.packet_bodies.specs.declared.Request.{Request}
 use Rattle.packet_bodies.specs.declared.Request.TheVariants as requests
 use Rattle.wire_format.specs.declared.Packet.{Packet}
@@ -16,7 +16,7 @@ use Rattle.unix_calls.specs.declared.Description.{Description}
 use Rattle.unix_calls.specs.declared.Event.{Event}
 use Rattle.unix_calls.specs.declared.Event.TheVariants as events
 use Rattle.unix_calls.specs.declared.Rec.{Rec}
-use Rattle.unix_calls.specs.Domains.{begins_domain}
+use Rattle.unix_calls.specs.Domains.{begins_domain, roots_of}
 use Rattle.prefix_table.specs.declared.prefixes.Domain.{Domain}
 use Rattle.server_kernel.specs.declared.Server.{Server}
 use Rattle.server_kernel.specs.Boot.{serves_of}
@@ -24,7 +24,6 @@ use Rattle.server_kernel.specs.Directory.{is_root}
 use Rattle.client_homes.specs.declared.ClientProcs.{ClientProcs}
 use Rattle.cluster_wire.specs.Goings.{server_in}
 use Rattle.cluster_kernels.specs.declared.KernelState.TheVariants as kernels
-use Rattle.cluster_kernels.specs.declared.State.{State}
 use Rattle.cluster_kernels.specs.States.{client_at, kernel_at}
 use Rattle.server_answers.specs.Sorts.{fits}
 use Rattle.broadcast_laws.specs.Broadcasts.{Parts, WaitsFor}
@@ -88,6 +87,12 @@ ServersAnswersFit {L} faults asked =
     (c : Description) (begun : L) (now : At L) (tx : TxNo) (call : Call) (request : Request) (reply : List ℕ) (packet : Packet) (body : ReplyBody) (path : Parts) → Reached faults asked c begun now
     → call_of now.wire.machine tx ≡ Some call → serves c call.owner path ≡ true → asked_request call.body ≡ Some request → call.reply ≡ Some reply → reading reply ≡ Some packet → packet.body ≡ bodies.Reply body
     → fits request body ≡ true
+
+-- each answer that sends a name call on sends it to the root of a domain of the description
+abbrev pub RedirectsAreDomains : {L : Type 0} → (L → ℕ → ℕ → ℕ) → (L → ℕ → ℕ → ℕ) → Type 0
+RedirectsAreDomains {L} faults asked =
+    (c : Description) (begun : L) (now : At L) (tx : TxNo) (call : Call) (reply : List ℕ) (packet : Packet) (path : Parts) → Reached faults asked c begun now
+    → call_of now.wire.machine tx ≡ Some call → call.reply ≡ Some reply → reading reply ≡ Some packet → packet.body ≡ bodies.Reply (Redirect path) → begins_domain (roots_of c.kernels) path ≡ true
 
 -- each answer comes from the kernel that was to give it
 abbrev pub AnswersAreOwners : {L : Type 0} → (L → ℕ → ℕ → ℕ) → (L → ℕ → ℕ → ℕ) → Type 0

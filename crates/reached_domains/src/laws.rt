@@ -4,6 +4,7 @@ ghost use Rattle.reached_domains.specs.Domains.{
   BroadcastsAskSo,
   LearnedAreDomains,
   OneServerAnswers,
+  RedirectsAreDomains,
   RowsAreDomains,
   ServersAnswersFit,
   ServersServeTheirs,
@@ -38,6 +39,12 @@ pub fn answers_tell_domains<L: Link>()
 /// Ousterhout 1988; Welch and Ousterhout 1986).
 pub fn servers_answers_fit<L: Link>()
     ensures { ServersAnswersFit L.faults L.asked }
+{}
+
+/// A law: where a remote call of a reached cluster is answered with another path, which leads a name call on into another domain, that
+/// path is the root of a domain of the description (Welch and Ousterhout 1986).
+pub fn redirects_are_domains<L: Link>()
+    ensures { RedirectsAreDomains L.faults L.asked }
 {}
 
 /// A law: where an operation of a client of a reached cluster waits in a broadcast for the server of a prefix, and that remote call

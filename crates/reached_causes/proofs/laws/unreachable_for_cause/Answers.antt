@@ -1,5 +1,5 @@
 use Rattle.reached_causes.proofs.CauseLaws.{unreachable_so}
-use Rattle.reached_causes.proofs.laws.unreachable_for_cause_where_redirects_lead_to_domains.Goals as goal
+use Rattle.reached_causes.proofs.laws.unreachable_for_cause.Goals as goal
 
 pub returns : goal.returns
 returns g c = unreachable_so g.L.Link.faults g.L.Link.asked
