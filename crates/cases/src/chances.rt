@@ -8,6 +8,7 @@ ghost use Rattle.sprite_cluster.specs.Logs.{Holds};
 
 use crate::chance::run_by_chance;
 use crate::files::case_file;
+use cause_judge::are_for_cause;
 use cluster_file::read_description;
 use kernel_threads::Stepped;
 use link_plan::{Link, PlanLink};
@@ -165,6 +166,9 @@ fn judged<L: Link + Drop>(alloc: Global, cluster: Cluster<L>) -> Result<Way, NoM
     let finish = Stepped::finish(&mut cluster, alloc);
     let (closed, _link) = cluster.close(finish);
     if !prefixes_are_broadcast_until_learned(alloc, &closed.description, closed.trace.records())? {
+        return Ok(Way::Broken);
+    }
+    if !are_for_cause(&closed.description, closed.trace.records()) {
         return Ok(Way::Broken);
     }
     match judge_run(alloc, &closed.description, &closed.trace, finish, MOST)? {

@@ -4,6 +4,7 @@
 
 use crate::files::case_file;
 use call_journal::Trace;
+use cause_judge::are_for_cause;
 use cluster_file::read_description;
 use history_text::read_history;
 use link_plan::Fate;
@@ -260,6 +261,9 @@ fn judged_trace(
     if !prefixes_are_broadcast_until_learned(alloc, &description, trace.records())? {
         return Ok(String::from_str(alloc, "broadcasts\n")?);
     }
+    if !are_for_cause(&description, trace.records()) {
+        return Ok(String::from_str(alloc, "unreachable without cause\n")?);
+    }
     let run = judge_run(alloc, &description, trace, finish, MOST_INSTRUCTIONS)?;
     text_of(alloc, &run)
 }
@@ -281,7 +285,6 @@ fn refuted_text(alloc: Global, refutation: Refutation) -> Result<String, NoMemor
     match refutation {
         Refutation::Legal(place) => Ok(format!(in alloc; "not legal {place}\n")?),
         Refutation::Once => Ok(String::from_str(alloc, "not once\n")?),
-        Refutation::Unreachable => Ok(String::from_str(alloc, "unreachable without cause\n")?),
         Refutation::End => Ok(String::from_str(alloc, "ended otherwise\n")?),
         Refutation::Stall => Ok(String::from_str(alloc, "not stalled\n")?),
         Refutation::Rule(rule) => {

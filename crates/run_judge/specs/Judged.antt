@@ -49,14 +49,7 @@ pub record IsNotOnce (c : Description) (most : ℕ) (trace : List Rec) : Type 0 
   pub is_legal : IsLegal c most trace state
   pub not_once : Once trace → ⊥
 
--- each call is once, and a server is called unreachable without a cause
-pub record IsWithoutCause (c : Description) (most : ℕ) (trace : List Rec) : Type 0 where
-  pub state : Unix
-  pub is_legal : IsLegal c most trace state
-  pub once : Once trace
-  pub not_for_cause : unreachable_for_cause c trace ≡ false
-
--- each call is once, a server is called unreachable only for a cause, and the run stands otherwise than it says
+-- each call is once, and the run stands otherwise than it says
 pub record StandsSo (c : Description) (most : ℕ) (trace : List Rec) (finish : Finish) (at : Stop) (Besides : Unix → Type 0) : Type 0 where
   pub state : Unix
   pub is_legal : IsLegal c most trace state
@@ -77,7 +70,6 @@ Breaks c trace rule = first_broken c trace ≡ Some rule
 abbrev pub IsRefuted : Description → ℕ → List Rec → Finish → Refutation → Type 0
 IsRefuted c most trace finish (refute.Legal n) = verdict_of c most (journal_of trace) ≡ verdict.NotLegal n
 IsRefuted c most trace finish refute.Once = IsNotOnce c most trace
-IsRefuted c most trace finish refute.Unreachable = IsWithoutCause c most trace
 IsRefuted c most trace finish refute.End = StandsSo c most trace finish stop.Wrong (λ u. Unit {0})
 IsRefuted c most trace finish refute.Stall = StandsSo c most trace finish stop.Free (HasFree c)
 IsRefuted c most trace finish (refute.Rule rule) = StandsSo c most trace finish stop.Good (λ u. Breaks c trace rule)

@@ -21,8 +21,6 @@ pub enum Refutation {
     Legal(u32),
     /// A call of it isn't issued, entered and returned once, in this order.
     Once,
-    /// An entry calls a server unreachable without eight lost packets of its call.
-    Unreachable,
     /// Each process is to have ended, and one lives; or one is to live, and none does; or the run hasn't come to an end.
     End,
     /// It is to have stalled, and a process that lives isn't blocked.

@@ -13,7 +13,6 @@ use crate::judged::{JudgedRun, Refutation};
 use crate::replaying::replay;
 use call_journal::Trace;
 use calls_once::calls_are_once;
-use cause_judge::are_for_cause;
 use one_kernel::Replayed;
 use report_print::{output, tally_of};
 use sprite_ids::{Bytes, Finish, NoMemory};
@@ -25,13 +24,13 @@ use unix_world::World;
 /// Judges a run of a described cluster that came to that end by its trace (this project).
 ///
 /// It is `Judged` where all of these hold, and else `Refuted` by the first that doesn't: one Unix kernel gives the journal; each call is
-/// issued, entered and returned once, in this order; for each entry that calls a server unreachable, a send for its call was given up
-/// before at the same kernel, after eight lost packets; by the state of the journal each process has ended where the run ended so, and one
-/// lives where the budget was spent or it stalled; where it stalled each process that lives is blocked; and the trace's records are written as
-/// they should be, it keeps the nine rules and is worth its units; that its prefixes are broadcast until they are learned is known of each run
-/// and not asked. The processes may do at most
-/// `most` instructions in all up to the calls of the entries, and as many from there up to their next calls where the run stalled; past
-/// that the answer is `Steps`. The one error is want of memory, which is also the answer where the entries would be more than 2^32.
+/// issued, entered and returned once, in this order; by the state of the journal each process has ended where the run ended so, and one
+/// lives where the budget was spent or it stalled; where it stalled each process that lives is blocked; and the trace's records are written
+/// as they should be, it keeps the nine rules and is worth its units. That its prefixes are broadcast until they are learned, and that
+/// servers are called unreachable only after eight lost packets of an asking for that call, is known of each run and not asked. The
+/// processes may do at most `most` instructions in all up to the calls of the entries, and as many from there up to their next calls where
+/// the run stalled; past that the answer is `Steps`. The one error is want of memory, which is also the answer where the entries would be
+/// more than 2^32.
 pub fn judge_run(
     alloc: Global,
     c: &Description,
@@ -42,6 +41,7 @@ pub fn judge_run(
     requires lawful { Lawful c.now }
     requires bound { most ≤ 40000000000 }
     requires broadcasts { prefixes_are_broadcast_until_learned c.now trace.now ≡ true }
+    requires for_cause { unreachable_for_cause c.now trace.now ≡ true }
     ensures { IfOk result (JudgesTo c.now most trace.now finish) }
 {
     match replay(alloc, c, trace.records(), most)? {
@@ -67,18 +67,16 @@ fn judge_legal(
     requires bound { most ≤ 40000000000 }
     requires broadcasts { prefixes_are_broadcast_until_learned c.now trace.now ≡ true }
     requires legal { IsLegal c.now most trace.now (unix_of c.now world.now ps.now) }
+    requires for_cause { unreachable_for_cause c.now trace.now ≡ true }
     ensures { IfOk result (JudgesTo c.now most trace.now finish) }
 {
     if !calls_are_once(alloc, trace.records())? {
         return Ok(JudgedRun::Refuted(Refutation::Once));
     }
-    if !are_for_cause(c, trace.records()) {
-        return Ok(JudgedRun::Refuted(Refutation::Unreachable));
-    }
     judge_end(alloc, c, trace, finish, most, world, ps)
 }
 
-// A run, besides, whose calls are once, and which calls a server unreachable only for a cause.
+// A run, besides, whose calls are once.
 fn judge_end(
     alloc: Global,
     c: &Description,

@@ -21,7 +21,7 @@ use Rattle.sprite_top.specs.declared.top.Answer.{Answer}
 use Rattle.sprite_cluster.specs.Reached.{At}
 use Rattle.reached_prefixes.proofs.KnownLaws.{asked_until, learned_once}
 use Rattle.reached_domains.proofs.LearnedLaws.{learned_domains}
-use Rattle.sprite_top.specs.Top.{AllWereReached, IsRun, IsRunOver, KeepsPrefixesOf, RoseForCause, RunsOver, TellsFaultsOf, TellsWireOf}
+use Rattle.sprite_top.specs.Top.{AllWereReached, IsForCauseOf, IsRun, IsRunOver, KeepsPrefixesOf, RoseForCause, RunsOver, TellsFaultsOf, TellsWireOf}
 
 -- the same pair, whichever is told first
 eq_swap : (m n : ℕ) → (m == n) ≡ true → (n == m) ≡ true
@@ -68,9 +68,9 @@ fewer x y trace = sum_by-le-sum_by (λ (r : Rec). cond (has_event (is_loss x y) 
 first_faults : (x y : ℕ) (first more : List Rec) → faults_between x y first ≤ faults_between x y (first ++ more)
 first_faults x y first more = (let sum = sum_by-append (λ (r : Rec). cond (is_fault_between x y r.event) 1 0) first more in omega arith)
 
-rose_for_cause : {L : Type 0} (faults : L → ℕ → ℕ → ℕ) (before after : L) (closed : Option Closed) → TellsFaultsOf faults before after closed → RoseForCause faults before after closed
-rose_for_cause faults before after None tells = tt
-rose_for_cause {L} faults before after (Some run) tells = λ for_cause first rest kernel entry is calls.
+rose_for_cause : {L : Type 0} (faults : L → ℕ → ℕ → ℕ) (before after : L) (closed : Option Closed) → TellsFaultsOf faults before after closed → IsForCauseOf closed → RoseForCause faults before after closed
+rose_for_cause faults before after None tells for_cause = tt
+rose_for_cause {L} faults before after (Some run) tells for_cause = λ first rest kernel entry is calls.
     (let found = follows_losses run.description run.trace for_cause first rest kernel entry is calls in
     let eight = found.1 in
     let few = fewer kernel found.0 first in
@@ -103,7 +103,13 @@ prefixes_over {L} faults asked before after (Some run) over =
 pub answer_rose : {L : Type 0} (faults asked : L → ℕ → ℕ → ℕ) (before after : L) (r : Result Answer NoMemory) (a : Answer) → r ≡ Ok a → IfOk r (λ (b : Answer). RunsOver faults asked before after b.closed) → RoseForCause faults before after a.closed
 answer_rose faults asked before after r a is over =
     (let runs : RunsOver faults asked before after a.closed = subst (λ (x : Result Answer NoMemory). IfOk x (λ (b : Answer). RunsOver faults asked before after b.closed)) is over in
-    rose_for_cause faults before after a.closed runs.counted)
+    rose_for_cause faults before after a.closed runs.counted runs.caused)
+
+-- servers are called unreachable only for cause
+pub answer_for_cause : {L : Type 0} (faults asked : L → ℕ → ℕ → ℕ) (before after : L) (r : Result Answer NoMemory) (a : Answer) → r ≡ Ok a → IfOk r (λ (b : Answer). RunsOver faults asked before after b.closed) → IsForCauseOf a.closed
+answer_for_cause faults asked before after r a is over =
+    (let runs : RunsOver faults asked before after a.closed = subst (λ (x : Result Answer NoMemory). IfOk x (λ (b : Answer). RunsOver faults asked before after b.closed)) is over in
+    runs.caused)
 
 -- and prefixes are asked for and learned as they should be
 pub answer_prefixes : {L : Type 0} (faults asked : L → ℕ → ℕ → ℕ) (before after : L) (r : Result Answer NoMemory) (a : Answer) → r ≡ Ok a → IfOk r (λ (b : Answer). RunsOver faults asked before after b.closed) → KeepsPrefixesOf a.closed
@@ -132,13 +138,13 @@ entry_place test [] some = absurd (cc)
 entry_place test (rec ∷ recs) some = stands_at test rec.kernel rec.event recs (λ more. entry_place test recs more) some
 
 -- over a link whose counts don't rise, no reply calls a server unreachable
-reached_so : {L : Type 0} (faults : L → ℕ → ℕ → ℕ) (before after : L) (closed : Option Closed) → TellsFaultsOf faults before after closed → AllWereReached faults before after closed
-reached_so faults before after None tells = tt
-reached_so {L} faults before after (Some run) tells = λ for_cause still. by_test (list_any is_unreachable_entry (journal_of run.trace)) refl for_cause still
+reached_so : {L : Type 0} (faults : L → ℕ → ℕ → ℕ) (before after : L) (closed : Option Closed) → TellsFaultsOf faults before after closed → IsForCauseOf closed → AllWereReached faults before after closed
+reached_so faults before after None tells for_cause = tt
+reached_so {L} faults before after (Some run) tells for_cause = λ still. by_test (list_any is_unreachable_entry (journal_of run.trace)) refl still
   where
-    by_test : (some : Bool) → list_any is_unreachable_entry (journal_of run.trace) ≡ some → unreachable_for_cause run.description run.trace ≡ true → ((a b : ℕ) → faults after a b ≡ faults before a b) → some ≡ false
-    by_test false is for_cause still = refl
-    by_test true is for_cause still =
+    by_test : (some : Bool) → list_any is_unreachable_entry (journal_of run.trace) ≡ some → ((a b : ℕ) → faults after a b ≡ faults before a b) → some ≡ false
+    by_test false is still = refl
+    by_test true is still =
         (let found = entry_place is_unreachable_entry run.trace is in
         let rose = rose_for_cause faults before after (Some run) tells for_cause found.0 found.1 found.2 found.3 found.4 found.5 in
         let more = rose.1 in
@@ -148,4 +154,4 @@ reached_so {L} faults before after (Some run) tells = λ for_cause still. by_tes
 pub answer_reached : {L : Type 0} (faults asked : L → ℕ → ℕ → ℕ) (before after : L) (r : Result Answer NoMemory) (a : Answer) → r ≡ Ok a → IfOk r (λ (b : Answer). RunsOver faults asked before after b.closed) → AllWereReached faults before after a.closed
 answer_reached faults asked before after r a is over =
     (let runs : RunsOver faults asked before after a.closed = subst (λ (x : Result Answer NoMemory). IfOk x (λ (b : Answer). RunsOver faults asked before after b.closed)) is over in
-    reached_so faults before after a.closed runs.counted)
+    reached_so faults before after a.closed runs.counted runs.caused)

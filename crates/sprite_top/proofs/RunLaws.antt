@@ -7,6 +7,9 @@ use Rattle.sprite_ids.specs.declared.running.Finish.{Finish}
 use Rattle.sprite_ids.specs.declared.running.Finish.TheVariants as finish
 use Rattle.call_journal.specs.PrefixBroadcasts.{prefixes_are_broadcast_until_learned}
 use Rattle.call_journal.specs.Units.{units_of}
+use Rattle.call_journal.specs.Unreachable.{unreachable_for_cause}
+use Rattle.unix_calls.specs.Lawful.{Lawful}
+use Rattle.reached_causes.proofs.CauseLaws.{unreachable_so}
 use Rattle.kernel_rpc.specs.Machine.{Machine}
 use Rattle.unix_calls.specs.declared.description.Description.{Description}
 use Rattle.unix_calls.specs.declared.Rec.{Rec}
@@ -74,14 +77,18 @@ close_run {L} faults asked old now after end run held over same begun stays stan
     subst (λ (r : Closed). IsRun faults asked old.begun.value after r) (sym is)
     (run_so faults asked old.begun.value after now end reached (λ running. ended (sym stands ∙ running)) (open_so now.closed now.description now.trace now.wire.machine now.state end unclosed stands) linked))
 
--- and its trace tells of no more faults than the link counted since before the boot, and what the wire did
-pub close_over : {L : Type 0} (faults asked : L → ℕ → ℕ → ℕ) (old now : Cluster L) (after : L) (end : Finish) (run : Closed) → Holds faults asked old.description old.closed old.begun.value old.wire old.state old.trace → stands_so old.closed old.description old.trace old.wire.machine old.state ≢ finish.Running → now.description ≡ old.description → now.begun ≡ old.begun → (now.closed ≡ false → now ≡ old) → end ≡ stands_so now.closed now.description now.trace now.wire.machine now.state → is_out_of_memory end ≡ false → after ≡ now.wire.link → run ≡ record { description = now.description; trace = now.trace; finish = end } → (now.closed ≡ false → TellsFaults faults now.begun.value after run.trace) → (now.closed ≡ false → TellsWire faults asked now.begun.value after run.trace) → RunsOver faults asked old.begun.value after (Some run)
-close_over {L} faults asked old now after end run held over same begun stays stands enough linked is told wired =
+-- and its trace tells of no more faults than the link counted since before the boot, what the wire did, and of servers called unreachable
+-- only for cause
+pub close_over : {L : Type 0} (faults asked : L → ℕ → ℕ → ℕ) (old now : Cluster L) (after : L) (end : Finish) (run : Closed) → Lawful old.description → Holds faults asked old.description old.closed old.begun.value old.wire old.state old.trace → stands_so old.closed old.description old.trace old.wire.machine old.state ≢ finish.Running → now.description ≡ old.description → now.begun ≡ old.begun → (now.closed ≡ false → now ≡ old) → end ≡ stands_so now.closed now.description now.trace now.wire.machine now.state → is_out_of_memory end ≡ false → after ≡ now.wire.link → run ≡ record { description = now.description; trace = now.trace; finish = end } → (now.closed ≡ false → TellsFaults faults now.begun.value after run.trace) → (now.closed ≡ false → TellsWire faults asked now.begun.value after run.trace) → RunsOver faults asked old.begun.value after (Some run)
+close_over {L} faults asked old now after end run lawful held over same begun stays stands enough linked is told wired =
     (let unclosed = open_still now.closed now.description now.trace now.wire.machine now.state end stands enough in
+    let made : IsRun faults asked old.begun.value after run = close_run faults asked old now after end run held over same begun stays stands enough linked is in
+    let described : run.description ≡ old.description = ap (λ (r : Closed). r.description) is ∙ same in
     record {
-      run = close_run faults asked old now after end run held over same begun stays stands enough linked is;
+      run = made;
       counted = subst (λ (l : Snapshot L). TellsFaults faults l.value after run.trace) begun (told unclosed);
       wire = subst (λ (l : Snapshot L). TellsWire faults asked l.value after run.trace) begun (wired unclosed);
+      caused = unreachable_so faults asked run.description old.begun.value (record { wire = made.wire; state = made.state; trace = run.trace }) (subst Lawful (sym described) lawful) made.reached;
     })
 
 -- a run keeps what never changes, and what is always true
@@ -98,3 +105,9 @@ broadcasts_of faults asked before after r run is over =
     (let runs : RunsOver faults asked before after (Some run) = subst (λ (x : Result Closed NoMemory). IfOk x (λ (y : Closed). RunsOver faults asked before after (Some y))) is over in
     let made : IsRun faults asked before after run = runs.run in
     asked_until faults asked run.description before (record { wire = made.wire; state = made.state; trace = run.trace }) made.reached)
+
+-- and it calls servers unreachable only for cause
+pub causes_of : {L : Type 0} (faults asked : L → ℕ → ℕ → ℕ) (before after : L) (r : Result Closed NoMemory) (run : Closed) → r ≡ Ok run → IfOk r (λ (x : Closed). RunsOver faults asked before after (Some x)) → unreachable_for_cause run.description run.trace ≡ true
+causes_of faults asked before after r run is over =
+    (let runs : RunsOver faults asked before after (Some run) = subst (λ (x : Result Closed NoMemory). IfOk x (λ (y : Closed). RunsOver faults asked before after (Some y))) is over in
+    runs.caused)

@@ -295,5 +295,5 @@ from_fault told words left left_after faults faults_after before now (Err e) are
 
 -- nothing was run, so nothing is told of it
 pub none_over : {L : Type 0} (faults asked : L → ℕ → ℕ → ℕ) (before after : L) (r : Result Answer NoMemory) → IfOk r (λ a. a.closed ≡ None) → IfOk r (λ a. RunsOver faults asked before after a.closed)
-none_over faults asked before after (Ok a) none = subst (RunsOver faults asked before after) (sym none) (record { run = tt; counted = tt; wire = tt })
+none_over faults asked before after (Ok a) none = subst (RunsOver faults asked before after) (sym none) (record { run = tt; counted = tt; wire = tt; caused = tt })
 none_over faults asked before after (Err e) none = none

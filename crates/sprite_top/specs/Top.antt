@@ -127,7 +127,6 @@ abbrev pub refuted_line : JudgedRun → List ℕ
 refuted_line (judged.Judged output tally) = []
 refuted_line (judged.Refuted (refuted.Legal number)) = numbered_line (codes "refuted legal ") number
 refuted_line (judged.Refuted refuted.Once) = codes "refuted once\n"
-refuted_line (judged.Refuted refuted.Unreachable) = codes "refuted unreachable\n"
 refuted_line (judged.Refuted refuted.End) = codes "refuted end\n"
 refuted_line (judged.Refuted refuted.Stall) = codes "refuted stall\n"
 refuted_line (judged.Refuted (refuted.Rule rule)) = codes "refuted " ++ name_of rule ++ codes "\n"
@@ -159,18 +158,18 @@ abbrev pub TellsFaultsOf : {L : Type 0} → (L → ℕ → ℕ → ℕ) → L �
 TellsFaultsOf faults before after None = Unit {0}
 TellsFaultsOf faults before after (Some run) = TellsFaults faults before after run.trace
 
--- of a run that was made and that calls servers unreachable only for cause: before each entry that does so, the link's count of faults
--- between the entry's kernel and another rose in this call, by eight at least
+-- of a run that was made: before each entry that calls a server unreachable, the link's count of faults between the entry's kernel and
+-- another rose in this call, by eight at least
 abbrev pub RoseForCause : {L : Type 0} → (L → ℕ → ℕ → ℕ) → L → L → Option Closed → Type 0
 RoseForCause faults before after None = Unit {0}
 RoseForCause faults before after (Some run) =
-    unreachable_for_cause run.description run.trace ≡ true → (first rest : List Rec) (kernel : ℕ) (entry : Entry) → run.trace ≡ first ++ record { kernel = kernel; event = Enter entry } ∷ rest → is_unreachable_entry entry ≡ true → (to : ℕ) × (faults before kernel to + 8 ≤ faults after kernel to)
+    (first rest : List Rec) (kernel : ℕ) (entry : Entry) → run.trace ≡ first ++ record { kernel = kernel; event = Enter entry } ∷ rest → is_unreachable_entry entry ≡ true → (to : ℕ) × (faults before kernel to + 8 ≤ faults after kernel to)
 
--- of such a run: over a link whose counts of faults don't rise, no reply of its journal calls a server unreachable
+-- of a run that was made: over a link whose counts of faults don't rise, no reply of its journal calls a server unreachable
 abbrev pub AllWereReached : {L : Type 0} → (L → ℕ → ℕ → ℕ) → L → L → Option Closed → Type 0
 AllWereReached faults before after None = Unit {0}
 AllWereReached faults before after (Some run) =
-    unreachable_for_cause run.description run.trace ≡ true → ((a b : ℕ) → faults after a b ≡ faults before a b) → list_any is_unreachable_entry (journal_of run.trace) ≡ false
+    ((a b : ℕ) → faults after a b ≡ faults before a b) → list_any is_unreachable_entry (journal_of run.trace) ≡ false
 
 -- of a run that was made: what its trace tells of the packets that went over the link
 abbrev pub TellsWireOf : {L : Type 0} → (L → ℕ → ℕ → ℕ) → (L → ℕ → ℕ → ℕ) → L → L → Option Closed → Type 0
@@ -206,12 +205,18 @@ abbrev pub IsRunOver : {L : Type 0} → (L → ℕ → ℕ → ℕ) → (L → �
 IsRunOver faults asked before after None = Unit {0}
 IsRunOver faults asked before after (Some run) = IsRun faults asked before after run
 
+-- of a run that was made: it calls a server unreachable only after eight lost packets between the two kernels, of an asking for that call
+abbrev pub IsForCauseOf : Option Closed → Type 0
+IsForCauseOf None = Unit {0}
+IsForCauseOf (Some run) = unreachable_for_cause run.description run.trace ≡ true
+
 -- of a run that was made, over a link that goes from there to here: it is one of its cluster, its trace tells of no more faults than
--- the link counted, and what it tells of packets is what went over the link
+-- the link counted, what it tells of packets is what went over the link, and it calls servers unreachable only for cause
 pub record RunsOver {L : Type 0} (faults asked : L → ℕ → ℕ → ℕ) (before after : L) (closed : Option Closed) : Type 0 where
   pub run : IsRunOver faults asked before after closed
   pub counted : TellsFaultsOf faults before after closed
   pub wire : TellsWireOf faults asked before after closed
+  pub caused : IsForCauseOf closed
 
 -- a cluster after a run of it: it is what it was, over the same link, and the run is over
 pub record IsSameRun {L : Type 0} (faults asked : L → ℕ → ℕ → ℕ) (old new : Cluster L) : Type 0 where

@@ -5,6 +5,7 @@ ghost use Rattle.unix_calls.specs.Output.{last_line};
 ghost use Rattle.unix_calls.specs.Lawful.{Lawful};
 ghost use Rattle.call_journal.specs.Journal.{journal_of};
 ghost use Rattle.call_journal.specs.PrefixBroadcasts.{prefixes_are_broadcast_until_learned};
+ghost use Rattle.call_journal.specs.Unreachable.{unreachable_for_cause};
 ghost use Rattle.run_judge.specs.Judged.{IsJudged, JudgesTo};
 ghost use Rattle.sprite_cluster.specs.Finishing.{IsSpent, stands_so};
 ghost use Rattle.sprite_cluster.specs.Logs.{Holds};
@@ -78,6 +79,7 @@ fn run_booted<R: Threads + Wait + Sync, L: Link + Send, W: Watch + Sync>(
     turns: Turns,
     watch: &W,
 ) -> (Result<Closed, NoMemory>, L)
+    requires lawful { Lawful cluster.description }
     requires holds { Holds L.faults L.asked cluster.description cluster.closed cluster.begun.value cluster.wire cluster.state cluster.trace }
     requires none_out { cluster.state.out ≡ [] }
     ensures same { IfOk result.0 (λ run. run.description ≡ cluster.description) }
@@ -116,6 +118,7 @@ fn run_by<R: Threads + Wait + Sync, L: Link + Send, W: Watch + Sync>(
 
 // The run of a cluster that came to its end. The one error is want of memory.
 fn close<L: Link>(cluster: Cluster<L>) -> (Result<Closed, NoMemory>, L)
+    requires lawful { Lawful cluster.description }
     requires holds { Holds L.faults L.asked cluster.description cluster.closed cluster.begun.value cluster.wire cluster.state cluster.trace }
     requires over { stands_so cluster.closed cluster.description cluster.trace cluster.wire.machine cluster.state ≢ Finish.Running }
     ensures same { IfOk result.0 (λ run. run.description ≡ cluster.description) }
@@ -145,6 +148,7 @@ fn judge_closed(alloc: Global, closed: Closed, print: Printing) -> Result<Answer
     requires lawful { Lawful closed.description }
     requires spent { IsSpent closed.description closed.trace closed.finish }
     requires broadcasts { prefixes_are_broadcast_until_learned closed.description closed.trace ≡ true }
+    requires for_cause { unreachable_for_cause closed.description closed.trace ≡ true }
     ensures causes { IfOk result (λ a. ClusterCauses print a.status closed.description a.closed a.due) }
     ensures kept { IfOk result (λ a. a.closed ≡ Some closed) }
 {

@@ -78,7 +78,6 @@ fn refutation_line(alloc: Global, refutation: Refutation) -> Result<Vec<u8>, NoM
     match refutation {
         Refutation::Legal(number) => numbered_line(alloc, b"refuted legal ", u64::from(number)),
         Refutation::Once => Ok(Vec::from_slice(alloc, b"refuted once\n")?),
-        Refutation::Unreachable => Ok(Vec::from_slice(alloc, b"refuted unreachable\n")?),
         Refutation::End => Ok(Vec::from_slice(alloc, b"refuted end\n")?),
         Refutation::Stall => Ok(Vec::from_slice(alloc, b"refuted stall\n")?),
         Refutation::Rule(rule) => named_line(alloc, b"refuted ", rule.name()),

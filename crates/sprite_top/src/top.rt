@@ -7,7 +7,7 @@ ghost use Rattle.lend_text.specs.Bodies.{answer_text};
 ghost use Rattle.restart_text.specs.FileTexts.{file_text};
 ghost use Rattle.report_print.specs.Refused.{refusal_line};
 ghost use Rattle.sprite_top.specs.Judged.{AuditCauses, TextCauses, audit_status, audited_status, judgement_status, numbered_line, verdict_status};
-ghost use Rattle.sprite_top.specs.Top.{AllWereReached, Completes, IsRunOver, KeepsPrefixesOf, RunsOver, TellsFaultsOf, TellsWireOf, AsksFor, LoadCauses, LinesCauses, PacketsCauses, told_answer, RoseForCause, IsEnded, IsChecked, IsAnswered, IsRefuted, IsRefused, IsUsage, IsReadFault, Causes, FileCauses, Wrote, Broke, status_number};
+ghost use Rattle.sprite_top.specs.Top.{AllWereReached, Completes, IsForCauseOf, IsRunOver, KeepsPrefixesOf, RunsOver, TellsFaultsOf, TellsWireOf, AsksFor, LoadCauses, LinesCauses, PacketsCauses, told_answer, RoseForCause, IsEnded, IsChecked, IsAnswered, IsRefuted, IsRefused, IsUsage, IsReadFault, Causes, FileCauses, Wrote, Broke, status_number};
 
 use crate::clusters::answer_cluster;
 use crate::judged::{audited_line, judgement_line, numbered_line};
@@ -159,6 +159,7 @@ pub fn sprite<R: Threads + Wait + Sync, S: Source, K: Sink, L: Link + Send, W: W
     ensures faults { TellsFaultsOf L.faults link result.link result.closed }
     ensures wire { TellsWireOf L.faults L.asked link result.link result.closed }
     ensures prefixes { KeepsPrefixesOf result.closed }
+    ensures for_cause { IsForCauseOf result.closed }
     ensures rose { RoseForCause L.faults link result.link result.closed }
     ensures reached { AllWereReached L.faults link result.link result.closed }
     ensures complete { Completes result.status (spelled words.now) (S.left source.old) (S.faults source.old) (S.faults source.new) (K.faults sink.old) (K.faults sink.new) }

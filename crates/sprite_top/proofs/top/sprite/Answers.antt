@@ -1,6 +1,6 @@
 use Rattle.sprite_words.specs.Words.{spelled}
 use Rattle.frames_text.specs.Texts.{AreTold}
-use Rattle.sprite_top.proofs.CauseLaws.{answer_prefixes, answer_reached, answer_rose}
+use Rattle.sprite_top.proofs.CauseLaws.{answer_for_cause, answer_prefixes, answer_reached, answer_rose}
 use Rattle.sprite_top.proofs.CompleteLaws.{answer_completes}
 use Rattle.sprite_top.proofs.top.sprite.Goals as goal
 
@@ -25,3 +25,9 @@ returns-in-Ok-write_all-clause-prefixes g c = answer_prefixes g.L.Link.faults g.
 
 pub returns-clause-prefixes : goal.returns-clause-prefixes
 returns-clause-prefixes g c = answer_prefixes g.L.Link.faults g.L.Link.asked c.args.link c.answer_to-answer.result.1 c.answer_to-answer.result.0 c.in-Ok.answer c.in-Ok.is c.answer_to-answer.ensures.over
+
+pub returns-in-Ok-write_all-clause-for_cause : goal.returns-in-Ok-write_all-clause-for_cause
+returns-in-Ok-write_all-clause-for_cause g c = answer_for_cause g.L.Link.faults g.L.Link.asked c.args.link c.answer_to-answer.result.1 c.answer_to-answer.result.0 c.in-Ok.answer c.in-Ok.is c.answer_to-answer.ensures.over
+
+pub returns-clause-for_cause : goal.returns-clause-for_cause
+returns-clause-for_cause g c = answer_for_cause g.L.Link.faults g.L.Link.asked c.args.link c.answer_to-answer.result.1 c.answer_to-answer.result.0 c.in-Ok.answer c.in-Ok.is c.answer_to-answer.ensures.over
