@@ -2,12 +2,13 @@
 use Rattle.std.proofs.Common.{◌≡◌, ◌∙◌, ℕ, ◌+◌, ◌==◌, Bool, true, false, cond, ◌&&◌, List, [], ◌∷◌, ◌++◌, refl, sym, ap, ap₂, arith}
 use Rattle.std.specs.List.{list_all}
 use Rattle.std.proofs.lemmas.Bool.{eqb-true}
+use Rattle.sprite_ids.specs.Lists.{one_if}
 use Rattle.unix_calls.specs.declared.event.Event.{Event}
 use Rattle.unix_calls.specs.declared.event.Rec.{Rec}
 use Rattle.call_journal.specs.Matching.{is_at, is_any_fetch}
 use Rattle.call_journal.specs.WorthCaches.{is_any_filled, is_any_dirtied, is_motive, is_moderate}
 use Rattle.cache_worth.specs.declared.counts.Counts.{Counts}
-use Rattle.trace_rules.specs.Lists.{one_if, count_more}
+use Rattle.trace_rules.specs.Lists.{count_more}
 use Rattle.cache_worth.specs.Counts.{counts_at, one_more, CountsOn, is_few, are_few_in, TellsCounts}
 use Rattle.cache_worth.specs.Parts.{blocks_move_moderately}
 

@@ -2,12 +2,12 @@
 use Rattle.std.specs.Prelude.{◌≡◌, ℕ, ◌+◌, ◌*◌, ◌==◌, Bool, ◌&&◌, if◌then◌else◌, List, nat_le, count_by, Option, Some, None}
 use Rattle.std.specs.List.{list_all}
 use Rattle.std.specs.Map.{lookup}
+use Rattle.sprite_ids.specs.Lists.{one_if}
 use Rattle.unix_calls.specs.declared.event.Event.{Event}
 use Rattle.unix_calls.specs.declared.event.Rec.{Rec}
 use Rattle.call_journal.specs.Matching.{is_at, is_any_fetch}
 use Rattle.call_journal.specs.WorthCaches.{is_any_filled, is_any_dirtied, is_motive}
 use Rattle.cache_worth.specs.declared.counts.Counts.{Counts}
-use Rattle.trace_rules.specs.Lists.{one_if}
 
 -- the counts that are kept of a kernel
 abbrev pub counts_or : Option Counts → Counts

@@ -1,10 +1,11 @@
 -- Small laws on tests of lists.
 use Rattle.std.proofs.Common.{◌≡◌, ◌∙◌, ℕ, ◌+◌, Bool, true, false, cond, ◌&&◌, ◌||◌, List, [], ◌∷◌, ◌++◌, count_by, refl, ap, ap₂}
 use Rattle.std.specs.List.{list_any}
+use Rattle.sprite_ids.specs.Lists.{one_if}
 use Rattle.unix_calls.specs.declared.event.Rec.{Rec}
 use Rattle.call_journal.specs.Past.{since_last}
 use Rattle.call_journal.proofs.GrowthLaws.{look_backs_grow}
-use Rattle.trace_rules.specs.Lists.{one_if, count_more}
+use Rattle.trace_rules.specs.Lists.{count_more}
 
 -- tests that say the same of each item
 pub any_same : {A : Type 0} (p q : A → Bool) (xs : List A) → ((x : A) → p x ≡ q x) → list_any p xs ≡ list_any q xs

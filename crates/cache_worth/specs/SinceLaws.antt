@@ -1,9 +1,10 @@
 -- What happened to blocks is told record by record.
-use Rattle.std.proofs.Common.{◌≡◌, ◌∙◌, ℕ, ◌+◌, ◌-◌, ◌==◌, Bool, true, false, cond, ◌&&◌, ◌||◌, List, [], ◌∷◌, ◌++◌, Option, Some, nat_le, count_by, refl, sym, ap, ap₂, arith}
+use Rattle.std.proofs.Common.{◌≡◌, ◌∙◌, ℕ, ◌+◌, ◌-◌, Bool, true, false, cond, ◌||◌, List, [], ◌∷◌, ◌++◌, Option, Some, nat_le, count_by, refl, sym, ap, ap₂, arith}
 use Rattle.std.specs.List.{list_any}
+use Rattle.sprite_ids.specs.Lists.{one_if}
 use Rattle.unix_calls.specs.declared.event.Rec.{Rec}
 use Rattle.call_journal.specs.Past.{since_last}
-use Rattle.trace_rules.specs.Lists.{one_if, no_more, count_more, any_counted, any_since, any_more}
+use Rattle.trace_rules.specs.Lists.{no_more, count_more, any_counted, any_since, any_more}
 use Rattle.trace_rules.specs.PlaceLaws.{use_is, place_is}
 use Rattle.trace_rules.specs.declared.place.BlockAt.{BlockAt}
 use Rattle.trace_rules.specs.declared.place.FileAt.{FileAt}

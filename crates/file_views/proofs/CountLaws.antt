@@ -1,9 +1,10 @@
 -- Sums over lists, streams, and who has them open.
 use Rattle.std.proofs.Common.{◌≡◌, ◌≢◌, ◌≤◌, ◌⊎◌, ℕ, ◌+◌, ◌==◌, Bool, true, false, cond, not, ◌&&◌, ◌||◌, List, [], ◌∷◌, ◌++◌, filter, refl, sym, ap, ap₂, ◌∙◌, subst, inl, inr, arith, eqb-true, eq-eqb, ne_eqb}
 use Rattle.std.proofs.lemmas.Bool.{and_parts}
+use Rattle.sprite_ids.specs.Lists.{total}
 use Rattle.sprite_ids.specs.declared.StreamNo.{StreamNo}
 use Rattle.file_views.specs.declared.call.FileCall.{FileCall}
-use Rattle.file_views.specs.Streams.{total, same_stream, has_stream, one_of, copies}
+use Rattle.file_views.specs.Streams.{same_stream, has_stream, one_of, copies}
 use Rattle.file_views.specs.Views.{without_call, with_call}
 use Rattle.file_views.specs.Here.{In, Unique}
 use Rattle.file_views.specs.SoundShapes.{numbers}

@@ -2,6 +2,7 @@
 use Rattle.std.proofs.Common.{◌≡◌, ◌≢◌, ◌≤◌, ◌<◌, ◌⊎◌, ℕ, ◌+◌, ◌-◌, ◌==◌, Bool, true, false, not, ◌||◌, List, [], ◌∷◌, ◌++◌, length, filter, Some, None, refl, sym, ap, ◌∙◌, subst, inl, inr, arith, eqb-true, eq-eqb, length-set, get_or-set_same, get_or-set_other}
 use Rattle.std.proofs.lemmas.Bool.{and_parts, and_from}
 use Rattle.std.proofs.lemmas.Bool.Decides.{eqb_tells}
+use Rattle.sprite_ids.specs.Lists.{total}
 use Rattle.sprite_ids.specs.declared.CacheMode.TheVariants as cache
 use Rattle.sprite_ids.specs.declared.CallKind.{CallKind}
 use Rattle.sprite_ids.specs.declared.CallKind.TheVariants.{Recall}
@@ -12,7 +13,7 @@ use Rattle.file_views.specs.declared.opens.Open.{Open}
 use Rattle.file_views.specs.declared.call.FileCall.{FileCall}
 use Rattle.file_views.specs.declared.view.View.{View}
 use Rattle.file_views.specs.Setting.{Setting}
-use Rattle.file_views.specs.Streams.{total, same_stream, has_stream, is_open, open_count, add_open, take_off, writes, is_any}
+use Rattle.file_views.specs.Streams.{same_stream, has_stream, is_open, open_count, add_open, take_off, writes, is_any}
 use Rattle.file_views.specs.Clients.{is_on}
 use Rattle.file_views.specs.Views.{server, kernels, client, current_stamp, mode_given, is_holder, is_callback, last_stamp, things, new_call, without_call}
 use Rattle.file_views.specs.Grants.{asks, truncates, receiver, opens_after, uncached_after, is_called, kind_of_calls, called_kernels, stamped, mode_called, call_out, call_back, told, deciding, decide}

@@ -1,6 +1,7 @@
 -- The fifth layer of soundness while the server takes up requests.
 use Rattle.std.proofs.Common.{◌≡◌, ◌≤◌, ◌<◌, ◌⊎◌, ℕ, ◌==◌, Bool, true, false, cond, ◌&&◌, List, [], ◌∷◌, ◌++◌, length, map, filter, Option, Some, None, is_none, refl, sym, ap, ap₂, ◌∙◌, subst, inl, inr, arith, eq-eqb}
 use Rattle.std.proofs.lemmas.Bool.{and_parts, and_from}
+use Rattle.sprite_ids.specs.Lists.{total}
 use Rattle.sprite_ids.specs.declared.StreamNo.{StreamNo}
 use Rattle.file_views.specs.declared.grant.FileGrant.{FileGrant}
 use Rattle.file_views.specs.declared.body.FileBody.{FileBody}
@@ -8,7 +9,7 @@ use Rattle.file_views.specs.declared.body.FileBody.TheVariants as form
 use Rattle.file_views.specs.declared.call.FileCall.{FileCall}
 use Rattle.file_views.specs.declared.view.View.{View}
 use Rattle.file_views.specs.Setting.{Setting}
-use Rattle.file_views.specs.Streams.{total, same_stream, take_off, is_any}
+use Rattle.file_views.specs.Streams.{same_stream, take_off, is_any}
 use Rattle.file_views.specs.Contents.{put_block}
 use Rattle.file_views.specs.Views.{server, kernels, client, mode_given, grant_given, current_stamp, is_callback, as_call, things, with_call, replied, answer, to_the_end, busy, waits, waiting_calls}
 use Rattle.file_views.specs.Grants.{asks, uncached_after, is_called, kind_of_calls, called_kernels, settle, told, deciding, decide, current_grant}

@@ -2,10 +2,11 @@
 use Rattle.std.proofs.Common.{◌≡◌, ◌≤◌, ◌⊎◌, ℕ, ◌+◌, ◌-◌, ◌==◌, nat_le, Bool, true, false, cond, not, ◌&&◌, List, [], ◌∷◌, map, filter, Some, refl, sym, ap, ap₂, ◌∙◌, subst, subst₂, inl, inr, arith, eqb-true, eq-eqb, leb-true, leb-false}
 use Rattle.std.proofs.lemmas.Bool.{and_parts}
 use Rattle.std.proofs.lemmas.List.{map-append}
+use Rattle.sprite_ids.specs.Lists.{total}
 use Rattle.sprite_ids.specs.declared.StreamNo.{StreamNo}
 use Rattle.sprite_ids.specs.declared.Mode.{Mode}
 use Rattle.file_views.specs.declared.opens.Open.{Open}
-use Rattle.file_views.specs.Streams.{total, same_stream, is_open, counted, open_count, add_open, with_fewer, take_off, stream_mode, or_reading, mode_of_stream}
+use Rattle.file_views.specs.Streams.{same_stream, is_open, counted, open_count, add_open, with_fewer, take_off, stream_mode, or_reading, mode_of_stream}
 use Rattle.file_views.specs.Here.{In, Unique, IsClient}
 use Rattle.file_views.specs.SoundStreams.{open_key, OpensShaped}
 use Rattle.file_views.proofs.MemberLaws.{Made, in_filter, in_map, map_in, in_last, unique_append, unique_filter}

@@ -1,5 +1,6 @@
 -- The second layer of soundness under the smallest changes of a view.
 use Rattle.std.proofs.Common.{◌≡◌, ◌≢◌, ◌⊎◌, ℕ, ◌+◌, ◌-◌, ◌==◌, Bool, true, false, cond, ◌&&◌, List, [], ◌∷◌, ◌++◌, length, map, Option, None, refl, sym, ap, ap₂, ◌∙◌, subst, inl, inr, arith, eq-eqb, ne_eqb, append_assoc, slice_index_or}
+use Rattle.sprite_ids.specs.Lists.{total}
 use Rattle.sprite_ids.specs.declared.StreamNo.{StreamNo}
 use Rattle.sprite_ids.specs.declared.Mode.{Mode}
 use Rattle.file_views.specs.declared.body.FileBody.{FileBody}
@@ -8,7 +9,7 @@ use Rattle.file_views.specs.declared.client.Client.{Client}
 use Rattle.file_views.specs.declared.call.FileCall.{FileCall}
 use Rattle.file_views.specs.declared.step.FileStep.{FileStep}
 use Rattle.file_views.specs.declared.view.View.{View}
-use Rattle.file_views.specs.Streams.{total, same_stream, has_stream, one_of, copies, open_count}
+use Rattle.file_views.specs.Streams.{same_stream, has_stream, one_of, copies, open_count}
 use Rattle.file_views.specs.Clients.{new_client, install}
 use Rattle.file_views.specs.Views.{client, set_client, without_call, with_call, as_call, things, new_call, begin, replied, answer, remove_call, to_the_end}
 use Rattle.file_views.specs.Data.{step_of}

@@ -1,5 +1,6 @@
 -- The second layer of soundness under the changes that move grants.
 use Rattle.std.proofs.Common.{◌≡◌, ◌≢◌, ◌⊎◌, ℕ, ◌+◌, ◌-◌, ◌==◌, Bool, true, false, not, ◌&&◌, List, [], ◌∷◌, ◌++◌, length, map, filter, None, refl, sym, ap, ap₂, ◌∙◌, subst, inl, inr, arith, eq-eqb, ne_eqb, slice_index_or}
+use Rattle.sprite_ids.specs.Lists.{total}
 use Rattle.sprite_ids.specs.declared.StreamNo.{StreamNo}
 use Rattle.sprite_ids.specs.declared.Mode.{Mode}
 use Rattle.file_views.specs.declared.body.Access.{Access}
@@ -12,7 +13,7 @@ use Rattle.file_views.specs.declared.call.FileCall.{FileCall}
 use Rattle.file_views.specs.declared.call.Carry.{Carry}
 use Rattle.file_views.specs.declared.step.FileStep.{FileStep}
 use Rattle.file_views.specs.declared.view.View.{View}
-use Rattle.file_views.specs.Streams.{total, same_stream, has_stream, copies, open_count}
+use Rattle.file_views.specs.Streams.{same_stream, has_stream, copies, open_count}
 use Rattle.file_views.specs.Clients.{new_client, uninstall}
 use Rattle.file_views.specs.Views.{server, client, set_client, without_call, with_call, without_carried, as_call, things, new_call, begin, replied}
 use Rattle.file_views.specs.Data.{step_of}

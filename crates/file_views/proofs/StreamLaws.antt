@@ -1,5 +1,6 @@
 -- The second layer of soundness, said of the whole view, and under the changes that move no grant.
 use Rattle.std.proofs.Common.{◌≡◌, ◌≤◌, ◌⊎◌, ℕ, ◌+◌, ◌==◌, Bool, true, false, ◌&&◌, ◌||◌, List, length, map, filter, Option, Some, None, refl, sym, ap, ◌∙◌, subst, inl, inr, arith, eqb-true, eq-eqb}
+use Rattle.sprite_ids.specs.Lists.{total}
 use Rattle.sprite_ids.specs.declared.StreamNo.{StreamNo}
 use Rattle.file_views.specs.declared.body.Access.{Access}
 use Rattle.file_views.specs.declared.body.Access.TheVariants as access
@@ -10,7 +11,7 @@ use Rattle.file_views.specs.declared.call.FileCall.{FileCall}
 use Rattle.file_views.specs.declared.call.Carry.{Carry}
 use Rattle.file_views.specs.declared.step.FileStep.{FileStep}
 use Rattle.file_views.specs.declared.view.View.{View}
-use Rattle.file_views.specs.Streams.{total, same_stream, has_stream, copies, is_open, counted, open_count, writes}
+use Rattle.file_views.specs.Streams.{same_stream, has_stream, copies, is_open, counted, open_count, writes}
 use Rattle.file_views.specs.Views.{client, as_call, things}
 use Rattle.file_views.specs.Data.{step_of}
 use Rattle.file_views.specs.Possible.{is_about, works_on}

@@ -1,5 +1,6 @@
 -- The second layer of soundness under each step.
 use Rattle.std.proofs.Common.{◌≡◌, ℕ, ◌+◌, ◌==◌, nat_le, nat_lt, Bool, true, false, cond, not, List, [], ◌∷◌, ◌++◌, length, Option, Some, None, is_some, refl, sym, ap, ◌∙◌, subst, inl, inr}
+use Rattle.sprite_ids.specs.Lists.{total}
 use Rattle.sprite_ids.specs.declared.StreamNo.{StreamNo}
 use Rattle.sprite_ids.specs.declared.Mode.{Mode}
 use Rattle.sprite_ids.specs.declared.CallKind.{CallKind}
@@ -15,7 +16,7 @@ use Rattle.file_views.specs.declared.step.FileStep.{FileStep}
 use Rattle.file_views.specs.declared.step.FileStep.TheVariants as act
 use Rattle.file_views.specs.declared.view.View.{View}
 use Rattle.file_views.specs.Setting.{Setting}
-use Rattle.file_views.specs.Streams.{total, same_stream, has_stream, copies}
+use Rattle.file_views.specs.Streams.{same_stream, has_stream, copies}
 use Rattle.file_views.specs.Clients.{is_on, missing, granted, take_grant, take_callback, write_cached, done_cached}
 use Rattle.file_views.specs.Views.{server, client, set_client, things, begin, new_call, remove_call}
 use Rattle.file_views.specs.Data.{step_of, send_op, send_fetch, enter_cached, queue, wait_for, started, start_data, unqueue, or_zero, advance, look}

@@ -1,5 +1,6 @@
 -- The second layer of soundness: streams, and where their grants are.
 use Rattle.std.specs.Prelude.{◌≡◌, ◌≢◌, ◌≤◌, ℕ, ◌+◌, ◌==◌, Bool, true, false, ◌&&◌, List, map, Option, Some, None, length}
+use Rattle.sprite_ids.specs.Lists.{total}
 use Rattle.sprite_ids.specs.declared.StreamNo.{StreamNo}
 use Rattle.sprite_ids.specs.declared.Mode.{Mode}
 use Rattle.file_views.specs.declared.body.Access.{Access}
@@ -12,7 +13,7 @@ use Rattle.file_views.specs.declared.call.Carry.{Carry}
 use Rattle.file_views.specs.declared.step.FileStep.{FileStep}
 use Rattle.file_views.specs.declared.step.FileStep.TheVariants as act
 use Rattle.file_views.specs.declared.view.View.{View}
-use Rattle.file_views.specs.Streams.{same_stream, has_stream, copies, counted, total, writes}
+use Rattle.file_views.specs.Streams.{same_stream, has_stream, copies, counted, writes}
 use Rattle.file_views.specs.Views.{client}
 use Rattle.file_views.specs.Possible.{is_about, works_on}
 use Rattle.file_views.specs.Here.{In, Unique, IsClient, Here, at_kernel}

@@ -3,6 +3,7 @@ use Rattle.std.proofs.Common.{◌≡◌, ◌∙◌, ℕ, ◌+◌, ◌*◌, ◌==
 use Rattle.std.specs.List.{list_all}
 use Rattle.std.proofs.lemmas.Bool.{and_parts, eqb-true}
 use Rattle.std.proofs.lemmas.List.Sums.{sum_by-cons}
+use Rattle.sprite_ids.specs.Lists.{one_if}
 use Rattle.sprite_ids.specs.declared.names.TxNo.{TxNo}
 use Rattle.unix_calls.specs.declared.event.Event.{Event}
 use Rattle.unix_calls.specs.declared.event.Event.TheVariants as event
@@ -12,10 +13,6 @@ use Rattle.call_journal.specs.WorthPackets.{is_delivered_at, deliveries, are_few
 use Rattle.packet_worth.specs.declared.counts.Way.{Way}
 use Rattle.packet_worth.specs.declared.deliveries.Totals.{Totals}
 use Rattle.packet_worth.specs.Counts.{same_way, way_kept, number_kept, count_or, way_count, number_count, delivered_way, delivered_behind, sent_behind, expired_behind, TotalsOn, sends, expires, Counted, Counting, way_is_few, few_behind, is_few_in}
-
-abbrev one_if : Bool → ℕ
-one_if true = 1
-one_if false = 0
 
 -- a count of one item and the others
 count_first : {A : Type 0} (test : A → Bool) (x : A) (xs : List A) → count_by test (x ∷ xs) ≡ one_if (test x) + count_by test xs

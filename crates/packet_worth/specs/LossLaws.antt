@@ -2,6 +2,7 @@
 use Rattle.std.proofs.Common.{◌≡◌, ◌∙◌, ◌≤◌, ℕ, zero, suc, ◌+◌, ◌==◌, Bool, true, false, cond, ◌&&◌, ◌||◌, not, List, [], ◌∷◌, ◌++◌, Option, Some, None, nat_le, nat_lt, refl, sym, ap, ap₂, subst, arith}
 use Rattle.std.specs.List.{list_any}
 use Rattle.std.proofs.lemmas.Bool.{and_parts, le-leb, lt-ltb, ltb-true, true≢false}
+use Rattle.sprite_ids.specs.Lists.{one_if}
 use Rattle.sprite_ids.specs.declared.names.TxNo.{TxNo}
 use Rattle.link_plan.specs.declared.plan.Fate.{Fate}
 use Rattle.unix_calls.specs.declared.description.Description.{Description}
@@ -19,9 +20,9 @@ use Rattle.packet_worth.specs.declared.pairs.Slot.{Slot}
 use Rattle.packet_worth.specs.declared.losses.Losses.{Losses}
 use Rattle.packet_worth.specs.declared.losses.Sender.{Sender}
 use Rattle.packet_worth.specs.Counts.{count_or, number_count}
-use Rattle.packet_worth.specs.Pairs.{same_pair, pair_of, pair_kept, pair_count, slot_kept, one_if, in_slot, slot_count, TellsPackets}
+use Rattle.packet_worth.specs.Pairs.{same_pair, pair_of, pair_kept, pair_count, slot_kept, in_slot, slot_count, TellsPackets}
 use Rattle.packet_worth.specs.PairLaws.{same_turned, packets_told_on, told_first}
-use Rattle.packet_worth.specs.Losses.{loss_well, same_sender, sending_kept, has_loss_at, slots_lost, has_loss_by, has_loss_since, may_expire, once_put, again, again_put, sending_behind, is_any_loss, is_loss_at, losses_behind, MovesLosses, NoPackets, was_sent_by, lost_since, IsSince, TellsLosses}
+use Rattle.packet_worth.specs.Losses.{loss_well, sending_kept, has_loss_at, slots_lost, has_loss_by, may_expire, once_put, again, again_put, sending_behind, is_any_loss, is_loss_at, losses_behind, MovesLosses, NoPackets, was_sent_by, lost_since, IsSince, TellsLosses}
 
 -- ---- losses between the kernels of slots
 

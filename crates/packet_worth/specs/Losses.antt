@@ -2,6 +2,7 @@
 use Rattle.std.specs.Prelude.{◌≡◌, ◌≤◌, ℕ, zero, suc, ◌+◌, ◌==◌, Bool, true, false, ◌&&◌, ◌||◌, if◌then◌else◌, List, [], nat_lt, Option, Some, None}
 use Rattle.std.specs.List.{list_any}
 use Rattle.std.specs.Map.{lookup}
+use Rattle.sprite_ids.specs.Lists.{one_if}
 use Rattle.sprite_ids.specs.declared.names.TxNo.{TxNo}
 use Rattle.unix_calls.specs.declared.description.Description.{Description}
 use Rattle.unix_calls.specs.declared.event.Event.{Event}
@@ -17,7 +18,7 @@ use Rattle.packet_worth.specs.declared.faults.Packets.{Packets}
 use Rattle.packet_worth.specs.declared.losses.Losses.{Losses}
 use Rattle.packet_worth.specs.declared.losses.Sender.{Sender}
 use Rattle.packet_worth.specs.Counts.{number_count}
-use Rattle.packet_worth.specs.Pairs.{same_pair, pair_of, pair_kept, pair_count, slot_kept, one_if, MovesOn, TellsPackets}
+use Rattle.packet_worth.specs.Pairs.{same_pair, pair_of, pair_kept, pair_count, slot_kept, MovesOn, TellsPackets}
 
 -- a try is over only where a packet was lost since the request last went out
 abbrev pub loss_well : Past → ℕ → Event → Bool

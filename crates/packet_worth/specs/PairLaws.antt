@@ -2,6 +2,7 @@
 use Rattle.std.proofs.Common.{◌≡◌, ◌∙◌, ℕ, zero, suc, ◌+◌, ◌≤◌, ◌==◌, Bool, true, false, cond, ◌&&◌, not, ◌⊎◌, inl, inr, ◌⊎◌, inl, inr, ◌⊎◌, inl, inr, List, [], ◌∷◌, ◌++◌, Some, None, nat_le, nat_lt, count_by, refl, sym, ap, subst, arith}
 use Rattle.std.proofs.lemmas.Bool.{and_parts, and_from, or_left, or_right, or_cases, eqb-true, eq-eqb, leb-true, leb-false, le-leb, lt-ltb, ltb-true}
 use Rattle.std.proofs.lemmas.List.Sums.{sum_by-cons, sum_by_push}
+use Rattle.sprite_ids.specs.Lists.{one_if}
 use Rattle.sprite_ids.specs.declared.names.TxNo.{TxNo}
 use Rattle.unix_calls.specs.declared.description.Description.{Description}
 use Rattle.unix_calls.specs.declared.event.Event.{Event}
@@ -17,7 +18,7 @@ use Rattle.packet_worth.specs.declared.pairs.Slot.{Slot}
 use Rattle.packet_worth.specs.declared.faults.Packets.{Packets}
 use Rattle.packet_worth.specs.Counts.{count_or, number_kept, number_count, NumberCounted}
 use Rattle.packet_worth.specs.Faults.{faults_well}
-use Rattle.packet_worth.specs.Pairs.{same_pair, same_sent, same_slot, pair_of, pair_kept, pair_count, slot_kept, has_sent, one_if, times_if, in_slot, slot_count, Adds, PutsSlot, SendsAgain, SendsFirst, SendsOn, ResendsOn, FaultsOn, MovesOn, may_fault, TellsPackets}
+use Rattle.packet_worth.specs.Pairs.{same_pair, same_sent, same_slot, pair_of, pair_kept, pair_count, slot_kept, has_sent, times_if, in_slot, slot_count, Adds, PutsSlot, SendsAgain, SendsFirst, SendsOn, ResendsOn, FaultsOn, MovesOn, may_fault, TellsPackets}
 
 -- ---- pairs
 

@@ -2,6 +2,7 @@
 use Rattle.std.specs.Prelude.{◌≡◌, ℕ, zero, suc, ◌+◌, ◌==◌, Bool, true, false, ◌&&◌, if◌then◌else◌, List, nat_le, nat_lt, count_by, Option, Some, None}
 use Rattle.std.specs.Map.{lookup}
 use Rattle.std.specs.List.{list_any}
+use Rattle.sprite_ids.specs.Lists.{one_if}
 use Rattle.sprite_ids.specs.declared.names.TxNo.{TxNo}
 use Rattle.unix_calls.specs.declared.event.Event.{Event}
 use Rattle.unix_calls.specs.declared.event.Event.TheVariants as event
@@ -40,11 +41,6 @@ slot_kept slots slot = lookup (same_slot slot) slots
 
 abbrev pub has_sent : List Sent → Sent → Bool
 has_sent sent one = list_any (same_sent one) sent
-
--- one if so; a number if so
-abbrev pub one_if : Bool → ℕ
-one_if true = 1
-one_if false = 0
 
 abbrev pub times_if : Bool → ℕ → ℕ
 times_if true n = n

@@ -1,6 +1,7 @@
 -- When files were opened and called back is told record by record.
 use Rattle.std.proofs.Common.{◌≡◌, ◌∙◌, ◌≤◌, ℕ, ◌+◌, ◌==◌, Bool, true, false, cond, ◌&&◌, not, List, [], nat_le, Option, Some, None, refl, sym, ap, ap₂, subst, arith}
 use Rattle.std.proofs.lemmas.Bool.{and_parts, eqb-true, eq-eqb}
+use Rattle.sprite_ids.specs.Lists.{one_if}
 use Rattle.sprite_ids.specs.declared.names.FileId.{FileId}
 use Rattle.unix_calls.specs.declared.description.Description.{Description}
 use Rattle.unix_calls.specs.declared.event.SendKind.TheVariants as send
@@ -13,7 +14,7 @@ use Rattle.call_journal.specs.Drops.{is_opened_of}
 use Rattle.call_journal.specs.WorthRecords.{is_callback_to, was_opened}
 use Rattle.trace_rules.specs.declared.place.FileAt.{FileAt}
 use Rattle.record_worth.specs.declared.callbacks.Calls.{Calls}
-use Rattle.trace_rules.specs.Lists.{one_if, no_more, count_more, any_counted, any_since}
+use Rattle.trace_rules.specs.Lists.{no_more, count_more, any_counted, any_since}
 use Rattle.trace_rules.specs.PlaceLaws.{file_is}
 use Rattle.trace_rules.specs.Places.{same_use}
 use Rattle.record_worth.specs.Parts.{calls_well}

@@ -3,6 +3,7 @@ use Rattle.std.proofs.Common.{◌≡◌, ◌≤◌, ◌<◌, ◌⊎◌, ℕ, ◌
 use Rattle.std.specs.List.{list_any}
 use Rattle.std.proofs.lemmas.Bool.{and_parts}
 use Rattle.std.proofs.lemmas.List.Folds.{list_any-append}
+use Rattle.sprite_ids.specs.Lists.{total}
 use Rattle.sprite_ids.specs.declared.BlockNo.{BlockNo}
 use Rattle.sprite_ids.specs.declared.StreamNo.{StreamNo}
 use Rattle.sprite_ids.specs.declared.Mode.{Mode}
@@ -19,7 +20,7 @@ use Rattle.file_views.specs.declared.step.FileStep.TheVariants as act
 use Rattle.file_views.specs.declared.view.View.{View}
 use Rattle.file_views.specs.declared.entered.Entered.{Entered}
 use Rattle.file_views.specs.Setting.{Setting}
-use Rattle.file_views.specs.Streams.{reads, total, has_stream, counted, writes, take_off, has_open, is_write_shared, is_any}
+use Rattle.file_views.specs.Streams.{reads, has_stream, counted, writes, take_off, has_open, is_write_shared, is_any}
 use Rattle.file_views.specs.Clients.{is_on, held}
 use Rattle.file_views.specs.Views.{server, client, current_stamp, mode_given, is_holder, is_kernel, kernels, as_call, things, is_callback, busy, find_call, find_carried, without_call, with_call, replied, answer, remove_call, to_the_end}
 use Rattle.file_views.specs.Grants.{shared_after, opens_after, truncates, receiver, asks_to_write, uncached_after, is_called, called_kernels, kind_of_calls, told, settle, deciding, decide}

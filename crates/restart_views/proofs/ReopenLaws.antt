@@ -4,6 +4,7 @@ use Rattle.std.specs.List.{list_any}
 use Rattle.std.proofs.lemmas.List.{append-nil, map-append}
 use Rattle.std.proofs.lemmas.List.Elements.{filter-append}
 use Rattle.std.proofs.lemmas.List.Folds.{list_any-append}
+use Rattle.sprite_ids.specs.Lists.{total}
 use Rattle.sprite_ids.specs.declared.StreamNo.{StreamNo}
 use Rattle.file_views.specs.declared.call.FileCall.{FileCall}
 use Rattle.file_views.specs.declared.call.Carry.{Carry}
@@ -12,7 +13,7 @@ use Rattle.file_views.specs.declared.opens.Open.{Open}
 use Rattle.file_views.specs.declared.step.FileStep.{FileStep}
 use Rattle.file_views.specs.declared.view.View.{View}
 use Rattle.file_views.specs.Setting.{Setting}
-use Rattle.file_views.specs.Streams.{total, same_stream, has_stream, one_of, copies, counted}
+use Rattle.file_views.specs.Streams.{same_stream, has_stream, one_of, copies, counted}
 use Rattle.file_views.specs.Clients.{new_client, is_on, install}
 use Rattle.file_views.specs.Views.{client, current_stamp, things}
 use Rattle.file_views.specs.Possible.{is_about, works_on, is_named}

@@ -3,6 +3,7 @@
 use Rattle.std.proofs.Common.{◌≡◌, ◌≤◌, ℕ, ◌+◌, ◌*◌, ◌==◌, Bool, true, false, cond, not, ◌||◌, is_some, List, [], ◌∷◌, ◌++◌, length, map, Option, Some, None, refl, sym, ap, ap₂, ◌∙◌, subst, inl, inr, arith, eqb-true, eq-eqb, ne_eqb}
 use Rattle.std.proofs.lemmas.Bool.{and_parts}
 use Rattle.std.proofs.lemmas.List.{append_assoc, map-append}
+use Rattle.sprite_ids.specs.Lists.{total}
 use Rattle.sprite_ids.specs.declared.BlockNo.{BlockNo}
 use Rattle.sprite_ids.specs.declared.StreamNo.{StreamNo}
 use Rattle.sprite_ids.specs.declared.CallKind.{CallKind}
@@ -16,7 +17,6 @@ use Rattle.file_views.specs.declared.step.FileStep.{FileStep}
 use Rattle.file_views.specs.declared.step.FileStep.TheVariants as act
 use Rattle.file_views.specs.declared.view.View.{View}
 use Rattle.file_views.specs.Setting.{Setting}
-use Rattle.file_views.specs.Streams.{total}
 use Rattle.file_views.specs.Clients.{held, fill, uninstall, pieces}
 use Rattle.file_views.specs.Views.{server, client, set_client, as_call, things, new_call, with_call, without_call, find_call, find_carried, without_carried, begin, replied, answer, remove_call, to_the_end, is_callback, busy}
 use Rattle.file_views.specs.Grants.{stamped, granting, grant_of, settle}

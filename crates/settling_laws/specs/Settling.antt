@@ -1,9 +1,9 @@
 -- That a settling of a file ends: how often what is under way may still come somewhere.
 use Rattle.std.specs.Prelude.{◌≡◌, ◌≤◌, ℕ, ◌*◌, ◌==◌, if◌then◌else◌, List, None}
+use Rattle.sprite_ids.specs.Lists.{total}
 use Rattle.file_views.specs.declared.FileCall.{FileCall}
 use Rattle.file_views.specs.declared.View.{View}
 use Rattle.file_views.specs.Setting.{sprite_setting}
-use Rattle.file_views.specs.Streams.{total}
 use Rattle.file_views.specs.Views.{new_view, things}
 use Rattle.restart_views.specs.declared.Restarted.{Restarted}
 use Rattle.restart_views.specs.declared.RestartStep.{RestartStep}

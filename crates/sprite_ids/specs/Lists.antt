@@ -1,5 +1,5 @@
--- Lists in which an item is put, changed or taken out by a test.
-use Rattle.std.specs.Prelude.{◌≡◌, Bool, false, not, if◌then◌else◌, List, [], ◌∷◌}
+-- Lists in which an item is put, changed or taken out by a test; sums over items.
+use Rattle.std.specs.Prelude.{◌≡◌, ℕ, ◌+◌, Bool, true, false, not, if◌then◌else◌, List, [], ◌∷◌}
 use Rattle.std.specs.List.{filter, list_any}
 
 -- the item in the place of the first that passes the test, else at the end
@@ -25,3 +25,13 @@ without p xs = filter (λ x. not (p x)) xs
 abbrev pub EachOnce : {X : Type 0} → (X → X → Bool) → List X → Type 0
 EachOnce same [] = Unit {0}
 EachOnce same (x ∷ xs) = (list_any (same x) xs ≡ false) × EachOnce same xs
+
+-- the sum of a number of each item
+abbrev pub total : {X : Type 0} → (X → ℕ) → List X → ℕ
+total number [] = 0
+total number (x ∷ xs) = number x + total number xs
+
+-- one where it is so
+abbrev pub one_if : Bool → ℕ
+one_if true = 1
+one_if false = 0

@@ -1,5 +1,6 @@
 use Rattle.std.proofs.Common.{◌≡◌, ◌+◌, drop}
-use Rattle.file_views.specs.Streams.{total, one_of}
+use Rattle.sprite_ids.specs.Lists.{total}
+use Rattle.file_views.specs.Streams.{one_of}
 use Rattle.file_coherence.proofs.streams.copies.Given as goal
 
 abbrev pub invariant-loop-other : goal.invariant-loop-other

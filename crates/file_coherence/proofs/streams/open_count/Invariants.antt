@@ -1,5 +1,6 @@
 use Rattle.std.proofs.Common.{◌≡◌, ◌+◌, drop}
-use Rattle.file_views.specs.Streams.{total, counted}
+use Rattle.sprite_ids.specs.Lists.{total}
+use Rattle.file_views.specs.Streams.{counted}
 use Rattle.file_coherence.proofs.streams.open_count.Given as goal
 
 abbrev pub invariant-loop-one : goal.invariant-loop-one
