@@ -1,14 +1,16 @@
 -- Lines, digits and packets, one after another.
-use Rattle.std.proofs.Common.{arith, ◌≡◌, ◌<◌, ◌≤◌, ◌∙◌, ℕ, ◌+◌, ◌*◌, Bool, true, false, List, [], ◌∷◌, ◌++◌, length, drop, slice_index_or, Option, Some, None, option_map, Result, Ok, Err, refl, sym, ap, subst}
+use Rattle.std.proofs.Common.{arith, ◌≡◌, ◌<◌, ◌≤◌, ◌∙◌, ℕ, ◌+◌, ◌*◌, Bool, true, false, List, [], ◌∷◌, ◌++◌, length, drop, slice_index_or, Option, Some, None, option_map, Result, refl, sym, ap, subst}
 use Rattle.std.specs.Prelude.{IfSome, if◌then◌else◌}
 use Rattle.std.specs.List.{AllByRecursion}
 use Rattle.std.proofs.lemmas.List.{append_assoc, at_drop_more, length-append}
 use Rattle.sprite_ids.proofs.ListLaws.{some_is}
 use Rattle.text_lines.specs.Lines.{lines_of}
+use Rattle.text_rows.specs.Rows.{behind_rows}
+use Rattle.text_rows.proofs.RowLaws.{rows_go}
 use Rattle.wire_fragments.specs.declared.MessageId.{MessageId}
 use Rattle.frames_text.specs.declared.parcel.Parcel.{Parcel}
 use Rattle.frames_text.specs.Digits.{IsPut, bytes_from, digit_of, is_digit, value_of}
-use Rattle.frames_text.specs.Parcels.{IsParcel, behind_parcels, before_others, cut_of, cuts_from, parcel_at, parcel_read, parcels_read}
+use Rattle.frames_text.specs.Parcels.{IsParcel, cut_of, cuts_from, parcel_at, parcels_read}
 use Rattle.frames_text.specs.Reports.{packet_line, report}
 use Rattle.frames_text.specs.Sending.{Frame, all_framed, framed}
 
@@ -58,34 +60,25 @@ put_short (Some high) digit i old new next short put = (let same = ap length put
 
 -- ---- packets of lines
 
-behind_more : (ps : List Parcel) (p : Parcel) (others : Result (List Parcel) ℕ) → behind_parcels (ps ++ p ∷ []) others ≡ behind_parcels ps (before_others p others)
-behind_more ps p (Ok more) = ap (λ (xs : List Parcel). Ok xs) (append_assoc ps (p ∷ []) more)
-behind_more ps p (Err line) = refl
-
 all_pushed : (ps : List Parcel) (p : Parcel) → AllByRecursion IsParcel ps → IsParcel p → AllByRecursion IsParcel (ps ++ p ∷ [])
 all_pushed [] p are is = (is, tt)
 all_pushed (x ∷ ps) p are is = (are.0, all_pushed ps p are.1 is)
 
 -- one packet more
 pub record ReadMore (whole : Result (List Parcel) ℕ) (kernels number : ℕ) (new : List Parcel) (rest : List ℕ) : Type 0 where
-  pub all : behind_parcels new (parcels_read kernels (number + 1) (lines_of rest)) ≡ whole
+  pub all : behind_rows new (parcels_read kernels (number + 1) (lines_of rest)) ≡ whole
   pub parcels : AllByRecursion IsParcel new
   pub numbered : number + 1 ≡ length new + 1
   pub few : length new ≤ 65535
 
 pub read_more : (whole : Result (List Parcel) ℕ) (kernels number : ℕ) (ps new : List Parcel) (o : Option Parcel) (p : Parcel) (line before rest : List ℕ) → o ≡ Some p → o ≡ parcel_at kernels number line → IfSome o IsParcel → IfSome o (λ (x : Parcel). number ≤ 65535) → lines_of before ≡ line ∷ lines_of rest → new ≡ ps ++ p ∷ []
-    → behind_parcels ps (parcels_read kernels number (lines_of before)) ≡ whole → AllByRecursion IsParcel ps → number ≡ length ps + 1 → ReadMore whole kernels number new rest
+    → behind_rows ps (parcels_read kernels number (lines_of before)) ≡ whole → AllByRecursion IsParcel ps → number ≡ length ps + 1 → ReadMore whole kernels number new rest
 read_more whole kernels number ps new o p line before rest is at ends few lines pushed so_far are numbered = record {
-  all = ap (λ (xs : List Parcel). behind_parcels xs others) pushed ∙ (behind_more ps p others
-      ∙ (ap (λ (x : Option Parcel). behind_parcels ps (parcel_read number x others)) (sym is ∙ at)
-      ∙ (ap (λ (ls : List (List ℕ)). behind_parcels ps (parcels_read kernels number ls)) (sym lines) ∙ so_far)));
+  all = ap (λ (xs : List Parcel). behind_rows xs (parcels_read kernels (number + 1) (lines_of rest))) pushed ∙ rows_go (parcel_at kernels) number (number + 1) ps p line before rest whole lines (sym at ∙ is) refl so_far;
   parcels = subst (AllByRecursion IsParcel) (sym pushed) (all_pushed ps p are (subst (λ (x : Option Parcel). IfSome x IsParcel) is ends));
   numbered = (let long = ap length pushed in let more = length-append ps (p ∷ []) in omega (arith, long, more, numbered));
   few = (let long = ap length pushed in let more = length-append ps (p ∷ []) in let least : number ≤ 65535 = subst (λ (x : Option Parcel). IfSome x (λ (y : Parcel). number ≤ 65535)) is few in omega (arith, long, more, numbered, least));
 }
-  where
-    others : Result (List Parcel) ℕ
-    others = parcels_read kernels (number + 1) (lines_of rest)
 
 -- ---- lines of packets
 

@@ -9,6 +9,7 @@ use Rattle.text_lines.specs.Parts.{parted_at, parts_of, separator_from}
 use Rattle.unix_calls.specs.declared.Description.{Description}
 use Rattle.cluster_file.specs.declared.Refusal.{Refusal}
 use Rattle.cluster_file.specs.Clusters.{Describes, Refuses}
+use Rattle.parted_text.specs.Parted.{HasCluster, HasRefusal}
 use Rattle.report_print.specs.Refused.{refusal_line}
 use Rattle.wire_fragments.specs.Runs.{Cut}
 use Rattle.frames_text.specs.declared.parcel.Parcel.{Parcel}
@@ -17,7 +18,7 @@ use Rattle.frames_text.specs.declared.answering.FramesAnswer.TheVariants.{Lines,
 use Rattle.frames_text.specs.Parcels.{parcels_read}
 use Rattle.frames_text.specs.Sending.{RoseBy, is_between}
 use Rattle.frames_text.specs.Reports.{AreSent}
-use Rattle.frames_text.specs.Texts.{Answers, BodyAnswers, FileAnswers, HoldsPackets, IsTextRefusal}
+use Rattle.frames_text.specs.Texts.{Answers, BodyAnswers, HoldsPackets, IsTextRefusal}
 
 -- ---- what is held isn't refused
 
@@ -45,13 +46,13 @@ one_parting text file body other_file other_body one two =
 
 -- a text of packets isn't refused
 pub held_not_refused : (text due : List ℕ) → HoldsPackets text → IsTextRefusal text due → ⊥
-held_not_refused text due holds (inl none) = some_none (holds.file, holds.body) (sym holds.parts ∙ none.parts)
+held_not_refused text due holds (inl none) = some_none (holds.has.file, holds.body) (sym holds.has.parts ∙ none.parts)
 held_not_refused text due holds (inr (inl bad)) =
-    let same = one_parting text holds.file holds.body bad.file bad.body holds.parts bad.parts in
-    not_both bad.file holds.cluster bad.refusal (subst (λ (f : List ℕ). Describes f holds.cluster) same.files holds.describes) bad.refuses
+    let same = one_parting text holds.has.file holds.body bad.has.file bad.has.body holds.has.parts bad.has.parts in
+    not_both bad.has.file holds.cluster bad.refusal (subst (λ (f : List ℕ). Describes f holds.cluster) same.files holds.has.describes) bad.has.refuses
 held_not_refused text due holds (inr (inr bad)) =
-    let same = one_parting text holds.file holds.body bad.file bad.body holds.parts bad.parts in
-    let cluster = described_once bad.file holds.cluster bad.cluster (subst (λ (f : List ℕ). Describes f holds.cluster) same.files holds.describes) bad.describes in
+    let same = one_parting text holds.has.file holds.body bad.has.file bad.body holds.has.parts bad.has.parts in
+    let cluster = described_once bad.has.file holds.cluster bad.cluster (subst (λ (f : List ℕ). Describes f holds.cluster) same.files holds.has.describes) bad.has.describes in
     let are = subst (λ (c : Description). parcels_read (length c.kernels) 1 (lines_of holds.body) ≡ Ok holds.parcels) cluster holds.are_read in
     not_bad (length bad.cluster.kernels) bad.number (lines_of bad.body) holds.parcels (subst (λ (b : List ℕ). parcels_read (length bad.cluster.kernels) 1 (lines_of b) ≡ Ok holds.parcels) same.bodies are) bad.bad
 
@@ -66,39 +67,29 @@ behind_by text file body (Some n) is =
     let rest = length-drop (n + 6) text in
     omega (arith, long, rest)
 
-pub body_short : (text file body : List ℕ) → parts_of text ≡ Some (file, body) → length text ≤ 67108864 → length body ≤ 67108864
-body_short text file body is short = (let less = behind_by text file body (separator_from 0 true text) is in omega (arith, less, short))
+pub body_short : (text : List ℕ) (cluster : Description) (body : List ℕ) → HasCluster text cluster body → length text ≤ 67108864 → length body ≤ 67108864
+body_short text cluster body has short = (let less = behind_by text has.file body (separator_from 0 true text) has.parts in omega (arith, less, short))
 
-by_answer : {L : Type 0} (faults asked : L → ℕ → ℕ → ℕ) (before after : L) (text file body : List ℕ) (cluster : Description) (answer : FramesAnswer) → parts_of text ≡ Some (file, body) → Describes file cluster → BodyAnswers faults asked before after (length cluster.kernels) body answer → Answers faults asked before after text answer
-by_answer faults asked before after text file body cluster (Lines lines) parts describes why =
-    record { holds = record { file = file; body = body; parts = parts; cluster = cluster; describes = describes; parcels = why.0; are_read = why.1 }; sent = why.2 }
-by_answer faults asked before after text file body cluster (Refused line) parts describes why =
-    inr (inr (record { file = file; body = body; parts = parts; cluster = cluster; describes = describes; number = why.0; bad = why.1; line_is = why.2 }))
+by_answer : {L : Type 0} (faults asked : L → ℕ → ℕ → ℕ) (before after : L) (text : List ℕ) (cluster : Description) (body : List ℕ) (answer : FramesAnswer) → HasCluster text cluster body → BodyAnswers faults asked before after (length cluster.kernels) body answer → Answers faults asked before after text answer
+by_answer faults asked before after text cluster body (Lines lines) has why =
+    record { holds = record { cluster = cluster; body = body; has = has; parcels = why.0; are_read = why.1 }; sent = why.2 }
+by_answer faults asked before after text cluster body (Refused line) has why =
+    inr (inr (record { cluster = cluster; body = body; has = has; number = why.0; bad = why.1; line_is = why.2 }))
 
-by_file : {L : Type 0} (faults asked : L → ℕ → ℕ → ℕ) (before after : L) (text file body : List ℕ) (answer : FramesAnswer) → parts_of text ≡ Some (file, body) → FileAnswers faults asked before after file body answer → Answers faults asked before after text answer
-by_file faults asked before after text file body answer parts (inl refused) =
-    subst (Answers faults asked before after text) (sym refused.2) (inr (inl (record { file = file; body = body; parts = parts; refusal = refused.0; refuses = refused.1; line_is = refl })))
-by_file faults asked before after text file body answer parts (inr described) = by_answer faults asked before after text file body described.0 answer parts described.1 described.2
+-- what is due for the packets of a cluster is due for the text
+pub from_described : {L : Type 0} (faults asked : L → ℕ → ℕ → ℕ) (before after : L) (text : List ℕ) (cluster : Description) (body : List ℕ) (r : Result FramesAnswer NoMemory) → HasCluster text cluster body → IfOk r (BodyAnswers faults asked before after (length cluster.kernels) body) → IfOk r (Answers faults asked before after text)
+from_described faults asked before after text cluster body (Ok answer) has why = by_answer faults asked before after text cluster body answer has why
+from_described faults asked before after text cluster body (Err e) has why = why
 
--- what is due for the parts is due for the text
-pub from_parts : {L : Type 0} (faults asked : L → ℕ → ℕ → ℕ) (before after : L) (text file body : List ℕ) (r : Result FramesAnswer NoMemory) → parts_of text ≡ Some (file, body) → IfOk r (FileAnswers faults asked before after file body) → IfOk r (Answers faults asked before after text)
-from_parts faults asked before after text file body (Ok answer) parts why = by_file faults asked before after text file body answer parts why
-from_parts faults asked before after text file body (Err e) parts why = why
-
--- and where there are none
+-- and where there are no two parts
 pub from_none : {L : Type 0} (faults asked : L → ℕ → ℕ → ℕ) (before after : L) (text : List ℕ) (r : Result FramesAnswer NoMemory) → parts_of text ≡ None → IfOk r (λ answer. answer ≡ Refused (codes "refused: 14\n")) → IfOk r (Answers faults asked before after text)
 from_none faults asked before after text (Ok answer) none is = subst (Answers faults asked before after text) (sym is) (inl (record { parts = none; line_is = refl }))
 from_none faults asked before after text (Err e) none is = is
 
--- what is due for a described cluster is due for its file
-pub from_described : {L : Type 0} (faults asked : L → ℕ → ℕ → ℕ) (before after : L) (file body : List ℕ) (cluster : Description) (r : Result FramesAnswer NoMemory) → Describes file cluster → IfOk r (BodyAnswers faults asked before after (length cluster.kernels) body) → IfOk r (FileAnswers faults asked before after file body)
-from_described faults asked before after file body cluster (Ok answer) describes why = inr (cluster, describes, why)
-from_described faults asked before after file body cluster (Err e) describes why = why
-
--- and for a refused one
-pub from_refused : {L : Type 0} (faults asked : L → ℕ → ℕ → ℕ) (before after : L) (file body : List ℕ) (refusal : Refusal) (r : Result FramesAnswer NoMemory) → Refuses file refusal → IfOk r (λ answer. answer ≡ Refused (refusal_line refusal)) → IfOk r (FileAnswers faults asked before after file body)
-from_refused faults asked before after file body refusal (Ok answer) refuses is = inl (refusal, refuses, is)
-from_refused faults asked before after file body refusal (Err e) refuses is = is
+-- and where the first is refused
+pub from_refused : {L : Type 0} (faults asked : L → ℕ → ℕ → ℕ) (before after : L) (text : List ℕ) (refusal : Refusal) (r : Result FramesAnswer NoMemory) → HasRefusal text refusal → IfOk r (λ answer. answer ≡ Refused (refusal_line refusal)) → IfOk r (Answers faults asked before after text)
+from_refused faults asked before after text refusal (Ok answer) has is = subst (Answers faults asked before after text) (sym is) (inr (inl (record { refusal = refusal; has = has; line_is = refl })))
+from_refused faults asked before after text refusal (Err e) has is = is
 
 -- a link that was loaded counts as it did
 pub loaded_before : {L : Type 0} (faults asked : L → ℕ → ℕ → ℕ) (before loaded after : L) (cuts : List Cut) (lines : List ℕ) → Stay (faults before) (asked before) (faults loaded) (asked loaded) → AreSent faults asked loaded after cuts lines → AreSent faults asked before after cuts lines

@@ -1,12 +1,11 @@
 -- Packets that are to be sent, as the lines of a text.
-use Rattle.std.specs.Prelude.{◌≡◌, ◌≤◌, ℕ, ◌+◌, ◌==◌, ◌&&◌, not, nat_le, if◌then◌else◌, List, [], ◌∷◌, ◌++◌, length, Option, Some, None, option_map, Result, Ok, Err}
+use Rattle.std.specs.Prelude.{◌≤◌, ℕ, ◌+◌, ◌==◌, ◌&&◌, not, nat_le, if◌then◌else◌, List, [], ◌∷◌, length, Option, Some, None, option_map, Result}
+use Rattle.text_rows.specs.Rows.{rows_read}
 use Rattle.wire_format.specs.Packets.{reading}
 use Rattle.wire_format.specs.declared.packet.Packet.{Packet}
 use Rattle.wire_fragments.specs.Runs.{Cut}
 use Rattle.frames_text.specs.Digits.{bytes_from}
 use Rattle.frames_text.specs.declared.parcel.Parcel.{Parcel}
-use Rattle.frames_text.specs.declared.frames_error.FramesError.{FramesError}
-use Rattle.frames_text.specs.declared.frames_error.FramesError.TheVariants.{Line, NoMemory}
 
 -- the packet's bytes and its two ends, where these are different kernels of the first so many
 abbrev pub parcel_between : ℕ → List ℕ → ℕ → ℕ → Option Parcel
@@ -33,28 +32,9 @@ parcel_of kernels line = parcel_in kernels (bytes_from None line)
 abbrev pub parcel_at : ℕ → ℕ → List ℕ → Option Parcel
 parcel_at kernels number line = if nat_le number 65535 then parcel_of kernels line else None
 
-abbrev pub before_others : Parcel → Result (List Parcel) ℕ → Result (List Parcel) ℕ
-before_others parcel (Ok parcels) = Ok (parcel ∷ parcels)
-before_others parcel (Err line) = Err line
-
-abbrev pub parcel_read : ℕ → Option Parcel → Result (List Parcel) ℕ → Result (List Parcel) ℕ
-parcel_read number (Some parcel) others = before_others parcel others
-parcel_read number None others = Err number
-
 -- the packets of the lines, of which the first has that number; or the number of the first that is none
 abbrev pub parcels_read : ℕ → ℕ → List (List ℕ) → Result (List Parcel) ℕ
-parcels_read kernels number [] = Ok []
-parcels_read kernels number (line ∷ lines) = parcel_read number (parcel_at kernels number line) (parcels_read kernels (number + 1) lines)
-
--- these packets, and then what was read
-abbrev pub behind_parcels : List Parcel → Result (List Parcel) ℕ → Result (List Parcel) ℕ
-behind_parcels parcels (Ok more) = Ok (parcels ++ more)
-behind_parcels parcels (Err line) = Err line
-
--- why packets were not read
-abbrev pub IsBadAt : Result (List Parcel) ℕ → FramesError → Type 0
-IsBadAt read (Line number) = read ≡ Err number
-IsBadAt read NoMemory = Unit {0}
+parcels_read kernels number lines = rows_read (parcel_at kernels) number lines
 
 -- its ends are kernels, and its bytes can be cut
 pub record IsParcel (p : Parcel) : Type 0 where

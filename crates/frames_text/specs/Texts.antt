@@ -1,11 +1,11 @@
 -- What a text comes to that is to hold a cluster file and packets.
-use Rattle.std.specs.Prelude.{codes, ◌≡◌, ◌⊎◌, ℕ, List, [], ◌∷◌, ◌++◌, length, Some, None, Ok, Err}
+use Rattle.std.specs.Prelude.{codes, ◌≡◌, ◌⊎◌, ℕ, List, [], ◌∷◌, ◌++◌, length, None, Ok, Err}
 use Rattle.std.specs.Fmt.{decimal}
 use Rattle.text_lines.specs.Lines.{lines_of}
 use Rattle.text_lines.specs.Parts.{parts_of}
 use Rattle.unix_calls.specs.declared.Description.{Description}
 use Rattle.cluster_file.specs.declared.Refusal.{Refusal}
-use Rattle.cluster_file.specs.Clusters.{Describes, Refuses}
+use Rattle.parted_text.specs.Parted.{HasCluster, HasRefusal}
 use Rattle.report_print.specs.Refused.{refusal_line}
 use Rattle.frames_text.specs.declared.parcel.Parcel.{Parcel}
 use Rattle.frames_text.specs.declared.answering.FramesAnswer.{FramesAnswer}
@@ -15,11 +15,9 @@ use Rattle.frames_text.specs.Reports.{AreSent}
 
 -- a cluster file stands before a line `=====`, and behind it packets between its kernels, one a line
 pub record HoldsPackets (text : List ℕ) : Type 0 where
-  pub file : List ℕ
-  pub body : List ℕ
-  pub parts : parts_of text ≡ Some (file, body)
   pub cluster : Description
-  pub describes : Describes file cluster
+  pub body : List ℕ
+  pub has : HasCluster text cluster body
   pub parcels : List Parcel
   pub are_read : parcels_read (length cluster.kernels) 1 (lines_of body) ≡ Ok parcels
 
@@ -35,20 +33,15 @@ pub record HasNoBody (text due : List ℕ) : Type 0 where
 
 -- what stands before that line is refused as a cluster file
 pub record HasBadFile (text due : List ℕ) : Type 0 where
-  pub file : List ℕ
-  pub body : List ℕ
-  pub parts : parts_of text ≡ Some (file, body)
   pub refusal : Refusal
-  pub refuses : Refuses file refusal
+  pub has : HasRefusal text refusal
   pub line_is : due ≡ refusal_line refusal
 
 -- a line behind it is the first that is no packet's between different kernels of the file, or it is one too many
 pub record HasBadLine (text due : List ℕ) : Type 0 where
-  pub file : List ℕ
-  pub body : List ℕ
-  pub parts : parts_of text ≡ Some (file, body)
   pub cluster : Description
-  pub describes : Describes file cluster
+  pub body : List ℕ
+  pub has : HasCluster text cluster body
   pub number : ℕ
   pub bad : parcels_read (length cluster.kernels) 1 (lines_of body) ≡ Err number
   pub line_is : due ≡ codes "refused: 15 line " ++ decimal number ++ 10 ∷ []
@@ -66,8 +59,3 @@ Answers faults asked before after text (Refused line) = IsTextRefusal text line
 abbrev pub BodyAnswers : {L : Type 0} → (L → ℕ → ℕ → ℕ) → (L → ℕ → ℕ → ℕ) → L → L → ℕ → List ℕ → FramesAnswer → Type 0
 BodyAnswers faults asked before after kernels body (Lines lines) = (parcels : List Parcel) × (parcels_read kernels 1 (lines_of body) ≡ Ok parcels) × AreSent faults asked before after (cuts_from 1 parcels) lines
 BodyAnswers faults asked before after kernels body (Refused line) = (number : ℕ) × (parcels_read kernels 1 (lines_of body) ≡ Err number) × (line ≡ codes "refused: 15 line " ++ decimal number ++ 10 ∷ [])
-
--- what is due for a cluster file and packets
-abbrev pub FileAnswers : {L : Type 0} → (L → ℕ → ℕ → ℕ) → (L → ℕ → ℕ → ℕ) → L → L → List ℕ → List ℕ → FramesAnswer → Type 0
-FileAnswers faults asked before after file body answer =
-    ((refusal : Refusal) × Refuses file refusal × (answer ≡ Refused (refusal_line refusal))) ⊎ ((cluster : Description) × Describes file cluster × BodyAnswers faults asked before after (length cluster.kernels) body answer)

@@ -1,18 +1,18 @@
 ghost use Rattle.std.specs.Prelude.{◌≡◌, ◌≤◌, ◌++◌, ◌∷◌, [], codes, IfOk, length};
 ghost use Rattle.std.specs.Fmt.{decimal};
 ghost use Rattle.report_print.specs.Refused.{refusal_line};
-ghost use Rattle.frames_text.specs.Texts.{Answers, BodyAnswers, FileAnswers};
+ghost use Rattle.frames_text.specs.Texts.{Answers, BodyAnswers};
 ghost use Rattle.frames_text.specs.declared.answering.FramesAnswer.TheVariants.{Refused as IsRefused};
 
-use crate::frames_error::FramesError;
 use crate::reading::read_parcels;
 use crate::reporting::send_parcels;
-use cluster_file::{FileEnd, Refusal, read_description};
+use cluster_file::Refusal;
 use link_plan::Link;
+use parted_text::{PartsEnd, read_parts};
 use report_print::refusal_line;
 use sprite_ids::{Bytes, NoMemory};
 use std::alloc::Global;
-use text_lines::parts_of;
+use text_rows::LineError;
 use unix_calls::Description;
 
 /// What is due for a text that is to hold a cluster file and packets (this project).
@@ -30,7 +30,7 @@ pub enum FramesAnswer {
 /// `read_parcels` reads them. Without such a line the text is refused by `refused: 14`; then a cluster file is refused as ever; then the
 /// first line that is no packet's is told, `refused: 15 line N`. Only then the link is loaded and asked. The one error is want of
 /// memory.
-#[tactic(auto, using(crate::proofs::TextLaws::body_short, crate::proofs::TextLaws::from_none, crate::proofs::TextLaws::from_parts))]
+#[tactic(auto, using(crate::proofs::TextLaws::body_short, crate::proofs::TextLaws::from_none, crate::proofs::TextLaws::from_described, crate::proofs::TextLaws::from_refused))]
 pub fn send_text<L: Link>(
     alloc: Global,
     link: &mut L,
@@ -39,27 +39,11 @@ pub fn send_text<L: Link>(
     requires { length text.now ≤ 67108864 }
     ensures { IfOk result (Answers L.faults L.asked link.old link.new text.now) }
 {
-    match parts_of(text) {
-        Some((file, body)) => answer_file(alloc, link, file, body),
-        None => refuse(alloc, b"refused: 14\n"),
-    }
-}
-
-// What is due for a cluster file and packets.
-#[tactic(auto, using(crate::proofs::TextLaws::from_described, crate::proofs::TextLaws::from_refused))]
-fn answer_file<L: Link>(
-    alloc: Global,
-    link: &mut L,
-    file: &[u8],
-    body: &[u8],
-) -> Result<FramesAnswer, NoMemory>
-    requires { length body.now ≤ 67108864 }
-    ensures { IfOk result (FileAnswers L.faults L.asked link.old link.new file.now body.now) }
-{
-    match read_description(alloc, file) {
-        Ok(cluster) => answer_body(alloc, link, &cluster, body),
-        Err(FileEnd::Refused(refusal)) => answer_refusal(alloc, &refusal),
-        Err(FileEnd::NoMemory) => Err(NoMemory),
+    match read_parts(alloc, text) {
+        Ok((cluster, body)) => answer_body(alloc, link, &cluster, body),
+        Err(PartsEnd::NoBody) => refuse(alloc, b"refused: 14\n"),
+        Err(PartsEnd::Refused(refusal)) => answer_refusal(alloc, &refusal),
+        Err(PartsEnd::NoMemory) => Err(NoMemory),
     }
 }
 
@@ -88,8 +72,8 @@ fn answer_body<L: Link>(
             let lines = send_parcels(alloc, link, parcels.as_slice())?;
             Ok(FramesAnswer::Lines(Bytes::of_vec(lines)))
         }
-        Err(FramesError::Line(number)) => answer_bad_line(alloc, number),
-        Err(FramesError::NoMemory) => Err(NoMemory),
+        Err(LineError::Line(number)) => answer_bad_line(alloc, number),
+        Err(LineError::NoMemory) => Err(NoMemory),
     }
 }
 

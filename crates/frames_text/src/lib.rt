@@ -4,14 +4,12 @@
 
 mod answering;
 mod digits;
-mod frames_error;
 mod parcel;
 mod reading;
 mod reporting;
 mod sending;
 
 pub use answering::{FramesAnswer, send_text};
-pub use frames_error::FramesError;
 pub use parcel::Parcel;
 pub use reading::read_parcels;
 pub use reporting::send_parcels;

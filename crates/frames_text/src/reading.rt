@@ -2,15 +2,16 @@ ghost use Rattle.std.specs.Prelude.{◌≡◌, ◌≤◌, IfOk, IfErr, IfSome, O
 ghost use Rattle.std.specs.List.{AllByRecursion};
 ghost use Rattle.text_lines.specs.Lines.{lines_of};
 ghost use Rattle.wire_format.specs.Packets.{reading};
-ghost use Rattle.frames_text.specs.Parcels.{IsBadAt, IsParcel, ends_of, parcel_at, parcel_of, parcels_read};
+ghost use Rattle.text_rows.specs.Rows.{IsBadAt};
+ghost use Rattle.frames_text.specs.Parcels.{IsParcel, ends_of, parcel_at, parcel_of, parcels_read};
 
 use crate::digits::bytes_of;
-use crate::frames_error::FramesError;
 use crate::parcel::Parcel;
 use sprite_bytes::Message;
 use sprite_ids::{Kernel, NoMemory};
 use std::alloc::Global;
 use text_lines::first_line;
+use text_rows::LineError;
 use wire_format::Packet;
 
 /// How many packets a text may have.
@@ -18,7 +19,7 @@ const MOST_PACKETS: usize = 65_535;
 
 /// The packets of a text, one a line, each spelled in lower-case hexadecimal and between different kernels of the first so many
 /// (this project). `Line` tells the first line, counted from 1, that isn't of this form, or is the 65,536th.
-pub fn read_parcels(alloc: Global, kernels: usize, text: &[u8]) -> Result<Vec<Parcel>, FramesError>
+pub fn read_parcels(alloc: Global, kernels: usize, text: &[u8]) -> Result<Vec<Parcel>, LineError>
     requires { length text.now ≤ 67108864 }
     ensures ok { IfOk result (λ parcels. parcels_read kernels 1 (lines_of text.now) ≡ Ok parcels.items) }
     ensures parcels { IfOk result (λ parcels. AllByRecursion IsParcel parcels.items) }
@@ -31,7 +32,7 @@ pub fn read_parcels(alloc: Global, kernels: usize, text: &[u8]) -> Result<Vec<Pa
     while !rest.is_empty() {
         let (line, behind) = first_line(rest);
         let Some(parcel) = parcel_at(alloc, kernels, number, line)? else {
-            return Err(FramesError::Line(number));
+            return Err(LineError::Line(number));
         };
         parcels.push(parcel)?;
         number += 1;

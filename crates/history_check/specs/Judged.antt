@@ -9,7 +9,7 @@ use Rattle.one_kernel.specs.declared.verdict.Verdict.TheVariants as verdict
 use Rattle.one_kernel.specs.Verdicts.{verdict_of}
 use Rattle.history_check.specs.declared.judgement.Judgement.{Judgement}
 use Rattle.history_check.specs.declared.judgement.Judgement.TheVariants as judgement
-use Rattle.parted_text.specs.Parted.{HasCluster, HasRefusal, most_instructions}
+use Rattle.parted_text.specs.Parted.{HasRefusal, IsDescribed, most_instructions}
 use Rattle.text_lines.specs.Parts.{parts_of}
 
 -- what a verdict tells of a history
@@ -31,15 +31,8 @@ BodyComesTo cluster body (judgement.BadLine number) = IsFirstBad body number
 BodyComesTo cluster body (judgement.Judged verdict) = IsJudgedBody cluster body verdict
 BodyComesTo cluster body _ = ⊥
 
--- a text describes a cluster, for which what stands behind it comes to that
-pub record IsDescribed (text : List ℕ) (judgement : Judgement) : Type 0 where
-  pub cluster : Description
-  pub body : List ℕ
-  pub has : HasCluster text cluster body
-  pub comes_to : BodyComesTo cluster body judgement
-
--- what a text comes to: it has no line `=====`, its cluster file has a refusal, or it describes a cluster
+-- what a text comes to: it has no line `=====`, its cluster file has a refusal, or it describes a cluster, for which its body comes to that
 abbrev pub ComesTo : List ℕ → Judgement → Type 0
 ComesTo text judgement.NoHistory = parts_of text ≡ None
 ComesTo text (judgement.Refused refusal) = HasRefusal text refusal
-ComesTo text other = IsDescribed text other
+ComesTo text other = IsDescribed text (λ cluster body. BodyComesTo cluster body other)

@@ -4,8 +4,9 @@ use Rattle.std.specs.List.{list_all, AllByRecursion}
 use Rattle.unix_calls.specs.declared.entry.Entry.{Entry}
 use Rattle.unix_calls.specs.declared.description.Description.{Description}
 use Rattle.unix_calls.specs.After.{legal}
-use Rattle.history_text.specs.Entries.{is_together}
-use Rattle.history_text.specs.Histories.{HasLine, line_of, history_of, IsHistory, IsFirstBad}
+use Rattle.history_text.specs.Entries.{entry_line, is_together}
+use Rattle.history_text.specs.Histories.{HasLine, line_of}
+use Rattle.history_text.specs.Listings.{ListingHasNoOther, PrintedIsListing, TextHasOneOther, TextIsOneListing}
 
 -- no end of a line
 abbrev pub no_break : ℕ → Bool
@@ -28,18 +29,16 @@ IsTogether e = is_together e ≡ true
 abbrev pub LegalIsTogether : Type 0
 LegalIsTogether = (c : Description) (journal : List Entry) → legal c journal ≡ true → AllByRecursion IsTogether journal
 
--- what is printed of entries is a history of these
+-- a history is a listing of entries, so what is printed of entries is a history of these, a text is the history of one list of entries at
+-- most, a history has no first bad line, and a text has one first bad line at most
 abbrev pub PrintedIsHistory : Type 0
-PrintedIsHistory = (entries : List Entry) → AllByRecursion HasLine entries → IsHistory (history_of entries) entries
+PrintedIsHistory = PrintedIsListing entry_line
 
--- a text is the history of one list of entries at most
 abbrev pub TextIsOneHistory : Type 0
-TextIsOneHistory = (text : List ℕ) (one other : List Entry) → IsHistory text one → IsHistory text other → one ≡ other
+TextIsOneHistory = TextIsOneListing entry_line
 
--- a history has no first bad line
 abbrev pub HistoryHasNoBadLine : Type 0
-HistoryHasNoBadLine = (text : List ℕ) (entries : List Entry) (number : ℕ) → IsHistory text entries → IsFirstBad text number → ⊥
+HistoryHasNoBadLine = ListingHasNoOther entry_line
 
--- a text has one first bad line at most
 abbrev pub TextHasOneBadLine : Type 0
-TextHasOneBadLine = (text : List ℕ) (one other : ℕ) → IsFirstBad text one → IsFirstBad text other → one ≡ other
+TextHasOneBadLine = TextHasOneOther entry_line

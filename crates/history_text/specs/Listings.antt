@@ -24,3 +24,21 @@ pub record IsFirstOther {A : Type 0} (line : Format A) (text : List ℕ) (number
   pub counted : number ≡ length items + 1
   pub bad : (item : A) (behind : List ℕ) → line.Fits item → rest ≢ line.printed item ++ behind
   pub goes_on : is_end rest ≡ false
+
+-- ---- what holds of all listings of a format
+
+-- what is printed of items is a listing of these
+abbrev pub PrintedIsListing : {A : Type 0} → Format A → Type 0
+PrintedIsListing {A} line = (items : List A) → AllByRecursion line.Fits items → IsListing line (flat_map line.printed items) items
+
+-- a text is the listing of one list of items at most
+abbrev pub TextIsOneListing : {A : Type 0} → Format A → Type 0
+TextIsOneListing {A} line = (text : List ℕ) (one other : List A) → IsListing line text one → IsListing line text other → one ≡ other
+
+-- a listing has no first line that is no item's
+abbrev pub ListingHasNoOther : {A : Type 0} → Format A → Type 0
+ListingHasNoOther {A} line = (text : List ℕ) (items : List A) (number : ℕ) → IsListing line text items → IsFirstOther line text number → ⊥
+
+-- a text has one such line at most
+abbrev pub TextHasOneOther : {A : Type 0} → Format A → Type 0
+TextHasOneOther line = (text : List ℕ) (one other : ℕ) → IsFirstOther line text one → IsFirstOther line text other → one ≡ other

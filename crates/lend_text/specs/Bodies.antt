@@ -1,11 +1,10 @@
 -- A text of events, and the text that answers it.
-use Rattle.std.specs.Prelude.{◌≡◌, ℕ, List, Result, Err}
+use Rattle.std.specs.Prelude.{ℕ, List, Result, Err}
 use Rattle.text_lines.specs.Lines.{lines_of}
-use Rattle.text_rows.specs.Rows.{by_head, come_to, rows_read}
+use Rattle.text_rows.specs.declared.line_error.LineError.{LineError}
+use Rattle.text_rows.specs.Rows.{IsBadAt, by_head, come_to, rows_read}
 use Rattle.host_lending.specs.declared.event.LendEvent.{LendEvent}
 use Rattle.host_lending.specs.Lending.{answers_to}
-use Rattle.lend_text.specs.declared.lend_error.LendError.{LendError}
-use Rattle.lend_text.specs.declared.lend_error.LendError.TheVariants.{Line, NoMemory}
 use Rattle.lend_text.specs.Events.{event_of, hosts_of, answers_text}
 
 -- the events of the lines, of which the first has that number; or the number of the first that is none
@@ -21,11 +20,6 @@ answered hosts lines = come_to (λ events. answers_text (answers_to hosts events
 abbrev pub answer_text : List ℕ → Result (List ℕ) ℕ
 answer_text text = by_head hosts_of answered (lines_of text)
 
--- why lines were not read so
-abbrev pub IsBadAt : {A : Type 0} → Result A ℕ → LendError → Type 0
-IsBadAt read (Line number) = read ≡ Err number
-IsBadAt read NoMemory = Unit {0}
-
 -- why no answer was given
-abbrev pub TellsLine : List ℕ → LendError → Type 0
+abbrev pub TellsLine : List ℕ → LineError → Type 0
 TellsLine text error = IsBadAt (answer_text text) error

@@ -2,14 +2,15 @@ ghost use Rattle.std.specs.Prelude.{◌≡◌, ◌≤◌, IfOk, IfErr, Ok};
 ghost use Rattle.std.specs.List.{AllByRecursion};
 ghost use Rattle.host_lending.specs.Lending.{IsWithin};
 ghost use Rattle.text_lines.specs.Lines.{lines_of};
-ghost use Rattle.lend_text.specs.Bodies.{answer_text, events_read, IsBadAt, TellsLine};
+ghost use Rattle.text_rows.specs.Rows.{IsBadAt};
+ghost use Rattle.lend_text.specs.Bodies.{answer_text, events_read, TellsLine};
 
 use crate::event::{event_of, hosts_of};
-use crate::lend_error::LendError;
 use crate::printing::answers_text;
 use host_lending::{LendEvent, run};
 use std::alloc::Global;
 use text_lines::first_line;
+use text_rows::LineError;
 
 /// The answers to the events of a text, one a line (this project).
 ///
@@ -17,16 +18,16 @@ use text_lines::first_line;
 /// `leave B`, with H and B from 1 to N. The answers are `noted`, `revoked B`, `lent H`, `moved H B`, `no host`, `returned`,
 /// `not held` and `left N`. `Line` tells the first line, counted from 1, that isn't of its form; a text without a line has
 /// none of the first form.
-pub fn lend_text(alloc: Global, text: &[u8]) -> Result<Vec<u8>, LendError>
+pub fn lend_text(alloc: Global, text: &[u8]) -> Result<Vec<u8>, LineError>
     ensures ok { IfOk result (λ answers. answer_text text.now ≡ Ok answers.items) }
     ensures err { IfErr result (TellsLine text.now) }
 {
     if text.is_empty() {
-        return Err(LendError::Line(1));
+        return Err(LineError::Line(1));
     }
     let (first, rest) = first_line(text);
     let Some(hosts) = hosts_of(first) else {
-        return Err(LendError::Line(1));
+        return Err(LineError::Line(1));
     };
     let events = read_events(alloc, hosts, rest)?;
     let answers = run(alloc, events.as_slice(), hosts)?;
@@ -35,7 +36,7 @@ pub fn lend_text(alloc: Global, text: &[u8]) -> Result<Vec<u8>, LendError>
 }
 
 // The events of the lines behind the first.
-fn read_events(alloc: Global, hosts: u8, text: &[u8]) -> Result<Vec<LendEvent>, LendError>
+fn read_events(alloc: Global, hosts: u8, text: &[u8]) -> Result<Vec<LendEvent>, LineError>
     requires { hosts ≤ 16 }
     ensures ok { IfOk result (λ events. events_read hosts 2 (lines_of text.now) ≡ Ok events.items) }
     ensures within { IfOk result (λ events. AllByRecursion (IsWithin hosts) events.items) }
@@ -47,7 +48,7 @@ fn read_events(alloc: Global, hosts: u8, text: &[u8]) -> Result<Vec<LendEvent>, 
     while !rest.is_empty() {
         let (line, behind) = first_line(rest);
         let Some(event) = event_of(hosts, line) else {
-            return Err(LendError::Line(number));
+            return Err(LineError::Line(number));
         };
         events.push(event)?;
         number += 1;

@@ -3,8 +3,6 @@
 
 mod body;
 mod event;
-mod lend_error;
 mod printing;
 
 pub use body::lend_text;
-pub use lend_error::LendError;

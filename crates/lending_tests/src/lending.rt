@@ -1,6 +1,7 @@
-use lend_text::{LendError, lend_text};
+use lend_text::lend_text;
 use std::alloc::Global;
 use std::process::Abort;
+use text_rows::LineError;
 
 /// A text of events, and what answers it.
 struct Row {
@@ -39,7 +40,7 @@ struct BadRow {
 
 fn is_bad(alloc: Global, row: &BadRow) -> bool {
     match lend_text(alloc, row.text) {
-        Err(LendError::Line(line)) => line == row.line,
+        Err(LineError::Line(line)) => line == row.line,
         _ => false,
     }
 }

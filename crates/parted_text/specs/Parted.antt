@@ -29,3 +29,10 @@ abbrev pub TellsEnd : List ℕ → PartsEnd → Type 0
 TellsEnd text NoBody = parts_of text ≡ None
 TellsEnd text (Refused refusal) = HasRefusal text refusal
 TellsEnd text NoMemory = Unit {0}
+
+-- the text describes a cluster, for which what stands behind the line is so
+pub record IsDescribed (text : List ℕ) (IsSo : Description → List ℕ → Type 0) : Type 0 where
+  pub cluster : Description
+  pub body : List ℕ
+  pub has : HasCluster text cluster body
+  pub comes_to : IsSo cluster body

@@ -1,5 +1,6 @@
-use restart_text::{RestartError, file_text};
+use restart_text::file_text;
 use std::alloc::Global;
+use text_rows::LineError;
 
 // What is to come of a text: another text, or its first bad line.
 enum Told {
@@ -65,11 +66,11 @@ fn is(alloc: Global, text: &[u8], told: &Told) -> bool {
             Told::Text(wanted) => came.as_slice() == *wanted,
             Told::Bad(_) => false,
         },
-        Err(RestartError::Line(number)) => match told {
+        Err(LineError::Line(number)) => match told {
             Told::Bad(line) => number == *line,
             Told::Text(_) => false,
         },
-        Err(RestartError::NoMemory) => false,
+        Err(LineError::NoMemory) => false,
     }
 }
 

@@ -1,40 +1,15 @@
 -- A step of a file as a line, and the file's first line.
-use Rattle.std.specs.Prelude.{codes, ℕ, ◌==◌, ◌+◌, ◌*◌, Bool, true, false, ◌&&◌, nat_le, nat_eq, if◌then◌else◌, List, length, take, drop, Option, Some, None, option_map}
-use Rattle.std.specs.List.{position_or_len}
-use Rattle.std.specs.Cmp.Lexicographic.{pointwise}
+use Rattle.std.specs.Prelude.{codes, ℕ, ◌==◌, ◌+◌, ◌*◌, Bool, true, false, ◌&&◌, nat_le, if◌then◌else◌, List, length, Option, Some, None, option_map}
 use Rattle.sprite_ids.specs.declared.StreamNo.{StreamNo}
 use Rattle.sprite_ids.specs.declared.Mode.{Mode}
 use Rattle.sprite_ids.specs.declared.Mode.TheVariants.{Read, Write, Both}
-use Rattle.text_lines.specs.Lines.{number_of}
+use Rattle.text_rows.specs.Words.{number_in, rest_of, same, word_of}
 use Rattle.field_reader.specs.Reads.{Reads}
 use Rattle.history_text.specs.Texts.{text}
 use Rattle.file_views.specs.declared.FileStep.{FileStep}
 use Rattle.file_views.specs.declared.FileStep.TheVariants as act
 use Rattle.restart_views.specs.declared.RestartStep.{RestartStep}
 use Rattle.restart_views.specs.declared.RestartStep.TheVariants as does
-
--- whether two texts are the same
-abbrev pub same : List ℕ → List ℕ → Bool
-same = pointwise nat_eq
-
--- where the first space stands, or the end
-abbrev pub space_at : List ℕ → ℕ
-space_at bytes = position_or_len (λ b. b == 32) bytes
-
--- the bytes before the first space, and those behind it
-abbrev pub word_of : List ℕ → List ℕ
-word_of bytes = take (space_at bytes) bytes
-
-abbrev pub rest_of : List ℕ → List ℕ
-rest_of bytes = drop (space_at bytes + 1) bytes
-
--- the number that a word writes in decimal, where it is from the one to the other
-abbrev pub among : ℕ → ℕ → Option ℕ → Option ℕ
-among low high (Some number) = if nat_le low number && nat_le number high then Some number else None
-among low high None = None
-
-abbrev pub number_in : ℕ → ℕ → List ℕ → Option ℕ
-number_in low high word = among low high (number_of word)
 
 -- the bytes in quotes, with nothing behind them
 abbrev pub alone : Reads (List ℕ) → Option (List ℕ)

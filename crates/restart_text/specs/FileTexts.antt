@@ -1,8 +1,10 @@
 -- A text of steps of a file, and the text of what comes of them.
-use Rattle.std.specs.Prelude.{◌≡◌, codes, ℕ, ◌+◌, List, [], ◌∷◌, ◌++◌, length, Option, Some, None, Result, Ok, Err}
+use Rattle.std.specs.Prelude.{codes, ℕ, List, [], ◌++◌, length, Result, Err}
 use Rattle.std.specs.List.{flat_map}
 use Rattle.std.specs.Fmt.{decimal}
 use Rattle.text_lines.specs.Lines.{lines_of}
+use Rattle.text_rows.specs.declared.line_error.LineError.{LineError}
+use Rattle.text_rows.specs.Rows.{IsBadAt, by_head, come_to, rows_read}
 use Rattle.history_text.specs.Texts.{text}
 use Rattle.file_views.specs.declared.FileBody.{FileBody}
 use Rattle.file_views.specs.declared.FileBody.TheVariants as form
@@ -16,8 +18,6 @@ use Rattle.restart_views.specs.declared.Outcome.TheVariants as came
 use Rattle.restart_views.specs.declared.RestartStep.{RestartStep}
 use Rattle.restart_views.specs.declared.Restarted.{Restarted}
 use Rattle.restart_views.specs.Restarts.{all_restarted, all_told}
-use Rattle.restart_text.specs.declared.restart_error.RestartError.{RestartError}
-use Rattle.restart_text.specs.declared.restart_error.RestartError.TheVariants.{Line, NoMemory}
 use Rattle.restart_text.specs.FileLines.{step_of, file_of}
 
 -- the line of a reading that took effect; of other things none
@@ -44,19 +44,9 @@ end_line v = end_numbers v ++ (codes " " ++ text.printed v.bytes ++ codes "\n")
 abbrev pub outcomes_text : List Outcome → List ℕ
 outcomes_text outcomes = flat_map outcome_line outcomes
 
--- a step before others, where each line was read
-abbrev pub before_others : RestartStep → Result (List RestartStep) ℕ → Result (List RestartStep) ℕ
-before_others one (Ok steps) = Ok (one ∷ steps)
-before_others one (Err line) = Err line
-
-abbrev pub step_read : ℕ → Option RestartStep → Result (List RestartStep) ℕ → Result (List RestartStep) ℕ
-step_read number (Some step) others = before_others step others
-step_read number None others = Err number
-
 -- the steps of the lines, of which the first has that number; or the number of the first that is none
 abbrev pub steps_read : ℕ → ℕ → List (List ℕ) → Result (List RestartStep) ℕ
-steps_read kernels number [] = Ok []
-steps_read kernels number (line ∷ lines) = step_read number (step_of kernels number line) (steps_read kernels (number + 1) lines)
+steps_read kernels number lines = rows_read (step_of kernels) number lines
 
 -- what comes of steps on a new file
 abbrev pub new_file : ℕ → List ℕ → Restarted
@@ -65,33 +55,14 @@ new_file kernels bytes = record { view = new_view kernels bytes; kept = [] }
 abbrev pub played_text : Restarted → List RestartStep → List ℕ
 played_text file steps = outcomes_text (all_told sprite_setting file steps) ++ end_line (all_restarted sprite_setting file steps).view
 
-abbrev pub played : ℕ → List ℕ → Result (List RestartStep) ℕ → Result (List ℕ) ℕ
-played kernels bytes (Ok steps) = Ok (played_text (new_file kernels bytes) steps)
-played kernels bytes (Err line) = Err line
-
-abbrev pub played_behind : Option (ℕ × List ℕ) → List (List ℕ) → Result (List ℕ) ℕ
-played_behind (Some (kernels, bytes)) lines = played kernels bytes (steps_read kernels 2 lines)
-played_behind None lines = Err 1
-
-abbrev pub played_lines : List (List ℕ) → Result (List ℕ) ℕ
-played_lines [] = Err 1
-played_lines (first ∷ lines) = played_behind (file_of first) lines
+-- what comes of the steps of the lines behind the first, on a new file
+abbrev pub played : ℕ × List ℕ → List (List ℕ) → Result (List ℕ) ℕ
+played (kernels, bytes) lines = come_to (played_text (new_file kernels bytes)) (steps_read kernels 2 lines)
 
 -- the text of what comes of a text of steps, or the number of its first line, counted from 1, that isn't of its form
 abbrev pub file_text : List ℕ → Result (List ℕ) ℕ
-file_text bytes = played_lines (lines_of bytes)
+file_text bytes = by_head file_of played (lines_of bytes)
 
 -- why no text was given
-abbrev pub TellsLine : List ℕ → RestartError → Type 0
-TellsLine bytes (Line number) = file_text bytes ≡ Err number
-TellsLine bytes NoMemory = Unit {0}
-
--- why steps were not read
-abbrev pub IsBadAt : Result (List RestartStep) ℕ → RestartError → Type 0
-IsBadAt read (Line number) = read ≡ Err number
-IsBadAt read NoMemory = Unit {0}
-
--- these steps, and then what was read
-abbrev pub behind_steps : List RestartStep → Result (List RestartStep) ℕ → Result (List RestartStep) ℕ
-behind_steps steps (Ok more) = Ok (steps ++ more)
-behind_steps steps (Err line) = Err line
+abbrev pub TellsLine : List ℕ → LineError → Type 0
+TellsLine bytes error = IsBadAt (file_text bytes) error

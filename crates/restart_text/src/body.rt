@@ -1,15 +1,16 @@
 ghost use Rattle.std.specs.Prelude.{◌≡◌, ◌≤◌, IfOk, IfErr, Ok, length};
 ghost use Rattle.text_lines.specs.Lines.{lines_of};
-ghost use Rattle.restart_text.specs.FileTexts.{file_text, played_text, new_file, steps_read, IsBadAt, TellsLine};
+ghost use Rattle.text_rows.specs.Rows.{IsBadAt};
+ghost use Rattle.restart_text.specs.FileTexts.{file_text, played_text, new_file, steps_read, TellsLine};
 
 use crate::line::{file_of, step_of};
 use crate::printing::{outcomes_text, put_end};
-use crate::restart_error::RestartError;
 use restart_views::RestartStep;
 use server_restart::Restartable;
 use sprite_ids::{Bytes, NoMemory};
 use std::alloc::Global;
 use text_lines::first_line;
+use text_rows::LineError;
 
 /// What comes of the steps of a text on one file whose server may stop (this project).
 ///
@@ -20,16 +21,16 @@ use text_lines::first_line;
 /// and BLOCK at most 63. Stream S of kernel K is the one of that number that K opens. The answer has a line `claim K granted V` or
 /// `claim K refused OWN SERVER` for each claim that is heard and a line `read K "BYTES"` for each reading that took effect, in order, and
 /// last `end version V size N "BYTES"` of the server. `Line` tells the first line, counted from 1, that isn't of its form.
-pub fn file_text(alloc: Global, text: &[u8]) -> Result<Vec<u8>, RestartError>
+pub fn file_text(alloc: Global, text: &[u8]) -> Result<Vec<u8>, LineError>
     ensures ok { IfOk result (λ told. file_text text.now ≡ Ok told.items) }
     ensures err { IfErr result (TellsLine text.now) }
 {
     if text.is_empty() {
-        return Err(RestartError::Line(1));
+        return Err(LineError::Line(1));
     }
     let (first, rest) = first_line(text);
     let Some((kernels, bytes)) = file_of(alloc, first)? else {
-        return Err(RestartError::Line(1));
+        return Err(LineError::Line(1));
     };
     let steps = read_steps(alloc, kernels, rest)?;
     let told = played_text(alloc, kernels, bytes, steps.as_slice())?;
@@ -66,7 +67,7 @@ fn tell_played(
 }
 
 // The steps of the lines behind the first.
-fn read_steps(alloc: Global, kernels: u8, text: &[u8]) -> Result<Vec<RestartStep>, RestartError>
+fn read_steps(alloc: Global, kernels: u8, text: &[u8]) -> Result<Vec<RestartStep>, LineError>
     requires { kernels ≤ 15 }
     ensures ok { IfOk result (λ steps. steps_read kernels 2 (lines_of text.now) ≡ Ok steps.items) }
     ensures err { IfErr result (IsBadAt (steps_read kernels 2 (lines_of text.now))) }
@@ -77,11 +78,11 @@ fn read_steps(alloc: Global, kernels: u8, text: &[u8]) -> Result<Vec<RestartStep
     while !rest.is_empty() {
         let (line, behind) = first_line(rest);
         let Some(step) = step_of(alloc, kernels, number, line)? else {
-            return Err(RestartError::Line(number as usize));
+            return Err(LineError::Line(number as usize));
         };
         steps.push(step)?;
         let Some(next) = number.checked_add(1) else {
-            return Err(RestartError::NoMemory);
+            return Err(LineError::NoMemory);
         };
         number = next;
         rest = behind;

@@ -4,8 +4,6 @@
 mod body;
 mod line;
 mod printing;
-mod restart_error;
 mod words;
 
 pub use body::file_text;
-pub use restart_error::RestartError;

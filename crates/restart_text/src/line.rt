@@ -1,16 +1,15 @@
 ghost use Rattle.std.specs.Prelude.{◌≡◌, ◌≤◌, IfOk, IfSome, length, option_map};
 ghost use Rattle.file_views.specs.declared.FileStep.TheVariants.{Delivering, Expiring};
 ghost use Rattle.restart_views.specs.declared.RestartStep.TheVariants.{Claim};
-ghost use Rattle.restart_text.specs.FileLines.{number_in, most_number, use_of, fits, opening, closing, reading, writing, appending, sending_back, file_step_by, step_of, file_of};
+ghost use Rattle.text_rows.specs.Words.{number_in};
+ghost use Rattle.restart_text.specs.FileLines.{most_number, use_of, fits, opening, closing, reading, writing, appending, sending_back, file_step_by, step_of, file_of};
 
-use crate::words::{
-    behind_two, kernel_in, number_in, number_of, process, quoted, rest_of, stream_in, stream_of,
-    word_of,
-};
+use crate::words::{behind_two, number_in, number_of, process, quoted, stream_in, stream_of};
 use file_views::FileStep;
 use restart_views::RestartStep;
 use sprite_ids::{BlockNo, Bytes, Mode, NoMemory};
 use std::alloc::Global;
+use text_rows::{kernel_in, rest_of, word_of};
 
 const FILE_BYTES: u32 = 262_144;
 

@@ -1,32 +1,15 @@
 ghost use Rattle.std.specs.Prelude.{◌≡◌, ◌≤◌, IfOk, IfSome};
-ghost use Rattle.restart_text.specs.FileLines.{word_of, rest_of, behind_two, number_in, quoted, stream_by, stream_of, stream_in, process};
+ghost use Rattle.text_rows.specs.Words.{number_in};
+ghost use Rattle.restart_text.specs.FileLines.{behind_two, quoted, stream_by, stream_of, stream_in, process};
 
 use field_reader::{FieldEnd, Reader};
 use history_text::Field;
 use sprite_ids::{Bytes, Kernel, NoMemory, Pid, StreamNo};
 use std::alloc::Global;
-use text_lines::{number, place_of};
+use text_lines::number;
+use text_rows::{kernel_in, rest_of, word_of};
 
 const MOST_NUMBER: u32 = 2_000_000_000;
-
-/// The bytes before the first space.
-pub(crate) fn word_of(bytes: &[u8]) -> &[u8]
-    ensures { result.now ≡ word_of bytes.now }
-{
-    &bytes[..place_of(bytes, b' ')]
-}
-
-/// The bytes behind the first space.
-pub(crate) fn rest_of(bytes: &[u8]) -> &[u8]
-    ensures { result.now ≡ rest_of bytes.now }
-{
-    let end = place_of(bytes, b' ');
-    if end < bytes.len() {
-        &bytes[end + 1..]
-    } else {
-        &bytes[bytes.len()..]
-    }
-}
 
 /// The bytes behind the second space.
 pub(crate) fn behind_two(bytes: &[u8]) -> &[u8]
@@ -52,19 +35,6 @@ pub(crate) fn number_of(word: &[u8]) -> Option<u32>
     ensures { result ≡ number_in 1 2000000000 word.now }
 {
     number_in(1, MOST_NUMBER, word)
-}
-
-/// The kernel whose number the word writes, where it is one of so many.
-pub(crate) fn kernel_in(kernels: u8, word: &[u8]) -> Option<Kernel>
-    requires { kernels ≤ 15 }
-    ensures value { result ≡ number_in 1 kernels word.now }
-    ensures within { IfSome result (λ kernel. (1 ≤ kernel) × (kernel ≤ kernels)) }
-{
-    let number = number(word)?;
-    if number < 1 || number > u64::from(kernels) {
-        return None;
-    }
-    Kernel::new(u8::try_from(number).ok()?)
 }
 
 /// The stream that the kernel of the one word opened as that of the other.

@@ -1,4 +1,4 @@
-//! The words of the command line, and the command that they spell (this project).
+//! The words of the command line, the command that they spell, and what a command writes (this project).
 #![tactic(auto)]
 
 mod command;

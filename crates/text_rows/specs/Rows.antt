@@ -1,5 +1,7 @@
 -- A text's rows, one a line, of which each is read with its line's number.
-use Rattle.std.specs.Prelude.{ℕ, ◌+◌, List, [], ◌∷◌, ◌++◌, Option, Some, None, Result, Ok, Err}
+use Rattle.std.specs.Prelude.{◌≡◌, ℕ, ◌+◌, List, [], ◌∷◌, ◌++◌, Option, Some, None, Result, Ok, Err}
+use Rattle.text_rows.specs.declared.line_error.LineError.{LineError}
+use Rattle.text_rows.specs.declared.line_error.LineError.TheVariants.{Line, NoMemory}
 
 -- a row before others, where each line was read
 abbrev pub before_others : {T : Type 0} → T → Result (List T) ℕ → Result (List T) ℕ
@@ -33,3 +35,8 @@ behind_head told None lines = Err 1
 abbrev pub by_head : {H A : Type 0} → (List ℕ → Option H) → (H → List (List ℕ) → Result A ℕ) → List (List ℕ) → Result A ℕ
 by_head head_of told [] = Err 1
 by_head head_of told (first ∷ lines) = behind_head told (head_of first) lines
+
+-- why lines were not read so
+abbrev pub IsBadAt : {A : Type 0} → Result A ℕ → LineError → Type 0
+IsBadAt read (Line number) = read ≡ Err number
+IsBadAt read NoMemory = Unit {0}

@@ -1,7 +1,7 @@
 -- What the program promises: why each of its statuses comes, and what is written with it.
-use Rattle.std.specs.Prelude.{codes, ◌≡◌, ℕ, ◌<◌, List, ◌++◌, Option, Some, None, length, take}
+use Rattle.std.specs.Prelude.{codes, ◌≡◌, ℕ, List, ◌++◌, Option, Some, None}
 use Rattle.std.specs.Fmt.{decimal}
-use Rattle.std.specs.Io.KnownBytes.{Appends, Consumes, IsAtEnd}
+use Rattle.std.specs.Io.KnownBytes.{Consumes, IsAtEnd}
 use Rattle.sprite_bytes.specs.Counts.{Rose}
 use Rattle.sprite_bytes.specs.Ends.{CameOver}
 use Rattle.report_print.specs.Refused.{refusal_line}
@@ -81,19 +81,3 @@ Causes status.TooLong words left left_after faults faults_after due = IsTooLong 
 Causes status.Usage words left left_after faults faults_after due = IsUsage words left left_after due
 Causes status.ReadFault words left left_after faults faults_after due = IsReadFault faults faults_after due
 Causes _ words left left_after faults faults_after due = ⊥
-
--- that was due, and was written
-pub record Wrote (held held_after : Option (List ℕ)) (Due : List ℕ → Type 0) : Type 0 where
-  pub due : List ℕ
-  pub is_due : Due due
-  pub wrote : Appends held held_after due
-
--- a part of what was due was written, for the status that would have come
-pub record Broke (held held_after : Option (List ℕ)) (faults faults_after : ℕ) (Due : Status → List ℕ → Type 0) : Type 0 where
-  pub status : Status
-  pub due : List ℕ
-  pub is_due : Due status due
-  pub count : ℕ
-  pub part : count < length due
-  pub wrote : Appends held held_after (take count due)
-  pub rose : Rose faults faults_after

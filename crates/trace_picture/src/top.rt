@@ -1,6 +1,7 @@
 ghost use Rattle.std.specs.Prelude.{◌≡◌, ℕ, List, Some, IfOk};
 ghost use Rattle.sprite_words.specs.Words.{spelled};
-ghost use Rattle.trace_picture.specs.Top.{Broke, Causes, IsAnswered, IsOfText, IsReadFault, IsTooLong, IsUsage, Wrote};
+ghost use Rattle.sprite_words.specs.Writing.{Broke, Wrote};
+ghost use Rattle.trace_picture.specs.Top.{Causes, IsAnswered, IsOfText, IsReadFault, IsTooLong, IsUsage};
 ghost use Rattle.trace_picture.specs.Words.{asked_of};
 
 use crate::asking::{Asked, asked_of};

@@ -31,7 +31,7 @@ trace_of records = flat_map line_of records
 
 -- ---- reading
 
--- the text is the print of these records, apart from one last line `budget` or `stalled`
+-- the text is a listing of these records
 abbrev pub IsTrace : List ℕ → List Rec → Type 0
 IsTrace text records = IsListing record_line text records
 
