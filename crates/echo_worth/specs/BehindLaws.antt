@@ -7,7 +7,7 @@ use Rattle.echo_worth.specs.declared.keys.CallTo.{CallTo}
 use Rattle.echo_worth.specs.declared.keys.EchoSlot.{EchoSlot}
 use Rattle.echo_worth.specs.declared.keys.OtherAt.{OtherAt}
 use Rattle.echo_worth.specs.declared.keys.Sender.{Sender}
-use Rattle.echo_worth.specs.declared.keys.CallAt.{CallAt}
+use Rattle.trace_tables.specs.declared.CallAt.{CallAt}
 use Rattle.echo_worth.specs.declared.kept.Kept.{Kept}
 use Rattle.echo_worth.specs.Kept.{named_kept, has_other, has_sender, has_to, sender_kept, slot_kept, in_slot, slots_have}
 use Rattle.echo_worth.specs.Echoes.{KeepsOn, KeptBehind}

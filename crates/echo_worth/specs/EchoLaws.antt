@@ -4,6 +4,7 @@ use Rattle.std.specs.List.{list_any}
 use Rattle.std.specs.Option.{option_map}
 use Rattle.std.proofs.lemmas.Bool.{and_parts, and_from, eqb-true, eq-eqb, true≢false}
 use Rattle.std.proofs.lemmas.List.Sums.{sum_by_push}
+use Rattle.sprite_ids.specs.Lists.{one_if}
 use Rattle.process_machine.specs.declared.call.Call.{Call}
 use Rattle.sprite_ids.specs.declared.names.TxNo.{TxNo}
 use Rattle.unix_calls.specs.declared.description.Description.{Description}
@@ -16,21 +17,23 @@ use Rattle.unix_calls.specs.declared.event.Rec.{Rec}
 use Rattle.call_journal.specs.Past.{Past, holds, kernel_of, no_past, past_with, past_from, some_record}
 use Rattle.call_journal.specs.Matching.{is_about, is_at, is_expire, is_last_expire, is_other_kind}
 use Rattle.call_journal.specs.Calls.{or_else, is_name_call, issued_call, issued_by}
-use Rattle.call_journal.specs.WorthPackets.{is_server, is_other_send_about, is_echo_for, is_limited_kind, is_limited_send, is_limited, is_given_up_echo, ends_at_eight, is_sent_well}
+use Rattle.call_journal.specs.WorthPackets.{is_server, is_other_send_about, is_echo_for, is_limited_kind, is_limited_send, is_given_up_echo, ends_at_eight, is_sent_well}
 use Rattle.trace_rules.specs.Lists.{any_more}
 use Rattle.trace_places.specs.Places.{TellsPlaces, is_kernel_of, place_kept}
 use Rattle.trace_places.specs.PlaceLaws.{kernel_told, places_more}
-use Rattle.echo_worth.specs.declared.keys.CallAt.{CallAt}
+use Rattle.trace_tables.specs.declared.CallAt.{CallAt}
+use Rattle.trace_tables.specs.Calls.{about_of, call_of, same_call}
 use Rattle.echo_worth.specs.declared.keys.CallTo.{CallTo}
 use Rattle.echo_worth.specs.declared.keys.EchoSlot.{EchoSlot}
 use Rattle.echo_worth.specs.declared.keys.OtherAt.{OtherAt}
 use Rattle.echo_worth.specs.declared.keys.Sender.{Sender}
 use Rattle.echo_worth.specs.declared.kept.Kept.{Kept}
 use Rattle.echo_worth.specs.Parts.{echo_well}
-use Rattle.echo_worth.specs.Kept.{same_call, same_sender, same_to, same_slot, call_of, named_kept, is_named, has_other, has_sender, has_to, count_or, sender_kept, sender_count, sender_more, slot_kept, in_slot, slots_have, has_echo, limited_with, counts_with, slots_with, NothingKept}
+use Rattle.echo_worth.specs.Kept.{same_sender, same_to, same_slot, named_kept, is_named, has_other, has_sender, has_to, count_or, sender_kept, sender_count, sender_more, slot_kept, in_slot, slots_have, has_echo, limited_with, counts_with, slots_with, NothingKept}
 use Rattle.echo_worth.specs.Echoes.{call_to, other_at, is_echo_by, is_limited_by, may_be_sent, may_come, counts_for, slots_for, others_for, others_sent, counts_sent, slots_sent, named_behind, expires_behind, limited_behind, others_behind, counts_behind, slots_behind, given_behind, GoesOn}
-use Rattle.echo_worth.specs.Told.{about_of, is_echo_to, number_in, went, was_given_up, TellsKept}
-use Rattle.echo_worth.specs.SomeLaws.{or_none, some_same, some_none, some_plain, some_behind}
+use Rattle.echo_worth.specs.Told.{is_echo_to, number_in, was_given_up, TellsKept}
+use Rattle.trace_laws.specs.SomeLaws.{or_false, some_none, some_plain, some_same}
+use Rattle.echo_worth.specs.SomeLaws.{some_behind}
 
 -- ---- looking
 
@@ -65,11 +68,6 @@ echoes_judged c kept past kernel _ told = refl
 
 -- ---- names that are equal
 
-call_is : (a b : CallAt) → same_call a b ≡ true → a ≡ b
-call_is a b h =
-    let parts = and_parts (a.pid == b.pid) (a.number == b.number) h in
-    ap₂ (λ p n. record { pid = p; number = n }) (eqb-true a.pid b.pid parts.0) (eqb-true a.number b.number parts.1)
-
 sender_is : (a b : Sender) → same_sender a b ≡ true → a ≡ b
 sender_is a b h =
     let parts = and_parts (a.kernel == b.kernel) (a.tx.0 == b.tx.0) h in
@@ -90,7 +88,7 @@ sender_turned a b = ap₂ (λ p q. p && q) (turned_equal a.kernel b.kernel) (tur
 -- ---- numbers of eight tries
 
 no_more : (b : Bool) → b ≡ (b || false)
-no_more b = sym (or_none b)
+no_more b = sym (or_false b)
 
 quiet : (before h : Bool) → before ≡ (before || (h && false))
 quiet true true = refl
@@ -129,10 +127,6 @@ limited_step c old past kernel (event.Send t to about kind) at before told =
 limited_step c old past kernel _ at before told = quiet before (kernel == at.kernel)
 
 -- ---- counts
-
-abbrev one_if : Bool → ℕ
-one_if true = 1
-one_if false = 0
 
 plus_none : (n : ℕ) → n ≡ n + 0
 plus_none n = omega arith
@@ -247,7 +241,7 @@ slots_put a at t to counts counts_after slots after false more put is =
     let count : sender_count counts_after at ≡ sender_count counts at = ap count_or (more at) ∙ ap (λ b. count_or (cond b (Some (sender_count counts a + 1)) (sender_kept counts at))) is in
     ap (λ n. slots_have after at n to) count
     ∙ slots_still a at t to counts slots after (sender_count counts at) put (λ e. absurd (true≢false (sym e ∙ is)))
-    ∙ sym (or_none (slots_have slots at (sender_count counts at) to))
+    ∙ sym (or_false (slots_have slots at (sender_count counts at) to))
 slots_put a at t to counts counts_after slots after true more put is =
     let same : sender_count counts a ≡ sender_count counts at = ap (sender_count counts) (sender_is a at is) in
     let kept : sender_count counts_after at ≡ sender_count counts a + 1 = ap count_or (more at) ∙ ap (λ b. count_or (cond b (Some (sender_count counts a + 1)) (sender_kept counts at))) is in
@@ -286,12 +280,12 @@ echo_yes w y p false z f = by w y p
     by a false false = refl
 
 echo_no : (w y p s z : Bool) → (s ≡ true → z ≡ false) → w ≡ (w || (p && s && z && y))
-echo_no w y p true z f = sym (or_none w) ∙ by w y p ∙ ap (λ v. w || (p && true && v && y)) (sym (f refl))
+echo_no w y p true z f = sym (or_false w) ∙ by w y p ∙ ap (λ v. w || (p && true && v && y)) (sym (f refl))
   where
     by : (a b d : Bool) → (a || false) ≡ (a || (d && true && false && b))
     by a b true = refl
     by a b false = refl
-echo_no w y p false z f = sym (or_none w) ∙ by w y p
+echo_no w y p false z f = sym (or_false w) ∙ by w y p
   where
     by : (a b d : Bool) → (a || false) ≡ (a || (d && false && z && b))
     by a b true = refl
@@ -299,7 +293,7 @@ echo_no w y p false z f = sym (or_none w) ∙ by w y p
 
 -- the same where it goes for the sake of no call, or isn't of no stated kind
 nothing : (w y : Bool) → w ≡ (w || (false && y))
-nothing w y = sym (or_none w)
+nothing w y = sym (or_false w)
 
 echo_adds : (c : Description) (old new : Kept) (past : Past) (kernel s : ℕ) (tx : TxNo) (a : About) (at : Sender) (to : CallTo) (b : Bool) → TellsKept c old past → is_echo_by c old kernel s (Some a) ≡ b → ((other : Sender) → sender_kept new.counts.entries other ≡ counts_with b (record { kernel = kernel; tx = tx }) old.counts.entries other) → ((slot : EchoSlot) → slot_kept new.slots.entries slot ≡ slots_with b (record { kernel = kernel; tx = tx }) (call_to a s) old.counts.entries slot (slot_kept old.slots.entries slot)) → has_echo new at to ≡ (has_echo old at to || (is_about to.call.pid to.call.number (Some a) && s == to.to && is_echo_for c past kernel to.to (Some a) && (at.kernel == kernel && at.tx.0 == tx.0)))
 echo_adds c old new past kernel s tx a at to true told is counts slots =
@@ -346,9 +340,9 @@ ended_by c old past kernel (event.Expire tx true) to told =
     (told.echoes_told (record { kernel = kernel; tx = tx }) to
     ∙ sym (some_same c (λ earlier r rest. is_echo_to c earlier r.kernel to r.event && is_at r.kernel (is_last_expire (number_in r.event)) (record { kernel = kernel; event = event.Expire tx true })) (λ earlier r rest. is_echo_to c earlier r.kernel to r.event && (kernel == r.kernel && tx.0 == number_in r.event)) (no_past c) past.records (λ earlier r rest. ended c earlier kernel tx to r)))
 ended_by c old past kernel (event.Expire tx false) to told =
-    sym (ap (λ b. has_to old.given_up.keys to || b) (some_none c (λ earlier r rest. is_echo_to c earlier r.kernel to r.event && is_at r.kernel (is_last_expire (number_in r.event)) (record { kernel = kernel; event = event.Expire tx false })) (no_past c) past.records (λ earlier r rest. ap (λ b. is_echo_to c earlier r.kernel to r.event && (kernel == r.kernel && b)) (and_none (tx.0 == number_in r.event)) ∙ not_ended (is_echo_to c earlier r.kernel to r.event) (kernel == r.kernel))) ∙ or_none (has_to old.given_up.keys to))
+    sym (ap (λ b. has_to old.given_up.keys to || b) (some_none c (λ earlier r rest. is_echo_to c earlier r.kernel to r.event && is_at r.kernel (is_last_expire (number_in r.event)) (record { kernel = kernel; event = event.Expire tx false })) (no_past c) past.records (λ earlier r rest. ap (λ b. is_echo_to c earlier r.kernel to r.event && (kernel == r.kernel && b)) (and_none (tx.0 == number_in r.event)) ∙ not_ended (is_echo_to c earlier r.kernel to r.event) (kernel == r.kernel))) ∙ or_false (has_to old.given_up.keys to))
 ended_by c old past kernel e to told =
-    sym (ap (λ b. has_to old.given_up.keys to || b) (some_none c (λ earlier r rest. is_echo_to c earlier r.kernel to r.event && is_at r.kernel (is_last_expire (number_in r.event)) (record { kernel = kernel; event = e })) (no_past c) past.records (λ earlier r rest. not_ended (is_echo_to c earlier r.kernel to r.event) (kernel == r.kernel))) ∙ or_none (has_to old.given_up.keys to))
+    sym (ap (λ b. has_to old.given_up.keys to || b) (some_none c (λ earlier r rest. is_echo_to c earlier r.kernel to r.event && is_at r.kernel (is_last_expire (number_in r.event)) (record { kernel = kernel; event = e })) (no_past c) past.records (λ earlier r rest. not_ended (is_echo_to c earlier r.kernel to r.event) (kernel == r.kernel))) ∙ or_false (has_to old.given_up.keys to))
 
 -- ---- one record more
 
@@ -388,8 +382,7 @@ echoes_go_on c old new past rec told more =
           more.limited at
           ∙ limited_step c old past rec.kernel rec.event at (has_sender old.limited.keys at) told
           ∙ ap (λ b. b || (rec.kernel == at.kernel && is_limited_send c past at.kernel at.tx.0 rec.event)) (told.limited_told at)
-          ∙ ap (λ p. is_limited c past at.kernel at.tx.0 || (rec.kernel == at.kernel && is_limited_send c p at.kernel at.tx.0 rec.event)) (sym here)
-          ∙ sym (some_plain c (λ earlier r. r.kernel == at.kernel && is_limited_send c earlier at.kernel at.tx.0 r.event) (no_past c) past.records rec);
+          ∙ sym (some_plain c (λ earlier r. r.kernel == at.kernel && is_limited_send c earlier at.kernel at.tx.0 r.event) past (no_past c) past.records rec here);
       expires_told = λ at.
           ap count_or (more.expires at)
           ∙ expires_step rec.kernel rec.event old.expires.entries at
@@ -398,8 +391,7 @@ echoes_go_on c old new past rec told more =
       echoes_told = λ at to.
           echoes_step c old new past rec.kernel rec.event at to told (more.counts, more.slots)
           ∙ ap (λ b. b || (is_echo_to c past rec.kernel to rec.event && (at.kernel == rec.kernel && at.tx.0 == number_in rec.event))) (told.echoes_told at to)
-          ∙ ap (λ p. went c at to past.records || (is_echo_to c p rec.kernel to rec.event && (at.kernel == rec.kernel && at.tx.0 == number_in rec.event))) (sym here)
-          ∙ sym (some_plain c (λ earlier r. is_echo_to c earlier r.kernel to r.event && (at.kernel == r.kernel && at.tx.0 == number_in r.event)) (no_past c) past.records rec);
+          ∙ sym (some_plain c (λ earlier r. is_echo_to c earlier r.kernel to r.event && (at.kernel == r.kernel && at.tx.0 == number_in r.event)) past (no_past c) past.records rec here);
       given_told = λ to. given_step c old new past rec to told more;
     }
 

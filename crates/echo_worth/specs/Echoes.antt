@@ -9,13 +9,14 @@ use Rattle.unix_calls.specs.declared.event.Event.TheVariants as event
 use Rattle.call_journal.specs.Calls.{or_else, is_name_call}
 use Rattle.call_journal.specs.WorthPackets.{is_server, ends_at_eight}
 use Rattle.trace_places.specs.Places.{MovesOn, is_kernel_of, place_kept}
-use Rattle.echo_worth.specs.declared.keys.CallAt.{CallAt}
+use Rattle.trace_tables.specs.declared.CallAt.{CallAt}
+use Rattle.trace_tables.specs.Calls.{call_of, same_call}
 use Rattle.echo_worth.specs.declared.keys.CallTo.{CallTo}
 use Rattle.echo_worth.specs.declared.keys.EchoSlot.{EchoSlot}
 use Rattle.echo_worth.specs.declared.keys.OtherAt.{OtherAt}
 use Rattle.echo_worth.specs.declared.keys.Sender.{Sender}
 use Rattle.echo_worth.specs.declared.kept.Kept.{Kept}
-use Rattle.echo_worth.specs.Kept.{same_call, same_other, call_of, named_kept, is_named, has_other, has_sender, has_to, sender_kept, sender_count, sender_more, slot_kept, has_echo, PutsNamed, CountsSender, limited_with, counts_with, slots_with}
+use Rattle.echo_worth.specs.Kept.{same_other, named_kept, is_named, has_other, has_sender, has_to, sender_kept, sender_count, sender_more, slot_kept, has_echo, PutsNamed, CountsSender, limited_with, counts_with, slots_with}
 
 -- the call of a packet, and the kernel to which it goes; with the kernel that sends it
 abbrev pub call_to : About → ℕ → CallTo

@@ -2,9 +2,9 @@
 use Rattle.std.specs.Prelude.{◌≡◌, ℕ, zero, suc, ◌+◌, ◌==◌, Bool, true, false, ◌&&◌, ◌||◌, if◌then◌else◌, List, [], Option, Some, None}
 use Rattle.std.specs.List.{list_any}
 use Rattle.std.specs.Map.{lookup}
-use Rattle.unix_calls.specs.declared.event.About.{About}
 use Rattle.call_journal.specs.Calls.{or_else}
-use Rattle.echo_worth.specs.declared.keys.CallAt.{CallAt}
+use Rattle.trace_tables.specs.declared.CallAt.{CallAt}
+use Rattle.trace_tables.specs.Calls.{same_call}
 use Rattle.echo_worth.specs.declared.keys.CallTo.{CallTo}
 use Rattle.echo_worth.specs.declared.keys.EchoSlot.{EchoSlot}
 use Rattle.echo_worth.specs.declared.keys.OtherAt.{OtherAt}
@@ -12,9 +12,6 @@ use Rattle.echo_worth.specs.declared.keys.Sender.{Sender}
 use Rattle.echo_worth.specs.declared.kept.Kept.{Kept}
 
 -- the same names
-abbrev pub same_call : CallAt → CallAt → Bool
-same_call a b = a.pid == b.pid && a.number == b.number
-
 abbrev pub same_sender : Sender → Sender → Bool
 same_sender a b = a.kernel == b.kernel && a.tx.0 == b.tx.0
 
@@ -26,9 +23,6 @@ same_other a b = a.kernel == b.kernel && same_to a.call b.call
 
 abbrev pub same_slot : EchoSlot → EchoSlot → Bool
 same_slot a b = same_sender a.at b.at && a.place == b.place
-
-abbrev pub call_of : About → CallAt
-call_of about = record { pid = about.pid; number = about.number }
 
 -- ---- what is kept
 

@@ -3,7 +3,6 @@ use Rattle.std.specs.Prelude.{◌≡◌, ℕ, ◌==◌, Bool, false, ◌&&◌, L
 use Rattle.std.specs.List.{list_any}
 use Rattle.std.specs.Option.{option_map}
 use Rattle.unix_calls.specs.declared.description.Description.{Description}
-use Rattle.unix_calls.specs.declared.event.About.{About}
 use Rattle.unix_calls.specs.declared.event.SendKind.TheVariants as send
 use Rattle.unix_calls.specs.declared.event.Event.{Event}
 use Rattle.unix_calls.specs.declared.event.Event.TheVariants as event
@@ -13,15 +12,13 @@ use Rattle.call_journal.specs.Matching.{is_about, is_at, is_expire}
 use Rattle.call_journal.specs.Calls.{is_name_call, issued_call}
 use Rattle.call_journal.specs.WorthPackets.{is_other_send_about, is_echo_for, is_limited, is_given_up_echo}
 use Rattle.trace_places.specs.Places.{TellsPlaces}
-use Rattle.echo_worth.specs.declared.keys.CallAt.{CallAt}
+use Rattle.trace_tables.specs.declared.CallAt.{CallAt}
+use Rattle.trace_tables.specs.Calls.{about_of}
 use Rattle.echo_worth.specs.declared.keys.CallTo.{CallTo}
 use Rattle.echo_worth.specs.declared.keys.OtherAt.{OtherAt}
 use Rattle.echo_worth.specs.declared.keys.Sender.{Sender}
 use Rattle.echo_worth.specs.declared.kept.Kept.{Kept}
 use Rattle.echo_worth.specs.Kept.{named_kept, has_other, has_sender, has_to, sender_count, has_echo}
-
-abbrev pub about_of : CallAt → About
-about_of call = record { pid = call.pid; number = call.number }
 
 -- an event of a kernel sends an echo to that kernel for the sake of that call; the number with which it goes
 abbrev pub is_echo_to : Description → Past → ℕ → CallTo → Event → Bool

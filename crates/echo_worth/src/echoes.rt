@@ -6,11 +6,12 @@ ghost use Rattle.echo_worth.specs.Kept.{has_other, is_named, named_kept};
 ghost use Rattle.echo_worth.specs.Echoes.{is_echo_by, is_limited_by};
 
 use crate::kept::Kept;
-use crate::keys::{CallAt, CallTo, OtherAt, call_of};
+use crate::keys::{CallTo, OtherAt};
 use indexmap::IndexMap;
 use process_machine::Call;
 use sprite_ids::{Kernel, Pid};
 use trace_places::{Place, place_in};
+use trace_tables::{CallAt, call_of};
 use unix_calls::{About, Description, SendKind};
 
 /// Whether a packet of a kernel is an echo: the first of no stated kind for the sake of a name call, from its process's kernel to a

@@ -8,10 +8,11 @@ use crate::kept::{
     Kept, count_sender, give_up, keep_echo, nothing_kept, put_limited, put_named, put_other,
     sender_count,
 };
-use crate::keys::{CallAt, CallTo, OtherAt, Sender, call_of};
+use crate::keys::{CallTo, OtherAt, Sender};
 use sprite_ids::{Kernel, NoMemory};
 use std::alloc::Global;
 use trace_places::keep_place;
+use trace_tables::{CallAt, call_of};
 use unix_calls::{About, Description, Event, Rec, SendKind};
 
 /// Whether each echo and each broadcast of the trace is given up at its eighth try and not before, and nothing goes to a kernel any

@@ -4,11 +4,12 @@ ghost use Rattle.call_journal.specs.Past.{no_past};
 ghost use Rattle.trace_places.specs.Places.{TellsPlaces};
 ghost use Rattle.echo_worth.specs.Kept.{CountsSender, GivesUp, GivesUpSlot, KeepsEcho, NothingKept, PutsEcho, PutsLimited, PutsNamed, PutsOther, sender_count};
 
-use crate::keys::{CallAt, CallTo, EchoSlot, OtherAt, Sender};
+use crate::keys::{CallTo, EchoSlot, OtherAt, Sender};
 use indexmap::{IndexMap, IndexSet};
 use sprite_ids::NoMemory;
 use std::alloc::Global;
 use trace_places::{Place, boot_places};
+use trace_tables::CallAt;
 use unix_calls::Description;
 
 /// What the records so far tell of echoes and broadcasts: where processes are; which calls that were issued go by names; which

@@ -1,24 +1,5 @@
-ghost use Rattle.std.specs.Prelude.{◌≡◌};
-
-use sprite_ids::{Kernel, Pid, TxNo};
-use unix_calls::About;
-
-/// A call of a process, by its number (this project).
-#[derive(Clone, Copy, Debug, PartialEq, Eq, Hash)]
-pub(crate) struct CallAt {
-    pub(crate) pid: Pid,
-    pub(crate) number: u32,
-}
-
-/// The call for whose sake a packet goes.
-pub(crate) fn call_of(about: &About) -> CallAt
-    ensures { result ≡ record { pid = about.now.pid; number = about.now.number } }
-{
-    CallAt {
-        pid: about.pid,
-        number: about.number,
-    }
-}
+use sprite_ids::{Kernel, TxNo};
+use trace_tables::CallAt;
 
 /// A remote call, at the kernel that sends it (this project).
 #[derive(Clone, Copy, Debug, PartialEq, Eq, Hash)]

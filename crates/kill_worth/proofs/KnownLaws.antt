@@ -24,7 +24,8 @@ use Rattle.kill_worth.specs.declared.known.Knowledge.{Knowledge}
 use Rattle.kill_worth.specs.Kills.{same_kill, is_kill, has_killed, was_killed, first_away, settled_away, past_away, TellsKills}
 use Rattle.kill_worth.specs.Told.{kill_sent}
 use Rattle.kill_worth.specs.Known.{issues_well, killed_processes_are_silent, away_slot, is_pid, among, is_away, away_count, away_put, away_killed, away_behind, same_request, is_sent, sent_count, sent_slot, sends_one, sends_first, sends_each, sent_about, sent_behind, has_taken, taken_behind, has_known, is_placed_in, is_placed, meets_one, meets_first, known_taken, known_behind, KeepsKnowledge, BeginsKnowledge, may_issue, is_met_away, is_call_of, has_kill, has_send, TellsKnowledge, Hearing}
-use Rattle.kill_worth.proofs.TestLaws.{or_false, and_false, same_turned, any_more}
+use Rattle.trace_laws.specs.SomeLaws.{or_false}
+use Rattle.kill_worth.proofs.TestLaws.{and_false, same_turned, any_more}
 use Rattle.kill_worth.proofs.SomeLaws.{past_last}
 use Rattle.kill_worth.proofs.KillLaws.{away_told, kills_is, kills_begin, kills_more}
 use Rattle.kill_worth.proofs.MetLaws.{kill_more, send_more, told_to, told_of, tells_is, known_more, is_there, was_taken, met_by, meets_is}

@@ -17,7 +17,8 @@ use Rattle.kill_worth.specs.declared.keys.RequestAt.{RequestAt}
 use Rattle.kill_worth.specs.Told.{kill_sent}
 use Rattle.kill_worth.specs.Known.{is_met_away, is_call_of, has_kill, is_told_by, number_of, has_send}
 use Rattle.kill_worth.proofs.TestLaws.{and_false, same_turned}
-use Rattle.kill_worth.proofs.SomeLaws.{some_same, some_none, some_if, some_plain, two_from, two_more, two_same, two_none, two_if, three_from, three_more}
+use Rattle.trace_laws.specs.SomeLaws.{some_if, some_none, some_plain, some_same}
+use Rattle.kill_worth.proofs.SomeLaws.{two_from, two_more, two_same, two_none, two_if, three_from, three_more}
 
 -- ---- kills
 

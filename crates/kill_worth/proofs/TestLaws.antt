@@ -3,14 +3,7 @@ use Rattle.std.proofs.Common.{◌≡◌, ◌∙◌, ℕ, ◌==◌, Bool, true, f
 use Rattle.std.specs.List.{list_any}
 use Rattle.std.proofs.lemmas.List.Folds.{list_any-append}
 use Rattle.std.proofs.lemmas.Bool.{eqb-true, eq-eqb}
-
-pub or_false : (b : Bool) → (b || false) ≡ b
-or_false true = refl
-or_false false = refl
-
-pub or_assoc : (a b d : Bool) → ((a || b) || d) ≡ (a || (b || d))
-or_assoc true b d = refl
-or_assoc false b d = refl
+use Rattle.trace_laws.specs.SomeLaws.{or_false}
 
 pub and_false : (b : Bool) → (b && false) ≡ false
 and_false true = refl
@@ -19,12 +12,6 @@ and_false false = refl
 pub and_assoc : (a b d : Bool) → (a && (b && d)) ≡ (a && b && d)
 and_assoc true b d = refl
 and_assoc false b d = refl
-
-pub or_and : (a b w : Bool) → ((a && w) || (b && w)) ≡ ((a || b) && w)
-or_and true b true = refl
-or_and true true false = refl
-or_and true false false = refl
-or_and false b w = refl
 
 or_turned : (a b : Bool) → (a || b) ≡ cond b true a
 or_turned true true = refl

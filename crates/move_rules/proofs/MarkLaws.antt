@@ -9,7 +9,7 @@ use Rattle.unix_calls.specs.declared.description.Description.{Description}
 use Rattle.unix_calls.specs.declared.description.EvictLine.{EvictLine}
 use Rattle.unix_calls.specs.declared.event.Event.TheVariants as event
 use Rattle.unix_calls.specs.declared.event.Rec.{Rec}
-use Rattle.move_rules.specs.declared.call_at.CallAt.{CallAt}
+use Rattle.trace_tables.specs.declared.CallAt.{CallAt}
 use Rattle.move_rules.specs.declared.evictions.DueAt.{DueAt}
 use Rattle.move_rules.specs.declared.evictions.Evictions.{Evictions}
 use Rattle.move_rules.specs.declared.evictions.Marking.{Marking}

@@ -15,9 +15,9 @@ use Rattle.call_journal.specs.Moves.{arrives_at, kernel_named, target_on_way}
 use Rattle.move_rules.specs.declared.arrivals.Arrival.{Arrival}
 use Rattle.move_rules.specs.declared.arrivals.Arrivals.{Arrivals}
 use Rattle.move_rules.specs.declared.arrivals.ThawAt.{ThawAt}
-use Rattle.move_rules.specs.declared.call_at.CallAt.{CallAt}
+use Rattle.trace_tables.specs.declared.CallAt.{CallAt}
 use Rattle.trace_places.specs.declared.places.Place.{Place}
-use Rattle.move_rules.specs.Calls.{same_call}
+use Rattle.trace_tables.specs.Calls.{same_call}
 use Rattle.move_rules.specs.Evictions.{count_or}
 use Rattle.trace_places.specs.Places.{place_kept, is_on_its_way}
 

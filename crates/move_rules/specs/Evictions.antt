@@ -13,14 +13,14 @@ use Rattle.call_journal.specs.Past.{Past, holds, child_of_entry, count_records, 
 use Rattle.call_journal.specs.Calls.{or_else}
 use Rattle.call_journal.specs.Matching.{is_any_issue, is_at, is_freeze_of, is_issue_of}
 use Rattle.call_journal.specs.Moves.{Birth, birth_of, is_due_at, is_eviction, is_left, issues_at}
-use Rattle.move_rules.specs.declared.call_at.CallAt.{CallAt}
+use Rattle.trace_tables.specs.declared.CallAt.{CallAt}
 use Rattle.move_rules.specs.declared.evictions.DueAt.{DueAt}
 use Rattle.move_rules.specs.declared.evictions.Evictions.{Evictions}
 use Rattle.move_rules.specs.declared.evictions.Marking.{Marking}
 use Rattle.move_rules.specs.declared.evictions.UsedAt.{UsedAt}
 use Rattle.move_rules.specs.declared.movers.Movers.{Movers}
 use Rattle.trace_places.specs.declared.places.Place.{Place}
-use Rattle.move_rules.specs.Calls.{has_call}
+use Rattle.trace_tables.specs.Calls.{has_call}
 use Rattle.move_rules.specs.Movers.{mover_of, moves_itself}
 use Rattle.trace_places.specs.Places.{place_kept}
 use Rattle.move_rules.specs.Whereabouts.{is_placed_at}

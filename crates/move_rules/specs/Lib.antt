@@ -1,6 +1,10 @@
 pub mod Whereabouts
-pub mod Calls
 pub mod Movers
 pub mod Evictions
 pub mod Arrivals
 pub mod Moves
+pub mod WhereLaws
+pub mod MoverLaws
+pub mod EvictionLaws
+pub mod ArrivalLaws
+pub mod MoveLaws

@@ -11,10 +11,10 @@ use Rattle.call_journal.specs.Calls.{is_move, issued_call, or_else}
 use Rattle.call_journal.specs.Formed.{last_issue}
 use Rattle.call_journal.specs.Matching.{has_event, is_entry_at, is_freeze_of, is_issue_of, is_return}
 use Rattle.call_journal.specs.Moves.{is_last_eviction}
-use Rattle.move_rules.specs.declared.call_at.CallAt.{CallAt}
+use Rattle.trace_tables.specs.declared.CallAt.{CallAt}
 use Rattle.move_rules.specs.declared.movers.Mover.{Mover}
 use Rattle.move_rules.specs.declared.movers.Movers.{Movers}
-use Rattle.move_rules.specs.Calls.{has_call, same_call}
+use Rattle.trace_tables.specs.Calls.{has_call, same_call}
 
 -- what is kept of a process; of one that did nothing so far nothing
 abbrev pub mover_or : Option Mover → Mover

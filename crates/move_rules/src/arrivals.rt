@@ -2,16 +2,16 @@ ghost use Rattle.std.specs.Prelude.{◌≡◌, ℕ, [], OnOk};
 ghost use Rattle.call_journal.specs.Calls.{move_target};
 ghost use Rattle.call_journal.specs.Moves.{kernel_from};
 ghost use Rattle.move_rules.specs.declared.arrivals.ThawAt.{ThawAt};
-ghost use Rattle.move_rules.specs.declared.call_at.CallAt.{CallAt};
+ghost use Rattle.trace_tables.specs.declared.CallAt.{CallAt};
 ghost use Rattle.move_rules.specs.Arrivals.{ArrivalsOn, DuesOn, ThawsOn, arrival_at, arrival_behind, named_target, returns_at, thaws_of, way_target};
 ghost use Rattle.trace_places.specs.Places.{place_kept, is_on_its_way};
 
-use crate::call_at::CallAt;
 use indexmap::IndexMap;
 use process_machine::{Call, Reply};
 use sprite_ids::{Bytes, Kernel, NoMemory, Pid};
 use std::alloc::Global;
 use trace_places::{Place, is_on_its_way};
+use trace_tables::CallAt;
 use unix_calls::{Description, Entry, Event, KernelLine, Rec};
 
 /// A process, as it is thawed at the kernel of that number (this project).

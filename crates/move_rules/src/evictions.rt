@@ -5,13 +5,13 @@ ghost use Rattle.move_rules.specs.Evictions.{BirthOn, DueOn, EvictionsOn, Issues
 ghost use Rattle.trace_places.specs.Places.{place_kept};
 ghost use Rattle.move_rules.specs.Whereabouts.{is_placed_at};
 
-use crate::call_at::CallAt;
 use crate::movers::Movers;
 use crate::whereabouts::is_placed_at;
 use indexmap::{IndexMap, IndexSet};
 use sprite_ids::{Kernel, NoMemory, Pid};
 use std::alloc::Global;
 use trace_places::{Place, child_of};
+use trace_tables::CallAt;
 use unix_calls::{Description, Event, EvictLine, Rec};
 
 /// An eviction of a kernel at a count of its calls, as it concerns a process (this project).

@@ -2,7 +2,6 @@
 #![tactic(auto)]
 
 mod arrivals;
-mod call_at;
 mod evictions;
 mod movers;
 mod moves;

@@ -1,15 +1,15 @@
 ghost use Rattle.std.specs.Prelude.{◌≡◌, ℕ, [], OnOk, true, if◌then◌else◌};
 ghost use Rattle.call_journal.specs.Calls.{is_move};
 ghost use Rattle.call_journal.specs.Matching.{is_entry_at, is_return};
-ghost use Rattle.move_rules.specs.declared.call_at.CallAt.{CallAt};
-ghost use Rattle.move_rules.specs.Calls.{has_call};
+ghost use Rattle.trace_tables.specs.declared.CallAt.{CallAt};
+ghost use Rattle.trace_tables.specs.Calls.{has_call};
 ghost use Rattle.move_rules.specs.Movers.{AskedOn, MoversOn, asked_at, frozen_by_itself, is_move_asked, mover_behind, mover_of, moves_itself};
 
-use crate::call_at::CallAt;
 use indexmap::{IndexMap, IndexSet};
 use process_machine::Call;
 use sprite_ids::{NoMemory, Pid};
 use std::alloc::Global;
+use trace_tables::CallAt;
 use unix_calls::Event;
 
 /// What is kept of a process (this project).

@@ -1,9 +1,10 @@
 ghost use Rattle.std.specs.Prelude.{◌≡◌, IfOk, OnOk};
 ghost use Rattle.unix_calls.specs.Lawful.{Lawful};
-ghost use Rattle.call_journal.specs.Moves.{processes_run_where_they_are};
-ghost use Rattle.call_journal.specs.Past.{no_past};
-ghost use Rattle.trace_tables.specs.Callers.{callers_of};
+ghost use Rattle.call_journal.specs.Moves.{processes_run_where_they_are, runs_well};
+ghost use Rattle.trace_tables.specs.Callers.{callers_from, callers_of};
+ghost use Rattle.trace_rules.specs.Judging.{caller_of, callers_each};
 ghost use Rattle.move_rules.specs.Moves.{KeepsMoving, TellsMoves, freezes_well, issues_well, leads_well, moves_well, thaws_well};
+ghost use Rattle.move_rules.specs.MoveLaws.{moves_on, moves_told};
 ghost use Rattle.move_rules.specs.Arrivals.{named_target};
 ghost use Rattle.trace_places.specs.Places.{place_kept};
 
@@ -15,6 +16,7 @@ use indexmap::IndexMap;
 use sprite_ids::{Kernel, NoMemory, Pid};
 use std::alloc::Global;
 use trace_places::{Place, boot_places, keep_place, place_in};
+use trace_rules::{LooksBackTold, each_keeps_told};
 use trace_tables::Caller;
 use unix_calls::{Description, Entry, Event, Rec};
 
@@ -37,7 +39,7 @@ pub fn processes_run_where_they_are(
         evictions: Evictions::new(alloc),
         arrivals: Arrivals::new(alloc),
     };
-    each_keeps(c, &mut judge, trace, callers)
+    each_keeps_told(alloc, c, &mut judge, trace, callers)
 }
 
 /// What is kept of the records so far (this project).
@@ -50,54 +52,62 @@ pub(crate) struct Moves {
     pub(crate) arrivals: Arrivals,
 }
 
-impl Moves {
-    // Whether the next record keeps the rule, by what the one-kernel Unix tells of its process.
-    fn keeps(&self, c: &Description, rec: &Rec, caller: &Caller) -> bool
-        ensures { result ≡ moves_well c.now self.now rec.now.kernel rec.now.event caller.now }
-    {
+impl LooksBackTold<Caller> for Moves {
+    ghost told_of = { caller_of };
+
+    ghost told_from = { callers_from };
+
+    ghost test = { λ c trace past rec. runs_well c past rec.kernel rec.event };
+
+    ghost tells = { λ c trace judge past. TellsMoves c judge past };
+
+    ghost fits = { λ c judge rec caller. moves_well c judge rec.kernel rec.event caller };
+
+    ghost goes_on = { λ c rec caller old new. KeepsMoving c rec old new };
+
+    fn fits(
+        &self,
+        _alloc: Global,
+        c: &Description,
+        rec: &Rec,
+        caller: &Caller,
+    ) -> Result<bool, NoMemory> {
         let kernel = rec.kernel;
         match &rec.event {
-            Event::Burst { pid, .. } => {
-                is_placed_at(&self.places, u64::from(pid.number()), kernel)
+            Event::Burst { pid, .. } => Ok(is_placed_at(
+                &self.places,
+                u64::from(pid.number()),
+                kernel,
+            )),
+            Event::Issue { pid, .. } => Ok(issues_well(self, c, *pid, kernel, caller)),
+            Event::Freeze { pid } => Ok(freezes_well(self, c, *pid, kernel)),
+            Event::Thaw { pid } => Ok(thaws_well(self, *pid, kernel)),
+            Event::Enter { entry } => Ok(leads_well(self, c, entry)),
+            Event::Return { pid, number, .. } => {
+                Ok(self.arrivals.returns_at(*pid, *number, kernel))
             }
-            Event::Issue { pid, .. } => issues_well(self, c, *pid, kernel, caller),
-            Event::Freeze { pid } => freezes_well(self, c, *pid, kernel),
-            Event::Thaw { pid } => thaws_well(self, *pid, kernel),
-            Event::Enter { entry } => leads_well(self, c, entry),
-            Event::Return { pid, number, .. } => self.arrivals.returns_at(*pid, *number, kernel),
-            _ => true,
+            _ => Ok(true),
         }
     }
 
-    // Keeps what the next record tells. The one error is want of memory; a part may be kept then.
-    fn go_on(&mut self, c: &Description, rec: &Rec) -> Result<(), NoMemory>
-        ensures { OnOk result (KeepsMoving c.now rec.now self.old self.new) }
-    {
+    fn go_on(
+        &mut self,
+        _alloc: Global,
+        c: &Description,
+        rec: &Rec,
+        _caller: &Caller,
+    ) -> Result<(), NoMemory> {
         self.arrivals.go_on(c, &self.places, rec)?;
         self.evictions.go_on(c, &self.places, &self.movers, rec)?;
         self.movers.go_on(&rec.event)?;
         keep_place(&mut self.places, rec.kernel, &rec.event)
     }
-}
 
-// Whether each record of the trace keeps the rule, from what is kept before the first.
-fn each_keeps(
-    c: &Description,
-    judge: &mut Moves,
-    trace: &[Rec],
-    callers: &[Caller],
-) -> Result<bool, NoMemory>
-    requires told { TellsMoves c.now judge.old (no_past c.now) }
-    requires called { callers.now ≡ callers_of c.now trace.now }
-    ensures { IfOk result (λ kept. kept ≡ processes_run_where_they_are c.now trace.now) }
-{
-    for (place, rec) in trace.iter().enumerate() {
-        if !judge.keeps(c, rec, &callers[place]) {
-            return Ok(false);
-        }
-        judge.go_on(c, rec)?;
-    }
-    Ok(true)
+    ghost each = { callers_each };
+
+    ghost is_told = { λ c trace judge past rec. moves_told c judge past rec };
+
+    ghost tells_on = { λ c trace old new past rec. moves_on c old new past rec };
 }
 
 // Whether a process that issues a call is there, and heeded its evictions, unless it holds a master stream.

@@ -3,6 +3,7 @@ use Rattle.std.proofs.Common.{◌≡◌, ◌∙◌, ℕ, zero, suc, ◌+◌, ◌
 use Rattle.std.proofs.lemmas.List.{take_rest}
 use Rattle.std.specs.Prelude.{count_by}
 use Rattle.std.specs.Option.{is_some}
+use Rattle.sprite_ids.specs.Lists.{one_if}
 use Rattle.unix_calls.specs.declared.description.Description.{Description}
 use Rattle.unix_calls.specs.declared.event.Event.{Event}
 use Rattle.unix_calls.specs.declared.event.Rec.{Rec}
@@ -13,7 +14,6 @@ use Rattle.call_journal.specs.Past.{Seen, opening_of, seen_from, state_by}
 use Rattle.call_journal.specs.Matching.{has_event}
 use Rattle.call_journal.specs.WorthRecords.{is_any_opened, is_any_freeze, is_opening_next, moved_opens, are_moved_opens_few}
 use Rattle.trace_forms.specs.Openings.{openings_from, openings_of}
-use Rattle.trace_rules.specs.Lists.{one_if}
 
 -- whether the first of some records makes a stream of a file
 abbrev pub is_made_next : List (Option Stream) → Bool

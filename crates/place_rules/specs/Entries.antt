@@ -16,8 +16,9 @@ use Rattle.call_journal.specs.Calls.{or_else}
 use Rattle.call_journal.specs.Matching.{has_event, is_at, is_reply_about, is_request_about, same_stream}
 use Rattle.call_journal.specs.EntryPlaces.{is_away, is_shared}
 use Rattle.trace_tables.specs.declared.Caller.{Caller}
-use Rattle.place_rules.specs.declared.call_at.CallAt.{CallAt}
-use Rattle.place_rules.specs.declared.call_at.RequestAt.{RequestAt}
+use Rattle.trace_tables.specs.declared.CallAt.{CallAt}
+use Rattle.trace_tables.specs.Calls.{has_call}
+use Rattle.place_rules.specs.declared.request_at.RequestAt.{RequestAt}
 use Rattle.place_rules.specs.declared.entries.Entries.{Entries}
 use Rattle.place_rules.specs.Pasts.{IsWhole}
 use Rattle.place_rules.specs.Stands as stands
@@ -27,12 +28,6 @@ use Rattle.trace_places.specs.declared.places.Place.{Place}
 use Rattle.trace_places.specs.Places.{place_kept, is_kernel_of, MovesOn, TellsPlaces}
 
 -- the same call, and the same at the same kernel
-abbrev pub same_call : CallAt → CallAt → Bool
-same_call a b = a.pid == b.pid && a.number == b.number
-
-abbrev pub has_call : List CallAt → CallAt → Bool
-has_call calls at = list_any (same_call at) calls
-
 abbrev pub same_request : RequestAt → RequestAt → Bool
 same_request a b = a.kernel == b.kernel && a.pid == b.pid && a.number == b.number
 

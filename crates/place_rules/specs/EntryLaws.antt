@@ -17,7 +17,7 @@ use Rattle.call_journal.specs.Calls.{or_else}
 use Rattle.call_journal.specs.Matching.{has_event, is_at, is_reply_about, is_request_about}
 use Rattle.call_journal.specs.EntryPlaces as spots
 use Rattle.trace_tables.specs.Callers.{caller_at}
-use Rattle.place_rules.specs.declared.call_at.CallAt.{CallAt}
+use Rattle.trace_tables.specs.declared.CallAt.{CallAt}
 use Rattle.place_rules.specs.declared.entries.Entries.{Entries}
 use Rattle.place_rules.specs.Entries.{stands_by, enters_well, is_away_by, made_kernel, kernel_made, served_behind, shares, EntersOn, TellsEntries}
 use Rattle.trace_rules.specs.Lists.{any_more, or_turned}

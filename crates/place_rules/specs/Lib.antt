@@ -1,4 +1,3 @@
-pub mod Judging
 pub mod Pasts
 pub mod PastLaws
 pub mod Stands

@@ -1,20 +1,21 @@
 ghost use Rattle.std.specs.Prelude.{◌≡◌, IfOk, OnOk};
 ghost use Rattle.unix_calls.specs.Lawful.{Lawful};
 ghost use Rattle.call_journal.specs.EntryPlaces.{entries_stand_at_their_kernels, stands_well};
-ghost use Rattle.trace_tables.specs.Callers.{callers_of};
+ghost use Rattle.trace_tables.specs.Callers.{callers_from, callers_of};
+ghost use Rattle.trace_rules.specs.Judging.{caller_of, callers_each};
 ghost use Rattle.place_rules.specs.Entries.{AwayOn, EntersOn, PutsServed, RepliesOn, RequestsOn, ServesOn, SharesOn, TellsEntries, enters_well, has_request, is_answered_by, made_kernel, stands_in};
 ghost use Rattle.trace_places.specs.Places.{place_kept};
 ghost use Rattle.place_rules.specs.EntryLaws.{entries_told, entries_on};
 
-use crate::call_at::{CallAt, RequestAt};
-use crate::judging::{LooksBackCalling, each_keeps_calling};
+use crate::request_at::RequestAt;
 use crate::stand::{is_at, stand_by};
 use indexmap::{IndexMap, IndexSet};
 use process_machine::{Call, Reply};
 use sprite_ids::{Kernel, NoMemory, Pid, StreamNo};
 use std::alloc::Global;
 use trace_places::{Place, boot_places, is_kernel_of, keep_place, place_in};
-use trace_tables::Caller;
+use trace_rules::{LooksBackTold, each_keeps_told};
+use trace_tables::{CallAt, Caller};
 use unix_calls::{Description, Entry, Event, Rec};
 
 /// Whether each entry of the trace stands at the kernel that does its call, whose request was taken there where that isn't its
@@ -39,7 +40,7 @@ pub fn entries_stand_at_their_kernels(
         replies: IndexSet::new(alloc),
         away: IndexSet::new(alloc),
     };
-    each_keeps_calling(c, &mut judge, trace, callers)
+    each_keeps_told(alloc, c, &mut judge, trace, callers)
 }
 
 /// What is kept of the records so far (this project).
@@ -59,24 +60,40 @@ pub(crate) struct Entries {
     pub(crate) away: IndexSet<CallAt>,
 }
 
-impl LooksBackCalling for Entries {
-    ghost test = { λ c past rec. stands_well c past rec.kernel rec.event };
+impl LooksBackTold<Caller> for Entries {
+    ghost told_of = { caller_of };
 
-    ghost tells = { λ c judge past. TellsEntries c judge past };
+    ghost told_from = { callers_from };
+
+    ghost test = { λ c trace past rec. stands_well c past rec.kernel rec.event };
+
+    ghost tells = { λ c trace judge past. TellsEntries c judge past };
 
     ghost fits = { λ c judge rec caller. enters_well c judge rec.kernel rec.event caller };
 
     ghost goes_on = { λ c rec caller old new. EntersOn rec caller old new };
 
-    fn fits(&self, c: &Description, rec: &Rec, caller: &Caller) -> bool {
+    fn fits(
+        &self,
+        _alloc: Global,
+        c: &Description,
+        rec: &Rec,
+        caller: &Caller,
+    ) -> Result<bool, NoMemory> {
         match &rec.event {
-            Event::Enter { entry } => stands_in(self, c, rec.kernel, entry, caller),
-            Event::Return { pid, number, .. } => is_answered_by(self, *pid, *number),
-            _ => true,
+            Event::Enter { entry } => Ok(stands_in(self, c, rec.kernel, entry, caller)),
+            Event::Return { pid, number, .. } => Ok(is_answered_by(self, *pid, *number)),
+            _ => Ok(true),
         }
     }
 
-    fn go_on(&mut self, _c: &Description, rec: &Rec, caller: &Caller) -> Result<(), NoMemory> {
+    fn go_on(
+        &mut self,
+        _alloc: Global,
+        _c: &Description,
+        rec: &Rec,
+        caller: &Caller,
+    ) -> Result<(), NoMemory> {
         keep_away(&mut self.away, &self.places, rec)?;
         keep_served(&mut self.devices, &self.places, caller.place, &rec.event)?;
         keep_shared(&mut self.shared, &rec.event)?;
@@ -85,9 +102,11 @@ impl LooksBackCalling for Entries {
         keep_place(&mut self.places, rec.kernel, &rec.event)
     }
 
-    ghost is_told = { entries_told };
+    ghost each = { callers_each };
 
-    ghost tells_on = { entries_on };
+    ghost is_told = { λ c trace judge past rec. entries_told c judge past rec };
+
+    ghost tells_on = { λ c trace old new past rec. entries_on c old new past rec };
 }
 
 // Whether an entry at the kernel stands where it is to stand.

@@ -1,8 +1,9 @@
 -- What went for the sake of calls is told record by record.
-use Rattle.std.proofs.Common.{◌≡◌, ◌∙◌, ℕ, ◌+◌, ◌==◌, Bool, true, false, cond, ◌&&◌, ◌||◌, not, List, [], ◌∷◌, ◌++◌, nat_le, count_by, Option, Some, None, refl, sym, ap, ap₂, subst, arith}
+use Rattle.std.proofs.Common.{◌≡◌, ◌∙◌, ℕ, ◌+◌, ◌==◌, Bool, true, false, cond, ◌&&◌, ◌||◌, not, List, [], ◌∷◌, ◌++◌, nat_le, count_by, Option, Some, None, refl, sym, ap, subst, arith}
 use Rattle.std.specs.Option.{option_map, is_some}
 use Rattle.std.specs.List.{list_any}
-use Rattle.std.proofs.lemmas.Bool.{and_parts, eqb-true}
+use Rattle.std.proofs.lemmas.Bool.{eqb-true}
+use Rattle.sprite_ids.specs.Lists.{one_if}
 use Rattle.unix_calls.specs.declared.description.Description.{Description}
 use Rattle.unix_calls.specs.declared.event.About.{About}
 use Rattle.unix_calls.specs.declared.event.SendKind.{SendKind}
@@ -12,13 +13,14 @@ use Rattle.unix_calls.specs.declared.event.Rec.{Rec}
 use Rattle.call_journal.specs.Past.{Past, past_with}
 use Rattle.call_journal.specs.Matching.{has_event, is_issue, is_about}
 use Rattle.call_journal.specs.Calls.{or_else}
-use Rattle.call_journal.specs.WorthSends.{moves_blocks, is_counted_send, is_for, given_since, are_sends_few, is_issued, sends_for, sends_well}
-use Rattle.send_worth.specs.declared.call_at.CallAt.{CallAt}
+use Rattle.call_journal.specs.WorthSends.{moves_blocks, is_counted_send, is_for, given_since, are_sends_few, sends_for, sends_well}
+use Rattle.trace_tables.specs.declared.CallAt.{CallAt}
+use Rattle.trace_tables.specs.Calls.{about_of, call_is, call_of, same_call}
 use Rattle.send_worth.specs.declared.sends.Issued.{Issued}
 use Rattle.send_worth.specs.declared.sends.Sends.{Sends}
-use Rattle.trace_rules.specs.Lists.{one_if, count_more, no_more}
+use Rattle.trace_rules.specs.Lists.{count_more, no_more}
 use Rattle.send_worth.specs.Comparisons.{shifted}
-use Rattle.send_worth.specs.Sends.{call_of, about_of, same_call, issued_at, count_or, sent_kept, sent_count, given_kept, given_count, is_few, may_send_for, may_send_about, may_send, given_more, sent_more, sent_for, issued_behind, given_behind, sent_behind, GoesOut, issuer, Balanced, TellsSends}
+use Rattle.send_worth.specs.Sends.{issued_at, count_or, sent_kept, sent_count, given_kept, given_count, may_send_for, may_send_about, may_send, sent_more, sent_for, issued_behind, given_behind, sent_behind, GoesOut, issuer, Balanced, TellsSends}
 
 abbrev at_kernel : Option Issued → Option ℕ
 at_kernel o = option_map (λ (one : Issued). one.kernel) o
@@ -56,11 +58,6 @@ pub sends_told : (c : Description) (judge : Sends) (past : Past) (rec : Rec) →
 sends_told c judge past rec told = event_told judge past rec.event told
 
 -- ---- calls that are equal
-
-call_is : (a b : CallAt) → same_call a b ≡ true → a ≡ b
-call_is a b h =
-    let parts = and_parts (a.pid == b.pid) (a.number == b.number) h in
-    ap₂ (λ p n. record { pid = p; number = n }) (eqb-true a.pid b.pid parts.0) (eqb-true a.number b.number parts.1)
 
 -- ---- the first issue
 

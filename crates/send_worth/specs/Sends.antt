@@ -1,5 +1,5 @@
 -- Packets for the sake of calls, and what they are counted against.
-use Rattle.std.specs.Prelude.{◌≡◌, ℕ, ◌+◌, ◌==◌, Bool, true, false, ◌&&◌, ◌||◌, if◌then◌else◌, List, [], ◌∷◌, nat_le, count_by, Option, Some, None}
+use Rattle.std.specs.Prelude.{◌≡◌, ℕ, ◌+◌, ◌==◌, Bool, true, false, ◌||◌, if◌then◌else◌, List, [], ◌∷◌, nat_le, count_by, Option, Some, None}
 use Rattle.std.specs.Option.{option_map}
 use Rattle.std.specs.Map.{lookup}
 use Rattle.unix_calls.specs.declared.description.Description.{Description}
@@ -12,7 +12,8 @@ use Rattle.call_journal.specs.Past.{each_record}
 use Rattle.call_journal.specs.Matching.{has_event, is_issue}
 use Rattle.call_journal.specs.Calls.{or_else}
 use Rattle.call_journal.specs.WorthSends.{moves_blocks, is_counted_send, is_for, given_since, sends_well}
-use Rattle.send_worth.specs.declared.call_at.CallAt.{CallAt}
+use Rattle.trace_tables.specs.declared.CallAt.{CallAt}
+use Rattle.trace_tables.specs.Calls.{about_of, call_of, same_call}
 use Rattle.send_worth.specs.declared.sends.Issued.{Issued}
 use Rattle.send_worth.specs.declared.sends.Sends.{Sends}
 
@@ -23,15 +24,6 @@ sends_are_issued c trace = each_record c (λ past rec rest. sends_well past rec.
 -- ---- what is kept
 
 -- a call, and the same call
-abbrev pub call_of : About → CallAt
-call_of call = record { pid = call.pid; number = call.number }
-
-abbrev pub about_of : CallAt → About
-about_of at = record { pid = at.pid; number = at.number }
-
-abbrev pub same_call : CallAt → CallAt → Bool
-same_call a b = a.pid == b.pid && a.number == b.number
-
 abbrev pub issued_at : List (CallAt × Issued) → CallAt → Option Issued
 issued_at issued at = lookup (same_call at) issued
 

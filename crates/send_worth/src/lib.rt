@@ -1,7 +1,6 @@
 //! Whether the packets of a trace go for the sake of calls, judged by one pass over its records (this project).
 #![tactic(auto)]
 
-mod call_at;
 mod free_sends;
 mod sends;
 

@@ -3,12 +3,12 @@ ghost use Rattle.call_journal.specs.WorthSends.{moves_blocks, sends_are_worth, s
 ghost use Rattle.send_worth.specs.Sends.{CountsGiven, CountsSent, GoesOut, PutsIssued, TellsSends, given_count, is_few, issued_at, may_send, may_send_about, may_send_for, sends_are_issued, sent_count};
 ghost use Rattle.send_worth.specs.SendLaws.{sends_told, sends_told_on};
 
-use crate::call_at::{CallAt, call_of};
 use crate::free_sends::free_sends_are_few;
 use indexmap::IndexMap;
 use sprite_ids::{Kernel, NoMemory};
 use std::alloc::Global;
 use trace_rules::{LooksBack, each_keeps};
+use trace_tables::{CallAt, call_of};
 use unix_calls::{About, Description, Event, Rec, SendKind};
 
 /// Whether the packets of the trace go for the sake of calls that are issued, at most 512 that move no block for one call, and one

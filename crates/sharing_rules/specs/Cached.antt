@@ -15,7 +15,8 @@ use Rattle.call_journal.specs.Matching.{same_file}
 use Rattle.call_journal.specs.Files.{mode_of, holds_block}
 use Rattle.call_journal.specs.CachedCalls.{is_between}
 use Rattle.sharing_rules.specs.declared.entry_facts.LocalUse.{LocalUse}
-use Rattle.sharing_rules.specs.declared.keys.CallAt.{CallAt}
+use Rattle.trace_tables.specs.declared.CallAt.{CallAt}
+use Rattle.trace_tables.specs.Calls.{has_call, same_call}
 use Rattle.trace_rules.specs.declared.place.FileAt.{FileAt}
 use Rattle.trace_rules.specs.Modes.{mode_at, mode_or, mode_behind}
 use Rattle.sharing_rules.specs.declared.keys.HeldAt.{HeldAt}
@@ -24,15 +25,9 @@ use Rattle.sharing_rules.specs.declared.keys.HeldAt.{HeldAt}
 abbrev pub same_held : HeldAt → HeldAt → Bool
 same_held a b = a.kernel == b.kernel && (same_file a.file b.file && a.block == b.block)
 
-abbrev pub same_call : CallAt → CallAt → Bool
-same_call a b = a.pid == b.pid && a.number == b.number
-
 -- what is kept of a block and a call
 abbrev pub has_held : List HeldAt → HeldAt → Bool
 has_held held at = list_any (same_held at) held
-
-abbrev pub has_quiet : List CallAt → CallAt → Bool
-has_quiet quiet at = list_any (same_call at) quiet
 
 -- whether the mode is on
 abbrev pub is_on_or : Option CacheMode → Bool
@@ -64,7 +59,7 @@ is_within_cache modes held kernel (Some used) =
 -- a packet goes for the sake of no call that was done in a cache
 abbrev pub is_quiet_in : List CallAt → Option About → Bool
 is_quiet_in quiet None = true
-is_quiet_in quiet (Some about) = not (has_quiet quiet (record { pid = about.pid; number = about.number }))
+is_quiet_in quiet (Some about) = not (has_call quiet (record { pid = about.pid; number = about.number }))
 
 -- a record keeps the rule
 abbrev pub is_well_cached : List (FileAt × CacheMode) → List HeldAt → List CallAt → ℕ → Event → Option LocalUse → Bool
@@ -91,11 +86,11 @@ quiet_behind _ used at before = before
 pub record CachesOn (rec : Rec) (used : Option LocalUse) (modes : List (FileAt × CacheMode)) (held : List HeldAt) (quiet : List CallAt) (modes_after : List (FileAt × CacheMode)) (held_after : List HeldAt) (quiet_after : List CallAt) : Type 0 where
   pub modes_on : (at : FileAt) → mode_at modes_after at ≡ mode_behind rec.kernel rec.event at (mode_at modes at)
   pub held_on : (at : HeldAt) → has_held held_after at ≡ held_behind rec.kernel rec.event at (has_held held at)
-  pub quiet_on : (at : CallAt) → has_quiet quiet_after at ≡ quiet_behind rec.event used at (has_quiet quiet at)
+  pub quiet_on : (at : CallAt) → has_call quiet_after at ≡ quiet_behind rec.event used at (has_call quiet at)
 
 -- what is kept is what the records tell
 pub record TellsCached (c : Description) (modes : List (FileAt × CacheMode)) (held : List HeldAt) (quiet : List CallAt) (past : Past) : Type 0 where
   pub all : past ≡ past_of c past.records
   pub modes_told : (at : FileAt) → mode_or (mode_at modes at) ≡ mode_of at.kernel at.file past.records
   pub held_told : (at : HeldAt) → has_held held at ≡ holds_block at.kernel at.file (record { 0 = at.block }) past.records
-  pub quiet_told : (at : CallAt) → has_quiet quiet at ≡ some_record c (λ earlier r rest. is_between earlier r.kernel at.pid at.number r.event rest) past.records
+  pub quiet_told : (at : CallAt) → has_call quiet at ≡ some_record c (λ earlier r rest. is_between earlier r.kernel at.pid at.number r.event rest) past.records

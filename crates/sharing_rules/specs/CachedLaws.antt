@@ -19,7 +19,8 @@ use Rattle.trace_rules.specs.ModeLaws.{mode_more}
 use Rattle.sharing_rules.specs.declared.cached_calls.CachedCalls.{CachedCalls}
 use Rattle.sharing_rules.specs.Facts.{span, span_on, use_at, local_at, facts_at}
 use Rattle.sharing_rules.specs.Judging.{Pays}
-use Rattle.sharing_rules.specs.Cached.{is_on_or, has_quiet, are_held_in, is_range_held_in, is_within_cache, is_quiet_in, is_well_cached, held_behind, CachesOn, TellsCached}
+use Rattle.trace_tables.specs.Calls.{has_call}
+use Rattle.sharing_rules.specs.Cached.{is_on_or, are_held_in, is_range_held_in, is_within_cache, is_quiet_in, is_well_cached, held_behind, CachesOn, TellsCached}
 use Rattle.sharing_rules.specs.HeldLaws.{held_more}
 use Rattle.sharing_rules.specs.QuietLaws.{past_more, quiet_more}
 
@@ -94,5 +95,5 @@ cached_goes_on c old new past rec told more = record {
       more.held_on at
       ∙ ap (λ b. held_behind rec.kernel rec.event at b) (told.held_told at)
       ∙ sym (held_more at past.records rec);
-  quiet_told = λ at. more.quiet_on at ∙ quiet_more c at past rec (has_quiet old.quiet.keys at) told.all (told.quiet_told at);
+  quiet_told = λ at. more.quiet_on at ∙ quiet_more c at past rec (has_call old.quiet.keys at) told.all (told.quiet_told at);
 }

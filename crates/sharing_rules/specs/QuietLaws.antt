@@ -13,7 +13,7 @@ use Rattle.call_journal.specs.Matching.{is_return, has_event}
 use Rattle.call_journal.specs.CachedCalls.{FileUse, use_of, is_local, is_file_use, is_cached_use, is_between}
 use Rattle.trace_rules.specs.Lists.{any_more, or_false}
 use Rattle.sharing_rules.specs.declared.entry_facts.LocalUse.{LocalUse}
-use Rattle.sharing_rules.specs.declared.keys.CallAt.{CallAt}
+use Rattle.trace_tables.specs.declared.CallAt.{CallAt}
 use Rattle.sharing_rules.specs.Facts.{span_on, use_at, local_at}
 use Rattle.sharing_rules.specs.Cached.{quiet_behind}
 

@@ -7,12 +7,12 @@ ghost use Rattle.sharing_rules.specs.CachedLaws.{cached_breaks, cached_ends, cac
 
 use crate::entry_facts::{EntryFacts, LocalUse};
 use crate::judging::{Judges, each_is_paid};
-use crate::keys::{CallAt, HeldAt};
+use crate::keys::HeldAt;
 use indexmap::{IndexMap, IndexSet};
 use sprite_ids::{CacheMode, FileId, Kernel, NoMemory};
 use std::alloc::Global;
 use trace_rules::FileAt;
-use trace_tables::Tied;
+use trace_tables::{CallAt, Tied};
 use unix_calls::{About, Description, Event, Rec};
 
 /// Whether each reading, writing or asking for the size that enters with a value at its process's own kernel finds the file's mode

@@ -1,11 +1,4 @@
-use sprite_ids::{FileId, Kernel, Pid};
-
-/// A call of a process, by its number (this project).
-#[derive(Clone, Copy, Debug, PartialEq, Eq, Hash)]
-pub(crate) struct CallAt {
-    pub(crate) pid: Pid,
-    pub(crate) number: u32,
-}
+use sprite_ids::{FileId, Kernel};
 
 /// A block in a kernel's cache; its number may be any that a range of bytes leads to (this project).
 #[derive(Clone, Copy, Debug, PartialEq, Eq, Hash)]

@@ -3,7 +3,7 @@ use Rattle.std.specs.Prelude.{◌≡◌, ℕ, List, None}
 use Rattle.unix_calls.specs.declared.description.Description.{Description}
 use Rattle.unix_calls.specs.declared.event.Rec.{Rec}
 use Rattle.trace_text.specs.Traces.{IsTrace, IsFirstBad}
-use Rattle.parted_text.specs.Parted.{HasCluster, HasRefusal, most_instructions}
+use Rattle.parted_text.specs.Parted.{HasRefusal, IsDescribed, most_instructions}
 use Rattle.text_lines.specs.Parts.{parts_of}
 use Rattle.trace_audit.specs.declared.outcome.Audit.{Audit}
 use Rattle.trace_audit.specs.declared.audited_text.AuditedText.{AuditedText}
@@ -22,15 +22,8 @@ BodyComesTo cluster body (text_audit.BadLine number) = IsFirstBad body number
 BodyComesTo cluster body (text_audit.Audited audit) = IsAudited cluster body audit
 BodyComesTo cluster body _ = ⊥
 
--- a text describes a cluster, for which what stands behind it comes to that
-pub record IsDescribed (text : List ℕ) (audited : AuditedText) : Type 0 where
-  pub cluster : Description
-  pub body : List ℕ
-  pub has : HasCluster text cluster body
-  pub comes_to : BodyComesTo cluster body audited
-
--- what a text comes to: it has no line `=====`, its cluster file has a refusal, or it describes a cluster
+-- and what a text comes to: it has no line `=====`, its cluster file is refused, or its body comes to that
 abbrev pub TextComesTo : List ℕ → AuditedText → Type 0
 TextComesTo text text_audit.NoTrace = parts_of text ≡ None
 TextComesTo text (text_audit.Refused refusal) = HasRefusal text refusal
-TextComesTo text other = IsDescribed text other
+TextComesTo text other = IsDescribed text (λ cluster body. BodyComesTo cluster body other)

@@ -1,35 +1,19 @@
 -- How many instructions the processes of a trace do.
-use Rattle.std.specs.Prelude.{◌≡◌, ◌≤◌, ℕ, ◌+◌, Bool, true, false, if◌then◌else◌, List, [], ◌∷◌, nat_lt, Option, Some, None}
+use Rattle.std.specs.Prelude.{ℕ, ◌+◌, Bool, true, false, if◌then◌else◌, List, [], ◌∷◌, nat_lt, Option, Some, None}
 use Rattle.std.specs.Option.{is_some}
 use Rattle.process_machine.specs.declared.program.Program.{Program}
 use Rattle.process_machine.specs.Machine.{Machine}
 use Rattle.process_machine.specs.Runs.{at_next_call}
 use Rattle.unix_calls.specs.declared.description.Description.{Description}
-use Rattle.unix_calls.specs.declared.entry.Entry.{Entry}
 use Rattle.unix_calls.specs.declared.event.Rec.{Rec}
 use Rattle.unix_calls.specs.declared.state.Process.{Process}
 use Rattle.unix_calls.specs.State.{Unix}
 use Rattle.unix_calls.specs.Answers.{program_at}
-use Rattle.unix_calls.specs.Boot.{boot_of}
-use Rattle.unix_calls.specs.After.{after, state_from, state_of}
-use Rattle.unix_world.specs.declared.World.{World}
-use Rattle.unix_world.specs.Among.{Ascending}
-use Rattle.unix_world.specs.Worlds.{unix_of}
-use Rattle.one_kernel.specs.declared.Verdict.TheVariants as verdict
-use Rattle.one_kernel.specs.Verdicts.{verdict_from, way_of}
+use Rattle.unix_calls.specs.After.{state_of}
 use Rattle.one_kernel.specs.Ways.{way}
 use Rattle.call_journal.specs.Journal.{journal_of}
+use Rattle.trace_walk.specs.Walks.{cost_of}
 use Rattle.trace_bursts.specs.Behind.{bursts_behind, is_issued_behind}
-
--- up to the calls of some entries behind a state
-abbrev pub cost_from : Description → Option Unix → List Entry → ℕ
-cost_from c u [] = 0
-cost_from c None (e ∷ es) = 0
-cost_from c (Some u) (e ∷ es) = way_of c u e + cost_from c (after c u e) es
-
--- up to the calls of a history's entries
-abbrev pub cost_of : Description → List Entry → ℕ
-cost_of c journal = cost_from c (Some (boot_of c)) journal
 
 -- the way of an image of some program to its next call; none where none comes
 abbrev pub call_way : Program → Machine → Option ℕ
@@ -70,21 +54,3 @@ passes_by c most trace (Some u) =
 
 abbrev pub passes_bound : Description → ℕ → List Rec → Bool
 passes_bound c most trace = passes_by c most trace (state_of c (journal_of trace))
-
--- ---- the loop
-
--- the processes that a history leads to, and what they did
-pub record CostsTo (c : Description) (journal : List Entry) (ps : List Process) (cost : ℕ) : Type 0 where
-  pub state : Unix
-  pub leads : state_of c journal ≡ Some state
-  pub processes : state.processes ≡ ps
-  pub cost_is : cost ≡ cost_of c journal
-
--- a place before the rest of a trace with a legal journal, after so many instructions
-pub record Playing (c : Description) (most : ℕ) (trace rest : List Rec) (cost : ℕ) (world : World) (ps : List Process) : Type 0 where
-  pub place : ℕ
-  pub whole : state_of c (journal_of trace) ≡ state_from c (Some (unix_of c world ps)) (journal_of rest)
-  pub costs : cost + cost_from c (Some (unix_of c world ps)) (journal_of rest) ≡ cost_of c (journal_of trace)
-  pub ascends : Ascending ps
-  pub legal : verdict_from c most place cost (unix_of c world ps) (journal_of rest) ≡ verdict.Legal
-  pub within : cost ≤ most

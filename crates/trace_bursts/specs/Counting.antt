@@ -12,11 +12,7 @@ use Rattle.unix_calls.specs.declared.state.Process.{Process}
 use Rattle.unix_calls.specs.State.{process_at}
 use Rattle.unix_calls.specs.After.{state_of}
 use Rattle.unix_world.specs.declared.World.{World}
-use Rattle.unix_world.specs.Among.{Ascending}
 use Rattle.unix_world.specs.Worlds.{unix_of}
-use Rattle.one_kernel.specs.declared.Verdict.TheVariants as verdict
-use Rattle.one_kernel.specs.Verdicts.{verdict_from}
-use Rattle.call_journal.specs.Journal.{journal_of}
 use Rattle.call_journal.specs.Past.{Past, each_from}
 use Rattle.call_journal.specs.WorthBursts.{done_since_entry}
 use Rattle.trace_bursts.specs.declared.doing.Doing.{Doing}
@@ -67,10 +63,6 @@ pub record EntersAt (entry : Entry) (way : ℕ) (old : List (ℕ × Doing)) (kep
   pub met : kept ≡ (is_none entry.call || is_met (doing_of old entry.pid) (Some way))
   pub anew : (other : ℕ) → doing_of new other ≡ without entry.pid old other
 
-abbrev pub Enters : Event → ℕ → List (ℕ × Doing) → Bool → List (ℕ × Doing) → Type 0
-Enters (event.Enter entry) way old kept new = EntersAt entry way old kept new
-Enters e way old kept new = (kept ≡ true) × (new ≡ old)
-
 -- all of these processes have met what they did
 abbrev pub all_met : Description → List Process → List (ℕ × Doing) → List Process → Bool
 all_met c ps doings [] = true
@@ -84,18 +76,27 @@ AreMet c ps doings = (pid : ℕ) → is_met (doing_of doings pid) (due_by c ps p
 abbrev pub IsIdle : Doing → Type 0
 IsIdle doing = (doing.most ≡ 0) × (doing.issued ≡ Never)
 
--- a place before the rest of a trace with a legal journal, after so many instructions
-pub record Counting (c : Description) (most : ℕ) (trace rest : List Rec) (cost : ℕ) (world : World) (ps : List Process) (doings : List (ℕ × Doing)) : Type 0 where
-  pub past : Past
-  pub place : ℕ
+-- a place before the rest of a trace
+pub record Counting (c : Description) (trace rest : List Rec) (world : World) (ps : List Process) (past : Past) (doings : List (ℕ × Doing)) : Type 0 where
   pub history : List Entry
   pub led : state_of c history ≡ Some (unix_of c world ps)
   pub unix : past.unix ≡ Some (unix_of c world ps)
-  pub ascends : Ascending ps
   pub counts : (pid : ℕ) → (doing_of doings pid).done ≡ done_since_entry pid past.records
   pub few : (pid : ℕ) → (doing_of doings pid).most ≤ (doing_of doings pid).done
   pub absent : (pid : ℕ) → process_at ps pid ≡ None → IsIdle (doing_of doings pid)
-  pub legal : verdict_from c most place cost (unix_of c world ps) (journal_of rest) ≡ verdict.Legal
-  pub within : cost ≤ most
   pub on : each_from c (λ past rec rest. keeps_count c past rec.event) past rest ≡ true → AreMet c ps doings → bursts_are_counted c trace ≡ true
   pub back : bursts_are_counted c trace ≡ true → (each_from c (λ past rec rest. keeps_count c past rec.event) past rest ≡ true) × AreMet c ps doings
+
+-- as long as all were met; else the trace doesn't keep the count
+abbrev pub CountsAt : Bool → Description → List Rec → List Rec → World → List Process → Past → List (ℕ × Doing) → Type 0
+CountsAt true c trace rest world ps past doings = Counting c trace rest world ps past doings
+CountsAt false c trace rest world ps past doings = false ≡ bursts_are_counted c trace
+
+-- nothing is judged any more where one wasn't
+abbrev pub JudgesIf : Bool → Description → List Process → Event → List (ℕ × Doing) → Bool → List (ℕ × Doing) → Type 0
+JudgesIf true c ps e old kept new = Judges c ps e old kept new
+JudgesIf false c ps e old kept new = kept ≡ false
+
+abbrev pub EntersIf : Bool → Entry → ℕ → List (ℕ × Doing) → Bool → List (ℕ × Doing) → Type 0
+EntersIf true entry way old kept new = EntersAt entry way old kept new
+EntersIf false entry way old kept new = kept ≡ false

@@ -1,7 +1,10 @@
 pub mod Going
 pub mod Doing
 pub mod Reasons
-pub mod Taking
 pub mod Counting
 pub mod Behind
 pub mod Costs
+pub mod GoingLaws
+pub mod DoingLaws
+pub mod WayLaws
+pub mod CountingLaws

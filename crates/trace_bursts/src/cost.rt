@@ -1,18 +1,17 @@
-ghost use Rattle.std.specs.Prelude.{◌≡◌, ◌≤◌, ◌+◌, IfOk};
+ghost use Rattle.std.specs.Prelude.{◌≡◌, ◌≤◌, ◌+◌, IfOk, refl};
 ghost use Rattle.unix_calls.specs.Lawful.{Lawful};
 ghost use Rattle.one_kernel.specs.Verdicts.{verdict_of};
 ghost use Rattle.one_kernel.specs.declared.Verdict.TheVariants.{Legal};
 ghost use Rattle.call_journal.specs.Journal.{journal_of};
-ghost use Rattle.trace_bursts.specs.Costs.{CostsTo, passes_bound};
+ghost use Rattle.trace_bursts.specs.Costs.{passes_bound};
 
 use crate::behind::behind_entries;
-use crate::taking::take;
 use crate::ways::ways_pass;
-use one_kernel::Applied;
-use sprite_ids::{Items, NoMemory};
+use sprite_ids::NoMemory;
 use std::alloc::Global;
-use unix_calls::{Description, Process, Rec};
-use unix_world::boot;
+use trace_walk::{Watches, walk_legal};
+use unix_calls::{Description, Entry, Process, Rec};
+use unix_world::World;
 
 /// Whether the processes of a trace do more than `most` instructions: up to the calls of its entries, by the bursts behind their last
 /// entries, and from their images there up to the calls that are issued behind these, where the bound is passed too if none comes
@@ -31,7 +30,7 @@ pub fn passes_bound(
     requires legal { verdict_of c.now most (journal_of trace.now) ≡ Legal }
     ensures { IfOk result (λ passes. passes ≡ passes_bound c.now most trace.now) }
 {
-    let (ps, cost) = played(alloc, c, trace, most)?;
+    let (ps, cost) = walk_legal(alloc, c, &mut Unwatched {}, trace, most)?;
     let behind = behind_entries(alloc, trace)?;
     let sum = sum_of(cost, behind.instructions)?;
     ways_pass(alloc, c, ps.as_slice(), &behind.issued, most, sum)
@@ -44,33 +43,39 @@ fn sum_of(a: u64, b: u64) -> Result<u64, NoMemory>
     a.checked_add(b).ok_or(NoMemory)
 }
 
-// The processes behind a trace's journal, and how many instructions they did up to the calls of its entries.
-fn played(
-    alloc: Global,
-    c: &Description,
-    trace: &[Rec],
-    most: u64,
-) -> Result<(Items<Process>, u64), NoMemory>
-    requires lawful { Lawful c.now }
-    requires bound { most ≤ 40000000000 }
-    requires legal { verdict_of c.now most (journal_of trace.now) ≡ Legal }
-    ensures { IfOk result (λ end. CostsTo c.now (journal_of trace.now) end.0 end.1) }
-{
-    let (mut world, mut processes) = boot(alloc, c)?;
-    let mut cost: u64 = 0;
-    for rec in trace {
-        match take(
-            alloc,
-            c,
-            &mut world,
-            &mut processes,
-            most - cost,
-            &rec.event,
-        )? {
-            Applied::Made(way) => cost += way,
-            Applied::NotMade => unreachable!(),
-            Applied::Far => unreachable!(),
-        }
+/// Nothing is kept of the records (this project).
+#[derive(Drop)]
+pub(crate) struct Unwatched {}
+
+impl Watches for Unwatched {
+    ghost tells = { λ c trace watch world ps past rest. watch ≡ watch };
+
+    ghost sees = { λ c world ps rec old new. new ≡ old };
+
+    ghost heeds = { λ world place way entry old new. new ≡ old };
+
+    fn see(
+        &mut self,
+        _alloc: Global,
+        _c: &Description,
+        _world: &World,
+        _ps: &[Process],
+        _rec: &Rec,
+    ) -> Result<(), NoMemory> {
+        Ok(())
     }
-    Ok((processes, cost))
+
+    fn heed(
+        &mut self,
+        _world: &World,
+        _place: u32,
+        _way: u64,
+        _entry: &Entry,
+    ) -> Result<(), NoMemory> {
+        Ok(())
+    }
+
+    ghost passes = { λ c trace old new world ps past rec rest unix ascends other told sees. refl };
+
+    ghost goes_in = { λ c trace old mid new world later ps qs past kernel way entry rest lawful unix ascends makes told sees heeds. refl };
 }

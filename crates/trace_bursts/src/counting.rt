@@ -8,16 +8,16 @@ ghost use Rattle.one_kernel.specs.declared.Verdict.TheVariants.{Legal};
 ghost use Rattle.call_journal.specs.Journal.{journal_of};
 ghost use Rattle.trace_bursts.specs.Reasons.{bursts_are_counted};
 ghost use Rattle.trace_bursts.specs.Doing.{due_by, is_met};
-ghost use Rattle.trace_bursts.specs.Counting.{BurstsOn, Enters, EntersAt, IssuesOn, Judges, all_met, doing_of, without};
+ghost use Rattle.trace_bursts.specs.Counting.{BurstsOn, CountsAt, EntersAt, EntersIf, IssuesOn, Judges, JudgesIf, all_met, doing_of, without};
+ghost use Rattle.trace_bursts.specs.CountingLaws.{counts_enter, counts_pass};
 
 use crate::doing::Doing;
-use crate::taking::take;
 use indexmap::IndexMap;
-use one_kernel::Applied;
 use sprite_ids::{NoMemory, Pid};
 use std::alloc::Global;
+use trace_walk::{Watches, walk_legal};
 use unix_calls::{Description, Entry, Event, Process, Rec};
-use unix_world::{boot, find};
+use unix_world::{World, find};
 
 /// Whether the bursts of a trace's processes do no more instructions than there are before their next calls, and exactly these where a
 /// call is issued. The journal must be legal, with processes that do at most `most` instructions in all. The one error is want of
@@ -36,33 +36,62 @@ pub(crate) fn bursts_are_counted(
     requires legal { verdict_of c.now most (journal_of trace.now) ≡ Legal }
     ensures { IfOk result (λ kept. kept ≡ bursts_are_counted c.now trace.now) }
 {
-    let (mut world, mut processes) = boot(alloc, c)?;
-    let mut doings = IndexMap::new(alloc);
-    let mut cost: u64 = 0;
-    for rec in trace {
-        if !judge(alloc, c, processes.as_slice(), &mut doings, &rec.event)? {
-            return Ok(false);
-        }
-        match take(
-            alloc,
-            c,
-            &mut world,
-            &mut processes,
-            most - cost,
-            &rec.event,
-        )? {
-            Applied::Made(way) => {
-                if !enter(&mut doings, &rec.event, way) {
-                    return Ok(false);
-                }
-                cost += way;
-            }
-            Applied::NotMade => unreachable!(),
-            Applied::Far => unreachable!(),
-        }
+    let mut watch = Counts {
+        doings: IndexMap::new(alloc),
+        kept: true,
+    };
+    let (ps, _cost) = walk_legal(alloc, c, &mut watch, trace, most)?;
+    if !watch.kept {
+        return Ok(false);
     }
-    let ps = processes.as_slice();
-    are_all_met(alloc, c, ps, &doings)
+    are_all_met(alloc, c, ps.as_slice(), &watch.doings)
+}
+
+/// What the bursts of all processes did since their last entries, as long as all were met (this project).
+#[derive(Drop)]
+pub(crate) struct Counts {
+    pub(crate) doings: IndexMap<Pid, Doing>,
+    /// Whether all were.
+    pub(crate) kept: bool,
+}
+
+impl Watches for Counts {
+    ghost tells = { λ c trace watch world ps past rest. CountsAt watch.kept c trace rest world ps past watch.doings.entries };
+
+    ghost sees = { λ c world ps rec old new. JudgesIf old.kept c ps rec.event old.doings.entries new.kept new.doings.entries };
+
+    ghost heeds = { λ world place way entry old new. EntersIf old.kept entry way old.doings.entries new.kept new.doings.entries };
+
+    fn see(
+        &mut self,
+        alloc: Global,
+        c: &Description,
+        _world: &World,
+        ps: &[Process],
+        rec: &Rec,
+    ) -> Result<(), NoMemory> {
+        if self.kept {
+            self.kept = judge(alloc, c, ps, &mut self.doings, &rec.event)?;
+        }
+        Ok(())
+    }
+
+    fn heed(
+        &mut self,
+        _world: &World,
+        _place: u32,
+        way: u64,
+        entry: &Entry,
+    ) -> Result<(), NoMemory> {
+        if self.kept {
+            self.kept = enter_at(&mut self.doings, entry, way);
+        }
+        Ok(())
+    }
+
+    ghost passes = { counts_pass };
+
+    ghost goes_in = { counts_enter };
 }
 
 // Keeps what a burst or an issue does; of a death, tells whether its process's bursts are met before it.
@@ -153,15 +182,6 @@ fn is_met_there(
 }
 
 // Begins anew behind an entry, and tells whether its process's bursts are met by its way to its call.
-fn enter(doings: &mut IndexMap<Pid, Doing>, event: &Event, way: u64) -> bool
-    ensures { Enters event.now way doings.old.entries result doings.new.entries }
-{
-    match event {
-        Event::Enter { entry } => enter_at(doings, entry, way),
-        _ => true,
-    }
-}
-
 fn enter_at(doings: &mut IndexMap<Pid, Doing>, entry: &Entry, way: u64) -> bool
     ensures { EntersAt entry.now way doings.old.entries result doings.new.entries }
 {

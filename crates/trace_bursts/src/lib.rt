@@ -9,7 +9,6 @@ mod counting;
 mod doing;
 mod going;
 mod reasons;
-mod taking;
 mod ways;
 
 pub use bursts::bursts_are_worth;

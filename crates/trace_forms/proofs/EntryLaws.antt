@@ -1,10 +1,8 @@
 -- What is kept of the entries that open files tells of the records, from one to the next.
-use Rattle.std.proofs.Common.{◌≡◌, ◌∙◌, ℕ, ◌==◌, Bool, true, false, cond, ◌&&◌, ◌||◌, not, List, [], ◌∷◌, ◌++◌, Option, Some, None, refl, sym, ap, ap₂, subst}
+use Rattle.std.proofs.Common.{◌≡◌, ◌∙◌, ℕ, ◌==◌, Bool, true, false, cond, ◌&&◌, ◌||◌, List, [], ◌∷◌, ◌++◌, Option, Some, None, refl, sym, ap, ap₂, subst}
 use Rattle.std.specs.List.{list_all, list_any}
-use Rattle.std.specs.Option.{option_map}
-use Rattle.std.proofs.lemmas.Bool.{and_parts, eqb-true, eq-eqb, true≢false, or_left, or_right, or_cases}
+use Rattle.std.proofs.lemmas.Bool.{and_parts, eqb-true, eq-eqb, true≢false, or_left, or_right}
 use Rattle.std.proofs.lemmas.List.{append-nil}
-use Rattle.sprite_ids.specs.Pid.{home_of}
 use Rattle.sprite_ids.specs.declared.names.FileId.{FileId}
 use Rattle.unix_calls.specs.declared.description.Description.{Description}
 use Rattle.unix_calls.specs.declared.entry.Entry.{Entry}
@@ -15,20 +13,20 @@ use Rattle.unix_calls.specs.declared.state.FileName.{FileName}
 use Rattle.unix_calls.specs.declared.state.FileName.TheVariants.{Boot, Made}
 use Rattle.unix_calls.specs.declared.state.Object.{Object}
 use Rattle.unix_calls.specs.declared.state.Object.TheVariants.{OfFile, OfDevice, OfMaster}
-use Rattle.unix_calls.specs.declared.state.Process.{Process}
 use Rattle.unix_calls.specs.declared.state.Stream.{Stream}
 use Rattle.unix_calls.specs.State.{same_file as same_name}
-use Rattle.unix_calls.specs.Boot.{boot_of}
-use Rattle.call_journal.specs.Calls.{or_else}
 use Rattle.call_journal.specs.Formed.{are_alike, tie_agrees, is_due_name, is_entered_well, opens_well}
 use Rattle.call_journal.specs.Matching.{same_file}
-use Rattle.call_journal.specs.Past.{Past, Tie, Whereabouts, holds, whereabouts_of, with_whereabouts, with_child, child_of_entry, moved_by, at_homes, state_by, last_event, stream_made, entry_count, is_of_file, file_stream, made_by, opening_of, seen_at, tie_to, ties_to, ties_by, no_past, past_with, kernel_of}
-use Rattle.trace_forms.specs.Openings.{openings_from, openings_of}
+use Rattle.call_journal.specs.Past.{Past, Tie, state_by, last_event, stream_made, entry_count, is_of_file, file_stream, made_by, tie_to, ties_to, ties_by, no_past, past_with}
+use Rattle.trace_places.specs.declared.places.Place.{Place}
+use Rattle.trace_places.specs.PlaceLaws.{kernel_told, places_more}
+use Rattle.trace_places.specs.Places.{MovesOn, TellsPlaces, is_kernel_of, place_kept}
+use Rattle.trace_forms.specs.Openings.{openings_of}
 use Rattle.trace_forms.specs.declared.places.FileFor.{FileFor}
 use Rattle.trace_forms.specs.declared.entries.Names.{Names}
 use Rattle.trace_forms.specs.Parts.{is_entry_well}
 use Rattle.trace_forms.specs.Uses.{first_opening}
-use Rattle.trace_forms.specs.Entries.{kernel_at, kernel_in, are_homes, child_behind, kernel_behind, name_at, place_at, file_at, is_free_name, is_free_file, PutsName, PutsObject, KeepsNames, opened_by, opened_in, is_kernel, object_fits, stream_fits, entry_fits, is_pair, is_named, is_filed, TellsNames, TellsEntries}
+use Rattle.trace_forms.specs.Entries.{name_at, place_at, file_at, is_free_name, is_free_file, PutsName, PutsObject, KeepsNames, opened_by, opened_in, object_fits, stream_fits, entry_fits, is_pair, is_named, is_filed, TellsNames, TellsEntries}
 use Rattle.trace_forms.proofs.ListLaws.{any_more, tail_of, last_more, stays, cond_self, and_true}
 
 -- ---- names and files that are the same
@@ -126,86 +124,38 @@ agree_told names ties name file told =
 
 -- ---- judging
 
-kernel_is : (o : Option Whereabouts) (to : ℕ) → holds (λ at. at == to) (option_map (λ (w : Whereabouts). w.kernel) o) ≡ is_kernel (option_map (λ (w : Whereabouts). w.kernel) o) to
-kernel_is None to = refl
-kernel_is (Some w) to = refl
-
 regrouped : (p d x y : Bool) → (p && d && (x && y)) ≡ (p && (d && x && y))
 regrouped false d x y = refl
 regrouped true true x y = refl
 regrouped true false x y = refl
 
 -- behind what the last record opened
-behind_opened : (c : Description) (kernels : List (ℕ × ℕ)) (names : Names) (past : Past) (kernel pid : ℕ) (name : FileName) (s : Stream) (o : Option Event) → s.object ≡ OfFile name → ((p : ℕ) → kernel_at kernels p ≡ kernel_in past.processes p) → TellsNames names past.ties → is_entered_well c past kernel pid (OfFile name) o ≡ stream_fits c kernels names kernel pid (opened_in o) (Some s)
-behind_opened c kernels names past kernel pid name s None is where_told told = refl
-behind_opened c kernels names past kernel pid name s (Some (event.Opened file stream to m)) is where_told told =
+behind_opened : (c : Description) (places : List (ℕ × Place)) (names : Names) (past : Past) (kernel pid : ℕ) (name : FileName) (s : Stream) (o : Option Event) → s.object ≡ OfFile name → TellsPlaces places past.processes → TellsNames names past.ties → is_entered_well c past kernel pid (OfFile name) o ≡ stream_fits c places names kernel pid (opened_in o) (Some s)
+behind_opened c places names past kernel pid name s None is where_told told = refl
+behind_opened c places names past kernel pid name s (Some (event.Opened file stream to m)) is where_told told =
     ap₂ (λ a b. a && kernel == file.server && is_due_name c name file && b)
-    (kernel_is (whereabouts_of past.processes pid) to ∙ ap (λ k. is_kernel k to) (sym (where_told pid)))
+    (kernel_told places past pid to where_told)
     (agree_told names past.ties name file told)
-    ∙ regrouped (is_kernel (kernel_at kernels pid) to && kernel == file.server) (is_due_name c name file) (is_free_name (name_at names.names.entries file) name) (is_free_file (file_at names name) file)
-    ∙ ap (λ x. is_kernel (kernel_at kernels pid) to && kernel == file.server && object_fits c names file x) (sym is)
-behind_opened c kernels names past kernel pid name s (Some _) is where_told told = refl
+    ∙ regrouped (is_kernel_of to (place_kept places pid) && kernel == file.server) (is_due_name c name file) (is_free_name (name_at names.names.entries file) name) (is_free_file (file_at names name) file)
+    ∙ ap (λ x. is_kernel_of to (place_kept places pid) && kernel == file.server && object_fits c names file x) (sym is)
+behind_opened c places names past kernel pid name s (Some _) is where_told told = refl
 
-by_object : (c : Description) (kernels : List (ℕ × ℕ)) (names : Names) (past : Past) (kernel pid : ℕ) (s : Stream) (x : Object) → s.object ≡ x → ((p : ℕ) → kernel_at kernels p ≡ kernel_in past.processes p) → TellsNames names past.ties → is_entered_well c past kernel pid x (last_event past.records) ≡ stream_fits c kernels names kernel pid (opened_in (last_event past.records)) (cond (is_of_file x) (Some s) None)
-by_object c kernels names past kernel pid s (OfFile name) is where_told told = behind_opened c kernels names past kernel pid name s (last_event past.records) is where_told told
-by_object c kernels names past kernel pid s (OfDevice place) is where_told told = refl
-by_object c kernels names past kernel pid s (OfMaster place) is where_told told = refl
+by_object : (c : Description) (places : List (ℕ × Place)) (names : Names) (past : Past) (kernel pid : ℕ) (s : Stream) (x : Object) → s.object ≡ x → TellsPlaces places past.processes → TellsNames names past.ties → is_entered_well c past kernel pid x (last_event past.records) ≡ stream_fits c places names kernel pid (opened_in (last_event past.records)) (cond (is_of_file x) (Some s) None)
+by_object c places names past kernel pid s (OfFile name) is where_told told = behind_opened c places names past kernel pid name s (last_event past.records) is where_told told
+by_object c places names past kernel pid s (OfDevice place) is where_told told = refl
+by_object c places names past kernel pid s (OfMaster place) is where_told told = refl
 
-by_made : (c : Description) (kernels : List (ℕ × ℕ)) (names : Names) (past : Past) (kernel : ℕ) (entry : Entry) (o : Option Stream) → ((p : ℕ) → kernel_at kernels p ≡ kernel_in past.processes p) → TellsNames names past.ties → opens_well c past kernel entry o ≡ stream_fits c kernels names kernel entry.pid (opened_in (last_event past.records)) (file_stream o)
-by_made c kernels names past kernel entry None where_told told = none_fits (opened_in (last_event past.records))
+by_made : (c : Description) (places : List (ℕ × Place)) (names : Names) (past : Past) (kernel : ℕ) (entry : Entry) (o : Option Stream) → TellsPlaces places past.processes → TellsNames names past.ties → opens_well c past kernel entry o ≡ stream_fits c places names kernel entry.pid (opened_in (last_event past.records)) (file_stream o)
+by_made c places names past kernel entry None where_told told = none_fits (opened_in (last_event past.records))
   where
-    none_fits : (o : Option FileFor) → true ≡ stream_fits c kernels names kernel entry.pid o None
+    none_fits : (o : Option FileFor) → true ≡ stream_fits c places names kernel entry.pid o None
     none_fits None = refl
     none_fits (Some opened) = refl
-by_made c kernels names past kernel entry (Some s) where_told told = by_object c kernels names past kernel entry.pid s s.object refl where_told told
+by_made c places names past kernel entry (Some s) where_told told = by_object c places names past kernel entry.pid s s.object refl where_told told
 
-told_of : (c : Description) (kernels : List (ℕ × ℕ)) (names : Names) (past : Past) (kernel : ℕ) (e : Event) → ((p : ℕ) → kernel_at kernels p ≡ kernel_in past.processes p) → TellsNames names past.ties → is_entry_well c past kernel e ≡ entry_fits c kernels names (opened_in (last_event past.records)) kernel e (file_stream (made_by (entry_count past.unix) e (state_by c e past.unix)))
-told_of c kernels names past kernel (event.Enter entry) where_told told = by_made c kernels names past kernel entry (stream_made (entry_count past.unix) (state_by c (event.Enter entry) past.unix)) where_told told
-told_of c kernels names past kernel _ where_told told = refl
-
--- ---- one record more: where processes are
-
-kernel_put : (w : Whereabouts) (ws : List Whereabouts) (pid : ℕ) → whereabouts_of (with_whereabouts w ws) pid ≡ cond (w.pid == pid) (Some w) (whereabouts_of ws pid)
-kernel_put w [] pid = refl
-kernel_put w (v ∷ vs) pid = by (v.pid == w.pid) (kernel_put w vs pid) refl
-  where
-    same : (here there : Bool) → there ≡ here → cond here (Some w) (whereabouts_of vs pid) ≡ cond here (Some w) (cond there (Some v) (whereabouts_of vs pid))
-    same true there is = refl
-    same false there is = sym (ap (λ b. cond b (Some v) (whereabouts_of vs pid)) is)
-
-    apart : (here there : Bool) → (here ≡ true → there ≡ true → false ≡ true) → cond there (Some v) (cond here (Some w) (whereabouts_of vs pid)) ≡ cond here (Some w) (cond there (Some v) (whereabouts_of vs pid))
-    apart true true differ = absurd (true≢false (sym (differ refl refl)))
-    apart true false differ = refl
-    apart false there differ = refl
-
-    by : (b : Bool) → whereabouts_of (with_whereabouts w vs) pid ≡ cond (w.pid == pid) (Some w) (whereabouts_of vs pid) → (v.pid == w.pid) ≡ b → whereabouts_of (cond b (w ∷ vs) (v ∷ with_whereabouts w vs)) pid ≡ cond (w.pid == pid) (Some w) (cond (v.pid == pid) (Some v) (whereabouts_of vs pid))
-    by true more is = same (w.pid == pid) (v.pid == pid) (ap (λ n. n == pid) (eqb-true v.pid w.pid is))
-    by false more is =
-        ap (λ o. cond (v.pid == pid) (Some v) o) more
-        ∙ apart (w.pid == pid) (v.pid == pid) (λ one two. sym is ∙ ap (λ n. v.pid == n) (eqb-true w.pid pid one) ∙ two)
-
-kernel_cond : (b : Bool) (w : Whereabouts) (o : Option Whereabouts) → option_map (λ (x : Whereabouts). x.kernel) (cond b (Some w) o) ≡ cond b (Some w.kernel) (option_map (λ (x : Whereabouts). x.kernel) o)
-kernel_cond true w o = refl
-kernel_cond false w o = refl
-
-in_put : (w : Whereabouts) (ws : List Whereabouts) (pid : ℕ) → kernel_in (with_whereabouts w ws) pid ≡ cond (w.pid == pid) (Some w.kernel) (kernel_in ws pid)
-in_put w ws pid =
-    ap (option_map (λ (x : Whereabouts). x.kernel)) (kernel_put w ws pid) ∙ kernel_cond (w.pid == pid) w (whereabouts_of ws pid)
-
-child_on : (child : Option ℕ) (parent : Option Whereabouts) (ws : List Whereabouts) (pid : ℕ) → kernel_in (with_child child parent ws) pid ≡ child_behind child (option_map (λ (x : Whereabouts). x.kernel) parent) pid (kernel_in ws pid)
-child_on (Some child) (Some w) ws pid = in_put (record { pid = child; kernel = w.kernel; moving = w.moving }) ws pid
-child_on (Some child) None ws pid = refl
-child_on None parent ws pid = refl
-
-kernels_on : (k : ℕ) (e : Event) (kernels : List (ℕ × ℕ)) (ws : List Whereabouts) (pid : ℕ) → ((p : ℕ) → kernel_at kernels p ≡ kernel_in ws p) → kernel_behind k e kernels pid ≡ kernel_in (moved_by k e ws) pid
-kernels_on k (event.Enter entry) kernels ws pid told =
-    ap₂ (λ a b. child_behind (child_of_entry entry) a pid b) (told entry.pid) (told pid)
-    ∙ sym (child_on (child_of_entry entry) (whereabouts_of ws entry.pid) ws pid)
-kernels_on k (event.Freeze p) kernels ws pid told =
-    ap (λ o. cond (p == pid) (Some k) o) (told pid) ∙ sym (in_put (record { pid = p; kernel = k; moving = true }) ws pid)
-kernels_on k (event.Thaw p) kernels ws pid told =
-    ap (λ o. cond (p == pid) (Some k) o) (told pid) ∙ sym (in_put (record { pid = p; kernel = k; moving = false }) ws pid)
-kernels_on k _ kernels ws pid told = told pid
+told_of : (c : Description) (places : List (ℕ × Place)) (names : Names) (past : Past) (kernel : ℕ) (e : Event) → TellsPlaces places past.processes → TellsNames names past.ties → is_entry_well c past kernel e ≡ entry_fits c places names (opened_in (last_event past.records)) kernel e (file_stream (made_by (entry_count past.unix) e (state_by c e past.unix)))
+told_of c places names past kernel (event.Enter entry) where_told told = by_made c places names past kernel entry (stream_made (entry_count past.unix) (state_by c (event.Enter entry) past.unix)) where_told told
+told_of c places names past kernel _ where_told told = refl
 
 -- ---- one record more: names
 
@@ -246,48 +196,48 @@ names_put old new ties tie told name_free file_free puts = record {
 names_stay : (old new : Names) (ties : List Tie) → TellsNames old ties → new ≡ old → TellsNames new (ties ++ [])
 names_stay old new ties told same = subst (λ (ts : List Tie). TellsNames new ts) (sym (append-nil ties)) (subst (λ (ns : Names). TellsNames ns ties) (sym same) told)
 
-put_behind : (c : Description) (kernels : List (ℕ × ℕ)) (old new : Names) (ties : List Tie) (kernel pid place : ℕ) (name : FileName) (s : Stream) (o : Option Event) → s.object ≡ OfFile name → TellsNames old ties → stream_fits c kernels old kernel pid (opened_in o) (Some s) ≡ true → KeepsNames (Some s) (opened_in o) old new → TellsNames new (ties ++ tie_to place (OfFile name) o)
-put_behind c kernels old new ties kernel pid place name s None is told fits keeps = names_stay old new ties told keeps
-put_behind c kernels old new ties kernel pid place name s (Some (event.Opened file stream to m)) is told fits keeps =
-    let one = and_parts (is_kernel (kernel_at kernels pid) to && kernel == file.server) (object_fits c old file s.object) fits in
+put_behind : (c : Description) (places : List (ℕ × Place)) (old new : Names) (ties : List Tie) (kernel pid place : ℕ) (name : FileName) (s : Stream) (o : Option Event) → s.object ≡ OfFile name → TellsNames old ties → stream_fits c places old kernel pid (opened_in o) (Some s) ≡ true → KeepsNames (Some s) (opened_in o) old new → TellsNames new (ties ++ tie_to place (OfFile name) o)
+put_behind c places old new ties kernel pid place name s None is told fits keeps = names_stay old new ties told keeps
+put_behind c places old new ties kernel pid place name s (Some (event.Opened file stream to m)) is told fits keeps =
+    let one = and_parts (is_kernel_of to (place_kept places pid) && kernel == file.server) (object_fits c old file s.object) fits in
     let object = subst (λ (x : Object). object_fits c old file x ≡ true) is one.1 in
     let two = and_parts (is_due_name c name file && is_free_name (name_at old.names.entries file) name) (is_free_file (file_at old name) file) object in
     let three = and_parts (is_due_name c name file) (is_free_name (name_at old.names.entries file) name) two.0 in
     names_put old new ties (record { place = place; name = name; file = file; stream = stream }) told three.1 two.1 (subst (λ (x : Object). PutsObject x file old new) is keeps)
-put_behind c kernels old new ties kernel pid place name s (Some _) is told fits keeps = names_stay old new ties told keeps
+put_behind c places old new ties kernel pid place name s (Some _) is told fits keeps = names_stay old new ties told keeps
 
-names_of : (c : Description) (kernels : List (ℕ × ℕ)) (old new : Names) (ties : List Tie) (kernel pid place : ℕ) (s : Stream) (x : Object) (o : Option Event) → s.object ≡ x → TellsNames old ties → stream_fits c kernels old kernel pid (opened_in o) (cond (is_of_file x) (Some s) None) ≡ true → KeepsNames (cond (is_of_file x) (Some s) None) (opened_in o) old new → TellsNames new (ties ++ tie_to place x o)
-names_of c kernels old new ties kernel pid place s (OfFile name) o is told fits keeps = put_behind c kernels old new ties kernel pid place name s o is told fits keeps
-names_of c kernels old new ties kernel pid place s (OfDevice device) o is told fits keeps = names_stay old new ties told keeps
-names_of c kernels old new ties kernel pid place s (OfMaster device) o is told fits keeps = names_stay old new ties told keeps
+names_of : (c : Description) (places : List (ℕ × Place)) (old new : Names) (ties : List Tie) (kernel pid place : ℕ) (s : Stream) (x : Object) (o : Option Event) → s.object ≡ x → TellsNames old ties → stream_fits c places old kernel pid (opened_in o) (cond (is_of_file x) (Some s) None) ≡ true → KeepsNames (cond (is_of_file x) (Some s) None) (opened_in o) old new → TellsNames new (ties ++ tie_to place x o)
+names_of c places old new ties kernel pid place s (OfFile name) o is told fits keeps = put_behind c places old new ties kernel pid place name s o is told fits keeps
+names_of c places old new ties kernel pid place s (OfDevice device) o is told fits keeps = names_stay old new ties told keeps
+names_of c places old new ties kernel pid place s (OfMaster device) o is told fits keeps = names_stay old new ties told keeps
 
-names_with : (c : Description) (kernels : List (ℕ × ℕ)) (old new : Names) (ties : List Tie) (kernel pid place : ℕ) (m : Option Stream) (o : Option Event) → TellsNames old ties → stream_fits c kernels old kernel pid (opened_in o) (file_stream m) ≡ true → KeepsNames (file_stream m) (opened_in o) old new → TellsNames new (ties ++ ties_to place m o)
-names_with c kernels old new ties kernel pid place None o told fits keeps = names_stay old new ties told keeps
-names_with c kernels old new ties kernel pid place (Some s) o told fits keeps = names_of c kernels old new ties kernel pid place s s.object o refl told fits keeps
+names_with : (c : Description) (places : List (ℕ × Place)) (old new : Names) (ties : List Tie) (kernel pid place : ℕ) (m : Option Stream) (o : Option Event) → TellsNames old ties → stream_fits c places old kernel pid (opened_in o) (file_stream m) ≡ true → KeepsNames (file_stream m) (opened_in o) old new → TellsNames new (ties ++ ties_to place m o)
+names_with c places old new ties kernel pid place None o told fits keeps = names_stay old new ties told keeps
+names_with c places old new ties kernel pid place (Some s) o told fits keeps = names_of c places old new ties kernel pid place s s.object o refl told fits keeps
 
-names_on : (c : Description) (kernels : List (ℕ × ℕ)) (old new : Names) (past : Past) (kernel : ℕ) (e : Event) → TellsNames old past.ties → entry_fits c kernels old (opened_in (last_event past.records)) kernel e (file_stream (made_by (entry_count past.unix) e (state_by c e past.unix))) ≡ true → KeepsNames (file_stream (made_by (entry_count past.unix) e (state_by c e past.unix))) (opened_in (last_event past.records)) old new → TellsNames new (ties_by past (state_by c e past.unix) e)
-names_on c kernels old new past kernel (event.Enter entry) told fits keeps =
-    names_with c kernels old new past.ties kernel entry.pid (entry_count past.unix) (stream_made (entry_count past.unix) (state_by c (event.Enter entry) past.unix)) (last_event past.records) told fits keeps
-names_on c kernels old new past kernel _ told fits keeps = subst (λ (ns : Names). TellsNames ns past.ties) (sym keeps) told
+names_on : (c : Description) (places : List (ℕ × Place)) (old new : Names) (past : Past) (kernel : ℕ) (e : Event) → TellsNames old past.ties → entry_fits c places old (opened_in (last_event past.records)) kernel e (file_stream (made_by (entry_count past.unix) e (state_by c e past.unix))) ≡ true → KeepsNames (file_stream (made_by (entry_count past.unix) e (state_by c e past.unix))) (opened_in (last_event past.records)) old new → TellsNames new (ties_by past (state_by c e past.unix) e)
+names_on c places old new past kernel (event.Enter entry) told fits keeps =
+    names_with c places old new past.ties kernel entry.pid (entry_count past.unix) (stream_made (entry_count past.unix) (state_by c (event.Enter entry) past.unix)) (last_event past.records) told fits keeps
+names_on c places old new past kernel _ told fits keeps = subst (λ (ns : Names). TellsNames ns past.ties) (sym keeps) told
 
 -- ---- all of it
 
 -- a record is judged by what is kept
-pub entries_told : (c : Description) (kernels : List (ℕ × ℕ)) (names : Names) (opened : Option FileFor) (openings : List (Option Stream)) (past : Past) (rec : Rec) (rest : List Rec) (made : Option Stream) → TellsEntries c kernels names opened openings past (rec ∷ rest) → made ≡ first_opening openings → is_entry_well c past rec.kernel rec.event ≡ entry_fits c kernels names opened rec.kernel rec.event made
-entries_told c kernels names opened openings past rec rest made told is =
+pub entries_told : (c : Description) (places : List (ℕ × Place)) (names : Names) (opened : Option FileFor) (openings : List (Option Stream)) (past : Past) (rec : Rec) (rest : List Rec) (made : Option Stream) → TellsEntries c places names opened openings past (rec ∷ rest) → made ≡ first_opening openings → is_entry_well c past rec.kernel rec.event ≡ entry_fits c places names opened rec.kernel rec.event made
+entries_told c places names opened openings past rec rest made told is =
     let made_is : made ≡ file_stream (made_by (entry_count past.unix) rec.event (state_by c rec.event past.unix)) = is ∙ ap first_opening told.openings_told in
-    told_of c kernels names past rec.kernel rec.event told.kernels_told told.are_named
-    ∙ ap₂ (λ o m. entry_fits c kernels names o rec.kernel rec.event m) (sym told.opened_told) (sym made_is)
+    told_of c places names past rec.kernel rec.event told.places_told told.are_named
+    ∙ ap₂ (λ o m. entry_fits c places names o rec.kernel rec.event m) (sym told.opened_told) (sym made_is)
 
 -- what is kept tells of one record more
-pub entries_on : (c : Description) (kernels kernels_after : List (ℕ × ℕ)) (names names_after : Names) (opened opened_after : Option FileFor) (openings later : List (Option Stream)) (past : Past) (rec : Rec) (rest : List Rec) (made : Option Stream) → TellsEntries c kernels names opened openings past (rec ∷ rest) → made ≡ first_opening openings → entry_fits c kernels names opened rec.kernel rec.event made ≡ true → ((pid : ℕ) → kernel_at kernels_after pid ≡ kernel_behind rec.kernel rec.event kernels pid) → KeepsNames made opened names names_after → opened_after ≡ opened_by rec.event → later ≡ tail_of openings → TellsEntries c kernels_after names_after opened_after later (past_with c rec past) rest
-entries_on c kernels kernels_after names names_after opened opened_after openings later past rec rest made told is fits keeps_kernels keeps opens later_is =
+pub entries_on : (c : Description) (places places_after : List (ℕ × Place)) (names names_after : Names) (opened opened_after : Option FileFor) (openings later : List (Option Stream)) (past : Past) (rec : Rec) (rest : List Rec) (made : Option Stream) → TellsEntries c places names opened openings past (rec ∷ rest) → made ≡ first_opening openings → entry_fits c places names opened rec.kernel rec.event made ≡ true → MovesOn rec.kernel rec.event places places_after → KeepsNames made opened names names_after → opened_after ≡ opened_by rec.event → later ≡ tail_of openings → TellsEntries c places_after names_after opened_after later (past_with c rec past) rest
+entries_on c places places_after names names_after opened opened_after openings later past rec rest made told is fits moves_on keeps opens later_is =
     let made_is : made ≡ file_stream (made_by (entry_count past.unix) rec.event (state_by c rec.event past.unix)) = is ∙ ap first_opening told.openings_told in
     let opened_is = told.opened_told in
     record {
-      kernels_told = λ pid. keeps_kernels pid ∙ kernels_on rec.kernel rec.event kernels past.processes pid told.kernels_told;
-      are_named = names_on c kernels names names_after past rec.kernel rec.event told.are_named
-          (sym (ap₂ (λ o m. entry_fits c kernels names o rec.kernel rec.event m) opened_is made_is) ∙ fits)
+      places_told = places_more rec.kernel rec.event places places_after past.processes told.places_told moves_on;
+      are_named = names_on c places names names_after past rec.kernel rec.event told.are_named
+          (sym (ap₂ (λ o m. entry_fits c places names o rec.kernel rec.event m) opened_is made_is) ∙ fits)
           (subst (λ (m : Option Stream). KeepsNames m (opened_in (last_event past.records)) names names_after) made_is
           (subst (λ (o : Option FileFor). KeepsNames made o names names_after) opened_is keeps));
       opened_told = opens ∙ sym (ap opened_in (last_more past.records rec));
@@ -299,9 +249,9 @@ file_none : (names : Names) (name : FileName) (file : FileId) → names.boots.en
 file_none names (Boot place) file boots mades = ap (λ es. is_filed (place_at es place) file) boots
 file_none names (Made place) file boots mades = ap (λ es. is_filed (place_at es place) file) mades
 
-pub entries_begin : (c : Description) (kernels : List (ℕ × ℕ)) (names : Names) (openings : List (Option Stream)) (trace : List Rec) → are_homes kernels (boot_of c).processes → names.names.entries ≡ [] → names.boots.entries ≡ [] → names.mades.entries ≡ [] → openings ≡ openings_of c trace → TellsEntries c kernels names None openings (no_past c) trace
-entries_begin c kernels names openings trace homes no_names boots mades are = record {
-  kernels_told = homes;
+pub entries_begin : (c : Description) (places : List (ℕ × Place)) (names : Names) (openings : List (Option Stream)) (trace : List Rec) → TellsPlaces places (no_past c).processes → names.names.entries ≡ [] → names.boots.entries ≡ [] → names.mades.entries ≡ [] → openings ≡ openings_of c trace → TellsEntries c places names None openings (no_past c) trace
+entries_begin c places names openings trace homes no_names boots mades are = record {
+  places_told = homes;
   are_named = record {
     names_told = λ file name. ap (λ es. is_named (name_at es file) name) no_names;
     files_told = λ name file. file_none names name file boots mades;
@@ -309,21 +259,3 @@ entries_begin c kernels names openings trace homes no_names boots mades are = re
   opened_told = refl;
   openings_told = are;
 }
-
--- ---- the homes
-
--- the home of the first of some processes is put
-pub home_more : (kernels after : List (ℕ × ℕ)) (p : Process) (ps : List Process) (pid : ℕ) → kernel_at after pid ≡ cond (p.pid == pid) (or_else (kernel_at kernels pid) (Some (home_of p.pid))) (kernel_at kernels pid) → or_else (kernel_at after pid) (kernel_in (at_homes ps) pid) ≡ or_else (kernel_at kernels pid) (kernel_in (at_homes (p ∷ ps)) pid)
-home_more kernels after p ps pid is =
-    ap (λ o. or_else o (kernel_in (at_homes ps) pid)) is
-    ∙ by (p.pid == pid) (kernel_at kernels pid)
-    ∙ ap (λ o. or_else (kernel_at kernels pid) o) (sym (kernel_cond (p.pid == pid) (record { pid = p.pid; kernel = home_of p.pid; moving = false }) (whereabouts_of (at_homes ps) pid)))
-  where
-    by : (b : Bool) (o : Option ℕ) → or_else (cond b (or_else o (Some (home_of p.pid))) o) (kernel_in (at_homes ps) pid) ≡ or_else o (cond b (Some (home_of p.pid)) (kernel_in (at_homes ps) pid))
-    by true None = refl
-    by true (Some k) = refl
-    by false o = refl
-
-pub or_nothing : (o : Option ℕ) → or_else o None ≡ o
-or_nothing None = refl
-or_nothing (Some k) = refl

@@ -2,8 +2,6 @@
 use Rattle.std.specs.Prelude.{◌≡◌, ℕ, ◌==◌, Bool, true, false, ◌&&◌, if◌then◌else◌, List, Option, Some, None}
 use Rattle.std.specs.List.{list_any}
 use Rattle.std.specs.Map.{lookup}
-use Rattle.std.specs.Option.{option_map}
-use Rattle.sprite_ids.specs.Pid.{home_of}
 use Rattle.sprite_ids.specs.declared.names.FileId.{FileId}
 use Rattle.unix_calls.specs.declared.description.Description.{Description}
 use Rattle.unix_calls.specs.declared.event.Event.{Event}
@@ -13,57 +11,16 @@ use Rattle.unix_calls.specs.declared.state.FileName.{FileName}
 use Rattle.unix_calls.specs.declared.state.FileName.TheVariants.{Boot, Made}
 use Rattle.unix_calls.specs.declared.state.Object.{Object}
 use Rattle.unix_calls.specs.declared.state.Object.TheVariants.{OfFile}
-use Rattle.unix_calls.specs.declared.state.Process.{Process}
 use Rattle.unix_calls.specs.declared.state.Stream.{Stream}
 use Rattle.unix_calls.specs.State.{same_file as same_name}
-use Rattle.call_journal.specs.Calls.{or_else}
 use Rattle.call_journal.specs.Formed.{is_due_name}
 use Rattle.call_journal.specs.Matching.{same_file}
-use Rattle.call_journal.specs.Past.{Past, Tie, Whereabouts, whereabouts_of, at_homes, child_of_entry, last_event}
+use Rattle.call_journal.specs.Past.{Past, Tie, last_event}
+use Rattle.trace_places.specs.declared.places.Place.{Place}
+use Rattle.trace_places.specs.Places.{TellsPlaces, is_kernel_of, place_kept}
 use Rattle.trace_forms.specs.Openings.{openings_from}
 use Rattle.trace_forms.specs.declared.places.FileFor.{FileFor}
 use Rattle.trace_forms.specs.declared.entries.Names.{Names}
-
--- ---- where processes are
-
-abbrev pub kernel_at : List (ℕ × ℕ) → ℕ → Option ℕ
-kernel_at kernels pid = lookup (λ other. pid == other) kernels
-
--- the kernel of a process among the whereabouts of all
-abbrev pub kernel_in : List Whereabouts → ℕ → Option ℕ
-kernel_in ws pid = option_map (λ (w : Whereabouts). w.kernel) (whereabouts_of ws pid)
-
-abbrev pub are_homes : List (ℕ × ℕ) → List Process → Type 0
-are_homes kernels ps = (pid : ℕ) → kernel_at kernels pid ≡ kernel_in (at_homes ps) pid
-
--- the home is put where there was no kernel; a kernel is put
-abbrev pub PutsHome : List (ℕ × ℕ) → ℕ → List (ℕ × ℕ) → Type 0
-PutsHome before pid after =
-    (other : ℕ) → kernel_at after other ≡ (if pid == other then or_else (kernel_at before other) (Some (home_of pid)) else kernel_at before other)
-
-abbrev pub PutsKernel : List (ℕ × ℕ) → ℕ → ℕ → List (ℕ × ℕ) → Type 0
-PutsKernel before pid kernel after =
-    (other : ℕ) → kernel_at after other ≡ (if pid == other then Some kernel else kernel_at before other)
-
--- where a child begins, by where its parent is
-abbrev pub child_behind : Option ℕ → Option ℕ → ℕ → Option ℕ → Option ℕ
-child_behind (Some child) (Some kernel) other before = if child == other then Some kernel else before
-child_behind _ _ other before = before
-
-abbrev pub KeepsChild : Option ℕ → ℕ → List (ℕ × ℕ) → List (ℕ × ℕ) → Type 0
-KeepsChild child pid before after =
-    (other : ℕ) → kernel_at after other ≡ child_behind child (kernel_at before pid) other (kernel_at before other)
-
--- where a process is behind an event of a kernel, by where each was
-abbrev pub kernel_behind : ℕ → Event → List (ℕ × ℕ) → ℕ → Option ℕ
-kernel_behind kernel (event.Enter entry) before other =
-    child_behind (child_of_entry entry) (kernel_at before entry.pid) other (kernel_at before other)
-kernel_behind kernel (event.Freeze pid) before other = if pid == other then Some kernel else kernel_at before other
-kernel_behind kernel (event.Thaw pid) before other = if pid == other then Some kernel else kernel_at before other
-kernel_behind kernel _ before other = kernel_at before other
-
-abbrev pub KeepsKernels : ℕ → Event → List (ℕ × ℕ) → List (ℕ × ℕ) → Type 0
-KeepsKernels kernel e before after = (other : ℕ) → kernel_at after other ≡ kernel_behind kernel e before other
 
 -- ---- names of files
 
@@ -110,28 +67,21 @@ abbrev pub opened_in : Option Event → Option FileFor
 opened_in None = None
 opened_in (Some e) = opened_by e
 
-abbrev pub is_kernel : Option ℕ → ℕ → Bool
-is_kernel None to = false
-is_kernel (Some kernel) to = kernel == to
-
-abbrev pub is_at_in : List (ℕ × ℕ) → ℕ → ℕ → Bool
-is_at_in kernels pid to = is_kernel (kernel_at kernels pid) to
-
 abbrev pub object_fits : Description → Names → FileId → Object → Bool
 object_fits c names file (OfFile name) =
     is_due_name c name file && is_free_name (name_at names.names.entries file) name && is_free_file (file_at names name) file
 object_fits c names file _ = true
 
 -- an entry that makes a stream of a file, behind what the last record opened
-abbrev pub stream_fits : Description → List (ℕ × ℕ) → Names → ℕ → ℕ → Option FileFor → Option Stream → Bool
-stream_fits c kernels names kernel pid opened None = true
-stream_fits c kernels names kernel pid None (Some stream) = false
-stream_fits c kernels names kernel pid (Some opened) (Some stream) =
-    is_at_in kernels pid opened.to && kernel == opened.file.server && object_fits c names opened.file stream.object
+abbrev pub stream_fits : Description → List (ℕ × Place) → Names → ℕ → ℕ → Option FileFor → Option Stream → Bool
+stream_fits c places names kernel pid opened None = true
+stream_fits c places names kernel pid None (Some stream) = false
+stream_fits c places names kernel pid (Some opened) (Some stream) =
+    is_kernel_of opened.to (place_kept places pid) && kernel == opened.file.server && object_fits c names opened.file stream.object
 
-abbrev pub entry_fits : Description → List (ℕ × ℕ) → Names → Option FileFor → ℕ → Event → Option Stream → Bool
-entry_fits c kernels names opened kernel (event.Enter entry) made = stream_fits c kernels names kernel entry.pid opened made
-entry_fits c kernels names opened kernel _ made = true
+abbrev pub entry_fits : Description → List (ℕ × Place) → Names → Option FileFor → ℕ → Event → Option Stream → Bool
+entry_fits c places names opened kernel (event.Enter entry) made = stream_fits c places names kernel entry.pid opened made
+entry_fits c places names opened kernel _ made = true
 
 -- ---- what is kept tells of the records
 
@@ -150,8 +100,8 @@ pub record TellsNames (names : Names) (ties : List Tie) : Type 0 where
   pub names_told : (file : FileId) (name : FileName) → is_named (name_at names.names.entries file) name ≡ list_any (is_pair name file) ties
   pub files_told : (name : FileName) (file : FileId) → is_filed (file_at names name) file ≡ list_any (is_pair name file) ties
 
-pub record TellsEntries (c : Description) (kernels : List (ℕ × ℕ)) (names : Names) (opened : Option FileFor) (openings : List (Option Stream)) (past : Past) (rest : List Rec) : Type 0 where
-  pub kernels_told : (pid : ℕ) → kernel_at kernels pid ≡ kernel_in past.processes pid
+pub record TellsEntries (c : Description) (places : List (ℕ × Place)) (names : Names) (opened : Option FileFor) (openings : List (Option Stream)) (past : Past) (rest : List Rec) : Type 0 where
+  pub places_told : TellsPlaces places past.processes
   pub are_named : TellsNames names past.ties
   pub opened_told : opened ≡ opened_in (last_event past.records)
   pub openings_told : openings ≡ openings_from c past.unix rest

@@ -1,4 +1,5 @@
 pub mod Openings
+pub mod OpeningLaws
 pub mod Parts
 pub mod Packets
 pub mod Opens

@@ -1,23 +1,20 @@
 ghost use Rattle.std.specs.Prelude.{◌≡◌, [], IfOk, OnOk, slice_get};
-ghost use Rattle.unix_calls.specs.Boot.{boot_of};
 ghost use Rattle.unix_calls.specs.Lawful.{Lawful};
 ghost use Rattle.unix_calls.specs.State.{same_file};
 ghost use Rattle.call_journal.specs.Calls.{server_of};
 ghost use Rattle.call_journal.specs.Formed.{is_boot_file, is_due_name};
-ghost use Rattle.call_journal.specs.Past.{child_of_entry};
 ghost use Rattle.trace_forms.specs.Openings.{openings_of};
 ghost use Rattle.trace_forms.specs.Parts.{entries_are_formed};
-ghost use Rattle.trace_forms.specs.Entries.{KeepsChild, KeepsKernels, KeepsNames, PutsHome, PutsKernel, PutsName, PutsObject, are_homes, entry_fits, file_at, is_at_in, is_free_file, is_free_name, name_at, object_fits, opened_by, place_at};
+ghost use Rattle.trace_forms.specs.Entries.{KeepsNames, PutsName, PutsObject, entry_fits, file_at, is_free_file, is_free_name, name_at, object_fits, opened_by, place_at};
 
 use crate::places::FileFor;
 use crate::uses::first_opening;
 use indexmap::IndexMap;
-use process_machine::{Call, Reply};
-use sprite_ids::{FileId, Kernel, NoMemory, Pid};
+use sprite_ids::{FileId, Kernel, NoMemory};
 use sprite_paths::Path;
 use std::alloc::Global;
-use unix_calls::{Description, Entry, Event, FileName, Object, Process, Rec, Stream};
-use unix_world::boot;
+use trace_places::{Place, boot_places, is_kernel_of, keep_place};
+use unix_calls::{Description, Event, FileName, Object, Rec, Stream};
 
 /// Whether each entry of a trace that opens a file stands directly behind an open for the kernel of its process, both at the file's
 /// server, and files and their servers' names agree one to one; of the cluster file's files the names are fixed (this project).
@@ -32,15 +29,15 @@ pub fn entries_are_formed(
     requires openings { openings.now ≡ openings_of c.now trace.now }
     ensures { IfOk result (λ kept. kept ≡ entries_are_formed c.now trace.now) }
 {
-    let mut kernels = boot_kernels(alloc, c)?;
+    let mut places = boot_places(alloc, c)?;
     let mut names = Names::new(alloc);
     let mut opened = None;
     for (place, rec) in trace.iter().enumerate() {
         let made = first_opening(&openings[place..]);
-        if !fits(c, &kernels, &names, &opened, rec, &made) {
+        if !fits(c, &places, &names, &opened, rec, &made) {
             return Ok(false);
         }
-        keep_kernels(&mut kernels, rec)?;
+        keep_place(&mut places, rec.kernel, &rec.event)?;
         keep_names(&mut names, &opened, &made)?;
         opened = opened_by(&rec.event);
     }
@@ -69,54 +66,23 @@ impl Names {
     }
 }
 
-// The kernels of the processes that run from the start: their homes.
-fn boot_kernels(alloc: Global, c: &Description) -> Result<IndexMap<u64, Kernel>, NoMemory>
-    requires { Lawful c.now }
-    ensures { IfOk result (λ kernels. are_homes kernels.entries (boot_of c.now).processes) }
-{
-    let (world, processes) = boot(alloc, c)?;
-    drop(world);
-    homes(alloc, processes.as_slice())
-}
-
-fn homes(alloc: Global, ps: &[Process]) -> Result<IndexMap<u64, Kernel>, NoMemory>
-    ensures { IfOk result (λ kernels. are_homes kernels.entries ps.now) }
-{
-    let mut kernels = IndexMap::new(alloc);
-    for p in ps {
-        put_home(&mut kernels, p.pid)?;
-    }
-    Ok(kernels)
-}
-
-// Puts the home of a process there, unless there is a kernel.
-fn put_home(kernels: &mut IndexMap<u64, Kernel>, pid: Pid) -> Result<(), NoMemory>
-    ensures { OnOk result (PutsHome kernels.old.entries pid kernels.new.entries) }
-{
-    let number = u64::from(pid.number());
-    if kernels.get(&number).is_none() {
-        kernels.insert(number, pid.home())?;
-    }
-    Ok(())
-}
-
 // Whether a record's entry is written as it should be, which makes that stream of a file.
 fn fits(
     c: &Description,
-    kernels: &IndexMap<u64, Kernel>,
+    places: &IndexMap<u64, Place>,
     names: &Names,
     opened: &Option<FileFor>,
     rec: &Rec,
     made: &Option<Stream>,
 ) -> bool
     requires { Lawful c.now }
-    ensures { result ≡ entry_fits c.now kernels.now.entries names.now opened.now rec.now.kernel rec.now.event made.now }
+    ensures { result ≡ entry_fits c.now places.now.entries names.now opened.now rec.now.kernel rec.now.event made.now }
 {
     match &rec.event {
         Event::Enter { entry } => match made {
             Some(stream) => match opened {
                 Some(opened) => {
-                    is_at(kernels, entry.pid, opened.to)
+                    is_kernel_of(places, entry.pid, opened.to)
                         && rec.kernel == opened.file.server
                         && names_fit(c, names, &opened.file, &stream.object)
                 }
@@ -125,16 +91,6 @@ fn fits(
             None => true,
         },
         _ => true,
-    }
-}
-
-// Whether the process is at that kernel, or was frozen there.
-fn is_at(kernels: &IndexMap<u64, Kernel>, pid: Pid, to: Kernel) -> bool
-    ensures { result ≡ is_at_in kernels.now.entries pid to }
-{
-    match kernels.get(&u64::from(pid.number())) {
-        Some(kernel) => *kernel == to,
-        None => false,
     }
 }
 
@@ -222,51 +178,6 @@ fn same_name(name: &FileName, other: &FileName) -> bool
         (FileName::Made(place), FileName::Made(other)) => place == other,
         _ => false,
     }
-}
-
-// Keeps where a record puts a process. The one error is want of memory.
-fn keep_kernels(kernels: &mut IndexMap<u64, Kernel>, rec: &Rec) -> Result<(), NoMemory>
-    ensures { OnOk result (KeepsKernels rec.now.kernel rec.now.event kernels.old.entries kernels.new.entries) }
-{
-    match &rec.event {
-        Event::Enter { entry } => keep_child(kernels, entry),
-        Event::Freeze { pid } => put_kernel(kernels, u64::from(pid.number()), rec.kernel),
-        Event::Thaw { pid } => put_kernel(kernels, u64::from(pid.number()), rec.kernel),
-        _ => Ok(()),
-    }
-}
-
-// A child begins where its parent is.
-fn keep_child(kernels: &mut IndexMap<u64, Kernel>, entry: &Entry) -> Result<(), NoMemory>
-    ensures { OnOk result (KeepsChild (child_of_entry entry.now) entry.now.pid kernels.old.entries kernels.new.entries) }
-{
-    let Some(child) = child_of_entry(entry) else {
-        return Ok(());
-    };
-    match kernels.get(&u64::from(entry.pid.number())) {
-        Some(kernel) => {
-            let kernel = *kernel;
-            put_kernel(kernels, child, kernel)
-        }
-        None => Ok(()),
-    }
-}
-
-// The child that an entry makes, if it is a fork's.
-fn child_of_entry(entry: &Entry) -> Option<u64>
-    ensures { result ≡ child_of_entry entry.now }
-{
-    match (&entry.call, &entry.reply) {
-        (Some(Call::Fork), Some(Reply::Value { first, .. })) => Some(*first),
-        _ => None,
-    }
-}
-
-fn put_kernel(kernels: &mut IndexMap<u64, Kernel>, pid: u64, kernel: Kernel) -> Result<(), NoMemory>
-    ensures { OnOk result (PutsKernel kernels.old.entries pid kernel kernels.new.entries) }
-{
-    kernels.insert(pid, kernel)?;
-    Ok(())
 }
 
 // Keeps the names of the file that an entry opens. The one error is want of memory; a part may be kept then.

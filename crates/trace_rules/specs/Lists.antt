@@ -1,8 +1,9 @@
 -- Small laws on tests, of lists and of what may be there, and on counts.
-use Rattle.std.proofs.Common.{◌≡◌, ◌∙◌, ℕ, ◌+◌, Bool, true, false, cond, ◌&&◌, ◌||◌, List, [], ◌∷◌, ◌++◌, Option, Some, nat_le, count_by, refl, ap, arith, le-leb}
+use Rattle.std.proofs.Common.{◌≡◌, ◌∙◌, ℕ, suc, ◌+◌, ◌<◌, Bool, true, false, cond, ◌&&◌, ◌||◌, List, [], ◌∷◌, ◌++◌, Option, Some, length, get_or, drop, nat_le, count_by, refl, sym, ap, arith, le-leb, add-one, drop-cons}
 use Rattle.std.specs.List.{list_any, list_all}
 use Rattle.std.proofs.lemmas.List.Sums.{sum_by_push, sum_by-cons}
 use Rattle.std.proofs.lemmas.List.Folds.{list_any-append, list_all-append}
+use Rattle.sprite_ids.specs.Lists.{one_if}
 use Rattle.unix_calls.specs.declared.event.Rec.{Rec}
 use Rattle.call_journal.specs.Past.{since_last}
 use Rattle.call_journal.proofs.GrowthLaws.{look_backs_grow}
@@ -58,12 +59,11 @@ taken f true true x o = refl
 taken f true false x o = refl
 taken f false d x o = refl
 
--- ---- counts
+-- the item at a place, and those behind it
+pub cut_at : {A : Type 0} (xs : List A) (place : ℕ) (x d : A) → place < length xs → x ≡ get_or xs place d → drop place xs ≡ x ∷ drop (place + 1) xs
+cut_at {A = A} xs place x d short is = rw add-one (drop-cons xs place d short ∙ ap (λ (y : A). y ∷ drop (suc place) xs) (sym is))
 
--- one if so
-abbrev pub one_if : Bool → ℕ
-one_if true = 1
-one_if false = 0
+-- ---- counts
 
 pub no_more : (n : ℕ) → n ≡ n + 0
 no_more n = omega arith

@@ -4,7 +4,7 @@
 mod broadcasts;
 mod fetches;
 mod judging;
-mod judging_ties;
+mod judging_told;
 mod learned;
 mod operations;
 mod place;
@@ -12,7 +12,7 @@ mod place;
 pub use broadcasts::prefixes_are_broadcast_until_learned;
 pub use fetches::fetches_are_of_absent_blocks;
 pub use judging::{LooksBack, each_keeps};
-pub use judging_ties::{LooksBackTied, each_keeps_tied};
+pub use judging_told::{LooksBackTold, each_keeps_told};
 pub use learned::{Learned, is_new_prefix, keep_learned};
 pub use operations::operations_go_out_uncached;
 pub use place::{BlockAt, FileAt, StampAt, block_at, file_at, keep_block, stamp_at};

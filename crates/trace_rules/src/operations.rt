@@ -1,10 +1,11 @@
 ghost use Rattle.std.specs.Prelude.{◌≡◌, IfOk, OnOk};
 ghost use Rattle.call_journal.specs.Operations.{goes_out_well, operations_go_out_uncached};
-ghost use Rattle.trace_tables.specs.Ties.{ties_of};
+ghost use Rattle.trace_tables.specs.Ties.{ties_from, ties_of};
+ghost use Rattle.trace_rules.specs.Judging.{tie_of, ties_each};
 ghost use Rattle.trace_rules.specs.Modes.{GoesOut, TellsUses, is_off_in, is_shared_tied, may_go_out};
 ghost use Rattle.trace_rules.specs.ModeLaws.{operations_told, uses_told_on};
 
-use crate::judging_ties::{LooksBackTied, each_keeps_tied};
+use crate::judging_told::{LooksBackTold, each_keeps_told};
 use crate::place::FileAt;
 use indexmap::{IndexMap, IndexSet};
 use sprite_ids::{CacheMode, NoMemory, StreamNo};
@@ -28,7 +29,7 @@ pub fn operations_go_out_uncached(
         modes: IndexMap::new(alloc),
         shared: IndexSet::new(alloc),
     };
-    each_keeps_tied(alloc, c, &mut judge, trace, ties)
+    each_keeps_told(alloc, c, &mut judge, trace, ties)
 }
 
 /// The modes that the kernels took last, and the streams that are shared so far (this project).
@@ -38,14 +39,18 @@ pub(crate) struct Operations {
     pub(crate) shared: IndexSet<StreamNo>,
 }
 
-impl LooksBackTied for Operations {
-    ghost test = { λ c past rec. goes_out_well past rec.kernel rec.event };
+impl LooksBackTold<Option<Tied>> for Operations {
+    ghost told_of = { λ c past rec. tie_of past rec };
 
-    ghost tells = { λ judge past. TellsUses judge.modes.entries judge.shared.keys past };
+    ghost told_from = { ties_from };
+
+    ghost test = { λ c trace past rec. goes_out_well past rec.kernel rec.event };
+
+    ghost tells = { λ c trace judge past. TellsUses judge.modes.entries judge.shared.keys past };
 
     ghost fits = { λ c judge rec tied. may_go_out judge.modes.entries judge.shared.keys rec.kernel rec.event tied };
 
-    ghost goes_on = { λ rec old new. GoesOut rec old.modes.entries old.shared.keys new.modes.entries new.shared.keys };
+    ghost goes_on = { λ c rec tied old new. GoesOut rec old.modes.entries old.shared.keys new.modes.entries new.shared.keys };
 
     fn fits(
         &self,
@@ -69,7 +74,13 @@ impl LooksBackTied for Operations {
         }
     }
 
-    fn go_on(&mut self, _alloc: Global, rec: &Rec) -> Result<(), NoMemory> {
+    fn go_on(
+        &mut self,
+        _alloc: Global,
+        _c: &Description,
+        rec: &Rec,
+        _tied: &Option<Tied>,
+    ) -> Result<(), NoMemory> {
         match &rec.event {
             Event::Mode { file, mode, .. } => {
                 let at = FileAt {
@@ -86,9 +97,11 @@ impl LooksBackTied for Operations {
         Ok(())
     }
 
-    ghost is_told = { operations_told };
+    ghost each = { ties_each };
 
-    ghost tells_on = { uses_told_on };
+    ghost is_told = { λ c trace judge past rec. operations_told c judge past rec };
+
+    ghost tells_on = { λ c trace old new past rec. uses_told_on c old new past rec };
 }
 
 // Whether the kernel's last mode of the file is off.

@@ -1,4 +1,1 @@
 pub mod TieLaws
-pub mod KnownLaws
-pub mod CallerLaws
-pub mod TellLaws

@@ -1,5 +1,5 @@
 -- What records tell of streams, kept from one to the next.
-use Rattle.std.specs.Prelude.{◌≡◌, ℕ, ◌==◌, Bool, ◌&&◌, if◌then◌else◌, List, Option, Some, None}
+use Rattle.std.specs.Prelude.{◌≡◌, ℕ, ◌==◌, if◌then◌else◌, List, Option, Some, None}
 use Rattle.std.specs.Option.{option_and_then}
 use Rattle.std.specs.Map.{lookup}
 use Rattle.unix_calls.specs.declared.entry.Entry.{Entry}
@@ -15,6 +15,7 @@ use Rattle.unix_world.specs.declared.World.{World}
 use Rattle.unix_world.specs.Worlds.{stream_of_fd}
 use Rattle.call_journal.specs.Calls.{descriptor_of, or_else}
 use Rattle.trace_tables.specs.declared.call_at.CallAt.{CallAt}
+use Rattle.trace_tables.specs.Calls.{same_call}
 use Rattle.trace_tables.specs.declared.known.Known.{Known}
 use Rattle.trace_tables.specs.declared.tied.Tied.{Tied}
 
@@ -22,11 +23,8 @@ use Rattle.trace_tables.specs.declared.tied.Tied.{Tied}
 abbrev pub made_at : List (ℕ × Tied) → ℕ → Option Tied
 made_at made place = lookup (λ other. place == other) made
 
-abbrev pub same_asked : CallAt → CallAt → Bool
-same_asked a b = a.pid == b.pid && a.number == b.number
-
 abbrev pub asked_at : List (CallAt × Option ℕ) → CallAt → Option (Option ℕ)
-asked_at asked at = lookup (same_asked at) asked
+asked_at asked at = lookup (same_call at) asked
 
 -- ---- looking
 
@@ -65,7 +63,7 @@ PutsMade before place tied after =
 
 abbrev pub PutsAsked : List (CallAt × Option ℕ) → CallAt → Option ℕ → List (CallAt × Option ℕ) → Type 0
 PutsAsked before at fd after =
-    (other : CallAt) → asked_at after other ≡ (if same_asked at other then or_else (asked_at before other) (Some fd) else asked_at before other)
+    (other : CallAt) → asked_at after other ≡ (if same_call at other then or_else (asked_at before other) (Some fd) else asked_at before other)
 
 -- what a stream of a file is that was made directly behind an Opened
 abbrev pub object_tie : Object → Option Tied → Option Tied
@@ -94,7 +92,7 @@ opened_by _ = None
 -- what is kept of a call behind an event
 abbrev pub asked_behind : Event → CallAt → Option (Option ℕ) → Option (Option ℕ)
 asked_behind (event.Issue pid number call) at before =
-    if same_asked (record { pid = pid; number = number }) at then or_else before (Some (descriptor_of call)) else before
+    if same_call (record { pid = pid; number = number }) at then or_else before (Some (descriptor_of call)) else before
 asked_behind _ at before = before
 
 pub record Asks (e : Event) (old new : Known) : Type 0 where

@@ -8,6 +8,7 @@ mod known;
 mod telling;
 mod tied;
 
+pub use call_at::{CallAt, call_of};
 pub use caller::Caller;
 pub use telling::{Told, ToldCallers, tell, tell_callers};
 pub use tied::Tied;

@@ -2,6 +2,7 @@
 use Rattle.std.proofs.Common.{◌≡◌, ◌∙◌, ℕ, ◌+◌, ◌-◌, ◌==◌, Bool, true, false, cond, ◌&&◌, List, [], ◌∷◌, ◌++◌, Option, Some, None, nat_le, count_by, refl, sym, ap, subst, arith}
 use Rattle.std.proofs.lemmas.List.Sums.{sum_by_push}
 use Rattle.std.proofs.lemmas.Bool.{and_parts, eqb-true}
+use Rattle.sprite_ids.specs.Lists.{one_if}
 use Rattle.unix_calls.specs.declared.event.Event.{Event}
 use Rattle.unix_calls.specs.declared.event.Event.TheVariants as event
 use Rattle.unix_calls.specs.declared.event.Rec.{Rec}
@@ -29,10 +30,6 @@ age_told steps dirtied records at told =
     aged at records (dirtied_at dirtied at) (steps_at steps at.kernel) (told.steps_told at.kernel) (told.dirtied_told at)
 
 -- ---- one record more
-
-abbrev one_if : Bool → ℕ
-one_if true = 1
-one_if false = 0
 
 count_more : (test : Rec → Bool) (rs : List Rec) (r : Rec) → count_by test (rs ++ r ∷ []) ≡ count_by test rs + one_if (test r)
 count_more test rs r = sum_by_push (λ (x : Rec). cond {A = ℕ} (test x) 1 0) rs r ∙ ap (λ n. count_by test rs + n) (by (test r))

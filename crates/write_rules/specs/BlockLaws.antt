@@ -1,6 +1,7 @@
 -- How many blocks of a scope are held, and how many are dirty, where one is put, taken out or marked.
 use Rattle.std.proofs.Common.{◌≡◌, ◌∙◌, ℕ, ◌+◌, ◌==◌, Bool, true, false, cond, not, ◌&&◌, List, [], ◌∷◌, refl, sym, ap, ap₂, arith}
 use Rattle.std.proofs.lemmas.Bool.{and_parts}
+use Rattle.sprite_ids.specs.Lists.{one_if}
 use Rattle.sprite_ids.specs.declared.names.FileId.{FileId}
 use Rattle.sprite_ids.specs.declared.names.BlockNo.{BlockNo}
 use Rattle.call_journal.specs.Matching.{same_file}
@@ -8,7 +9,7 @@ use Rattle.call_journal.specs.Files.{HeldBlock, is_block, without_block, marked,
 use Rattle.trace_rules.specs.PlaceLaws.{file_is, block_is}
 use Rattle.write_rules.specs.declared.held.State.{State}
 use Rattle.write_rules.specs.declared.held.State.TheVariants as state
-use Rattle.write_rules.specs.Held.{one_if, held_in, dirty_in, any_block, of_file, of_block, held_one, dirty_one, dirtied, cleaned}
+use Rattle.write_rules.specs.Held.{held_in, dirty_in, any_block, of_file, of_block, held_one, dirty_one, dirtied, cleaned}
 
 -- so many, where a test is met
 abbrev pub where_so : Bool → ℕ → ℕ

@@ -2,6 +2,7 @@
 use Rattle.std.specs.Prelude.{◌≡◌, ◌≤◌, ℕ, ◌+◌, ◌-◌, ◌==◌, Bool, true, false, ◌&&◌, if◌then◌else◌, List, [], ◌∷◌, nat_le, nat_lt, Option, Some, None}
 use Rattle.std.specs.List.{list_any}
 use Rattle.std.specs.Map.{lookup}
+use Rattle.sprite_ids.specs.Lists.{one_if}
 use Rattle.sprite_ids.specs.declared.caching.CallKind.TheVariants as kind
 use Rattle.sprite_ids.specs.declared.names.FileId.{FileId}
 use Rattle.sprite_ids.specs.declared.names.BlockNo.{BlockNo}
@@ -156,10 +157,6 @@ abbrev pub HeldOn : Rec → Held → Held → Type 0
 HeldOn rec old new = HeldBy rec.kernel rec.event old new
 
 -- ---- what the records tell
-
-abbrev pub one_if : Bool → ℕ
-one_if true = 1
-one_if false = 0
 
 -- how many blocks of a scope are held, and how many of these are dirty
 abbrev pub held_in : (FileId → BlockNo → Bool) → List HeldBlock → ℕ

@@ -3,6 +3,7 @@ use Rattle.std.proofs.Common.{◌≡◌, ◌∙◌, ◌≤◌, ℕ, ◌+◌, ◌
 use Rattle.std.specs.List.{list_any}
 use Rattle.std.proofs.lemmas.Bool.{and_parts, eqb-true, eq-eqb, le-ltb, lt-ltb}
 use Rattle.std.proofs.lemmas.List.Sums.{sum_by-append}
+use Rattle.sprite_ids.specs.Lists.{one_if}
 use Rattle.sprite_ids.specs.declared.caching.CallKind.TheVariants as kind
 use Rattle.sprite_ids.specs.declared.names.FileId.{FileId}
 use Rattle.sprite_ids.specs.declared.names.BlockNo.{BlockNo}
@@ -24,7 +25,7 @@ use Rattle.trace_rules.specs.declared.place.StampAt.{StampAt}
 use Rattle.trace_rules.specs.Lists.{any_more}
 use Rattle.trace_rules.specs.PlaceLaws.{file_is, use_is, place_is}
 use Rattle.trace_rules.specs.Places.{same_place, same_use, file_of, has_stamp}
-use Rattle.write_rules.specs.Held.{mark_at, file_kept, file_or, file_counts, counts_kept, counts_or, counts_at, state_by, state_in, is_pressed_in, dirtied, cleaned, held_one, dirty_one, counts_moved, file_moved, mark_for, Puts, Cleans, Notes, Keeps, TakesBy, HeldBy, HeldOn, one_if, held_in, dirty_in, any_block, of_file, of_block, mark_or, TellsHeld}
+use Rattle.write_rules.specs.Held.{mark_at, file_kept, file_or, file_counts, counts_kept, counts_or, counts_at, state_by, state_in, is_pressed_in, dirtied, cleaned, held_one, dirty_one, counts_moved, file_moved, mark_for, Puts, Cleans, Notes, Keeps, TakesBy, HeldBy, HeldOn, held_in, dirty_in, any_block, of_file, of_block, mark_or, TellsHeld}
 use Rattle.write_rules.specs.BlockLaws.{where_so, held_clean, dirty_clean, clean_in, Moves, filled_moves, dropped_moves, dirtied_moves, wrote_moves}
 
 -- ---- looking

@@ -4,7 +4,6 @@ pub mod Held
 pub mod BlockLaws
 pub mod HeldLaws
 pub mod Marks
-pub mod Judging
 pub mod WriteBacks
 pub mod WriteBackLaws
 pub mod Versions
@@ -13,3 +12,5 @@ pub mod Drops
 pub mod DropLaws
 pub mod Syncs
 pub mod Marked
+pub mod SyncLaws
+pub mod MarkingLaws

@@ -1,6 +1,6 @@
 -- What the one-kernel Unix tells of a record, beside the records themselves: of a block that is written back, whether a `sync` of
 -- its file is due at its kernel; of an entry, whether it makes a stream of a file.
-use Rattle.std.specs.Prelude.{ℕ, Bool, false, List, [], ◌∷◌, Option}
+use Rattle.std.specs.Prelude.{ℕ, Bool, false, List, [], ◌∷◌, Option, refl}
 use Rattle.std.specs.Option.{is_some}
 use Rattle.unix_calls.specs.declared.description.Description.{Description}
 use Rattle.unix_calls.specs.declared.event.SendKind.TheVariants as send
@@ -10,6 +10,7 @@ use Rattle.unix_calls.specs.declared.event.Rec.{Rec}
 use Rattle.unix_calls.specs.State.{Unix}
 use Rattle.call_journal.specs.Past.{Past, entry_count, file_stream, no_past, past_with, state_by, stream_made}
 use Rattle.call_journal.specs.WriteBacks.{is_synced}
+use Rattle.trace_rules.specs.Judging.{TellsEach}
 
 -- an entry that leads to that state makes a stream of a file
 abbrev pub opens_file : Past → Option Unix → Bool
@@ -31,3 +32,6 @@ marks_from c past (rec ∷ rest) = mark_of c past rec ∷ marks_from c (past_wit
 -- of each record of a trace
 abbrev pub marks_of : Description → List Rec → List Bool
 marks_of c trace = marks_from c (no_past c) trace
+
+pub marks_each : (c : Description) → TellsEach c (mark_of c) (marks_from c)
+marks_each c = record { none = λ past. refl; first = λ past rec rest. refl }

@@ -15,10 +15,11 @@ use Rattle.unix_calls.specs.declared.state.Stream.{Stream}
 use Rattle.unix_calls.specs.State.{process_at, stream_at}
 use Rattle.unix_world.specs.declared.World.{World}
 use Rattle.unix_world.specs.Among.{Ascending}
-use Rattle.unix_world.specs.Worlds.{stream_of_fd, unix_of}
+use Rattle.unix_world.specs.Worlds.{unix_of}
 use Rattle.call_journal.specs.Past.{Past, Tie, holds, is_of_file, last_event, tie_at}
 use Rattle.call_journal.specs.Matching.{same_file, has_event, is_return}
 use Rattle.call_journal.specs.Calls.{or_else}
+use Rattle.trace_tables.specs.Known.{stream_for}
 use Rattle.write_rules.specs.declared.syncs.Pending.{Pending}
 use Rattle.write_rules.specs.declared.syncs.Syncs.{Syncs}
 
@@ -28,11 +29,7 @@ use Rattle.write_rules.specs.declared.syncs.Syncs.{Syncs}
 abbrev pub file_at : List (ℕ × FileId) → ℕ → Option FileId
 file_at made place = lookup (λ other. place == other) made
 
--- the file that a descriptor of a process leads to, where there is such a process
-abbrev pub stream_for : World → Option Process → ℕ → Option Stream
-stream_for world None fd = None
-stream_for world (Some p) fd = stream_of_fd world p fd
-
+-- the file that a descriptor of a process leads to
 abbrev pub file_for : Syncs → World → List Process → ℕ → ℕ → Option FileId
 file_for syncs world ps pid fd = option_and_then (λ (s : Stream). file_at syncs.made.entries s.place) (stream_for world (process_at ps pid) fd)
 

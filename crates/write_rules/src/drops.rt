@@ -2,14 +2,13 @@ ghost use Rattle.std.specs.Prelude.{◌≡◌, IfOk, OnOk};
 ghost use Rattle.call_journal.specs.Drops.{blocks_are_dropped_for_a_cause, drops_well};
 ghost use Rattle.write_rules.specs.Drops.{DropsOn, TellsDrops, has_drop_cause, is_drop_cause};
 ghost use Rattle.write_rules.specs.DropLaws.{drops_told, drops_told_on};
-ghost use Rattle.write_rules.specs.Marks.{marks_of};
+ghost use Rattle.write_rules.specs.Marks.{mark_of, marks_each, marks_from, marks_of};
 
 use crate::held::{Held, counts_at, hold_on};
-use crate::judging::{LooksBackMarked, each_keeps_marked};
 use crate::versions::{Versions, is_off, is_old_version, no_versions, version_on};
 use sprite_ids::NoMemory;
 use std::alloc::Global;
-use trace_rules::{BlockAt, FileAt};
+use trace_rules::{BlockAt, FileAt, LooksBackTold, each_keeps_told};
 use unix_calls::{Description, DropCause, Event, Rec};
 
 /// Whether a block leaves a kernel's cache in the trace only for its cause: with a full cache, with the file's mode off, or with an
@@ -28,7 +27,7 @@ pub fn blocks_are_dropped_for_a_cause(
     let versions = no_versions(alloc, trace)?;
     let held = Held::new(alloc);
     let mut judge = Drops { held, versions };
-    each_keeps_marked(c, &mut judge, trace, marks)
+    each_keeps_told(alloc, c, &mut judge, trace, marks)
 }
 
 /// The blocks that the kernels hold, and their versions (this project).
@@ -38,35 +37,51 @@ pub(crate) struct Drops {
     pub(crate) versions: Versions,
 }
 
-impl LooksBackMarked for Drops {
+impl LooksBackTold<bool> for Drops {
+    ghost told_of = { mark_of };
+
+    ghost told_from = { marks_from };
+
     ghost test = { λ c trace past rec. drops_well c past rec.kernel rec.event trace };
 
-    ghost tells = { λ trace judge past. TellsDrops trace judge past };
+    ghost tells = { λ c trace judge past. TellsDrops trace judge past };
 
     ghost fits = { λ c judge rec mark. has_drop_cause c judge rec.kernel rec.event };
 
-    ghost goes_on = { λ rec mark old new. DropsOn rec mark old new };
+    ghost goes_on = { λ c rec mark old new. DropsOn rec mark old new };
 
-    fn fits(&self, c: &Description, rec: &Rec, _mark: bool) -> bool {
+    fn fits(
+        &self,
+        _alloc: Global,
+        c: &Description,
+        rec: &Rec,
+        _mark: &bool,
+    ) -> Result<bool, NoMemory> {
         match &rec.event {
-            Event::Dropped { file, block, cause } => is_cause(
-                c,
-                self,
-                &BlockAt {
+            Event::Dropped { file, block, cause } => {
+                let at = BlockAt {
                     kernel: rec.kernel,
                     file: *file,
                     block: *block,
-                },
-                *cause,
-            ),
-            _ => true,
+                };
+                Ok(is_cause(c, self, &at, *cause))
+            }
+            _ => Ok(true),
         }
     }
 
-    fn go_on(&mut self, rec: &Rec, mark: bool) -> Result<(), NoMemory> {
+    fn go_on(
+        &mut self,
+        _alloc: Global,
+        _c: &Description,
+        rec: &Rec,
+        mark: &bool,
+    ) -> Result<(), NoMemory> {
         hold_on(&mut self.held, rec)?;
-        version_on(&mut self.versions, rec, mark)
+        version_on(&mut self.versions, rec, *mark)
     }
+
+    ghost each = { marks_each };
 
     ghost is_told = { drops_told };
 

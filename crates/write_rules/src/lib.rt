@@ -4,7 +4,6 @@
 mod ages;
 mod drops;
 mod held;
-mod judging;
 mod marking;
 mod syncs;
 mod versions;

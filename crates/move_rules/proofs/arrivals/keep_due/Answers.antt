@@ -1,5 +1,5 @@
 use Rattle.std.proofs.Common.{◌∙◌, sym}
-use Rattle.move_rules.proofs.ArrivalLaws.{dues_on}
+use Rattle.move_rules.specs.ArrivalLaws.{dues_on}
 use Rattle.move_rules.proofs.arrivals.keep_due.Goals as goal
 
 pub returns : goal.returns

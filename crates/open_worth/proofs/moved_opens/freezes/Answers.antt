@@ -9,7 +9,7 @@ use Rattle.open_worth.proofs.moved_opens.freezes.Goals as goal
 pub loop-rec-preserved : goal.loop-rec-preserved
 loop-rec-preserved c =
     let all = count_by (has_event is_any_freeze) c.args.trace.now in
-    counted_next (has_event is_any_freeze) c.args.trace.now c.loop-rec.rec-index c.rec-item.result c.loop-rec.count c.in_ok-count.count all c.is_any_freeze.result c.loop-rec-test.true c.rec-item.is c.loop-rec.invariant c.in_ok-count.ensures c.is_any_freeze.ensures
+    counted_next (has_event is_any_freeze) c.args.trace.now c.loop-rec.rec-index c.rec-item.result c.loop-rec.count c.in_ok-count.count all c.is_any_freeze.result c.loop-rec-test.true c.rec-item.is c.loop-rec.invariant c.in_ok-count.ensures.sum c.is_any_freeze.ensures
 
 pub returns : goal.returns
 returns c =

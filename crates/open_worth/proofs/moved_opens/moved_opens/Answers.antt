@@ -17,7 +17,7 @@ loop-place-preserved c =
     let i = c.loop-place.place in
     let r = c.index-trace-place.result in
     let cut : drop i trace ≡ r ∷ drop (i + 1) trace = rw add-one (drop-cons trace i r c.loop-place-test.true ∙ ap (λ (x : Rec). x ∷ drop (suc i) trace) (sym c.index-trace-place.is)) in
-    moved_on c.loop-place.count c.in_ok-count.count r trace openings i c.is_moved_open.result (moved_in trace openings) cut c.loop-place.invariant c.is_moved_open.ensures c.in_ok-count.ensures
+    moved_on c.loop-place.count c.in_ok-count.count r trace openings i c.is_moved_open.result (moved_in trace openings) cut c.loop-place.invariant c.is_moved_open.ensures c.in_ok-count.ensures.sum
 
 pub returns : goal.returns
 returns c =

@@ -9,7 +9,7 @@ use Rattle.send_worth.proofs.free_sends.occasions.Goals as goal
 pub loop-rec-preserved : goal.loop-rec-preserved
 loop-rec-preserved c =
     let all = count_by (has_event is_occasion) c.args.trace.now in
-    counted_next (has_event is_occasion) c.args.trace.now c.loop-rec.rec-index c.rec-item.result c.loop-rec.count c.in_ok-count.count all c.is_occasion.result c.loop-rec-test.true c.rec-item.is c.loop-rec.invariant c.in_ok-count.ensures c.is_occasion.ensures
+    counted_next (has_event is_occasion) c.args.trace.now c.loop-rec.rec-index c.rec-item.result c.loop-rec.count c.in_ok-count.count all c.is_occasion.result c.loop-rec-test.true c.rec-item.is c.loop-rec.invariant c.in_ok-count.ensures.sum c.is_occasion.ensures
 
 pub returns : goal.returns
 returns c =

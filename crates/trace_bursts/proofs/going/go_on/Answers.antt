@@ -2,7 +2,7 @@ use Rattle.std.proofs.Common.{◌≡◌, ◌≤◌, ℕ, ◌+◌, ◌-◌, Some,
 use Rattle.process_machine.specs.Runs.{ahead, EndsBy}
 use Rattle.process_machine.proofs.MachineLaws.{ahead_sum}
 use Rattle.call_journal.specs.WorthBursts.{distance_within}
-use Rattle.trace_bursts.proofs.GoingLaws.{comes_past, comes_to_call, comes_to_page, ends_there}
+use Rattle.trace_bursts.specs.GoingLaws.{comes_past, comes_to_call, comes_to_page, ends_there}
 use Rattle.trace_bursts.proofs.going.go_on.Goals as goal
 
 pub returns-then-rest-eq0 : goal.returns-then-rest-eq0

@@ -1,5 +1,5 @@
 use Rattle.std.proofs.Common.{◌∙◌}
-use Rattle.trace_bursts.proofs.DoingLaws.{met_called, met_far, met_never}
+use Rattle.trace_bursts.specs.DoingLaws.{met_called, met_far, met_never}
 use Rattle.trace_bursts.proofs.doing.Doing.is_met_on.Goals as goal
 
 pub returns-in-Called : goal.returns-in-Called

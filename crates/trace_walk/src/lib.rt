@@ -1,0 +1,9 @@
+//! A walk along a trace while one Unix kernel makes its entries: whether its journal is a history, and what is told of its records on the
+//! way (this project).
+#![tactic(auto)]
+
+mod walking;
+mod watching;
+
+pub use walking::{Walked, walk, walk_legal};
+pub use watching::Watches;

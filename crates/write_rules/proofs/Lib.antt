@@ -1,3 +1,0 @@
-pub mod JudgingLaws
-pub mod SyncLaws
-pub mod MarkingLaws
