@@ -12,8 +12,7 @@ use Rattle.client_file_tables.specs.declared.states.NameState.{NameState}
 use Rattle.client_file_tables.specs.declared.states.NameState.TheVariants as states
 use Rattle.client_homes.specs.declared.client.ClientProcs.{ClientProcs}
 use Rattle.client_procs.specs.Steps.{begins_step, client_step}
-use Rattle.client_walks.proofs.NameBearing.{answered}
-use Rattle.client_walks.proofs.StepBearing.{goes}
+use Rattle.client_walks.proofs.StepBearing.{whole_step}
 use Rattle.broadcast_laws.specs.Broadcasts.{Before, ClientsAskSo, IsAsked, Now, Parts, WaitsFor}
 use Rattle.broadcast_laws.proofs.Asking.{AskSo, Asked, Known, OperationAsks, RowsAsk, StateAsks, asking, rows_weaken}
 
@@ -26,7 +25,7 @@ each_there F (x ∷ xs) there = (there 0 x refl, each_there F xs (λ at y e. the
 pub step_asks : (Old : TxNo → Parts → Type 0) (s : ClientProcs) (input : Input) (next : TxNo) (step : ℕ) → RowsAsk Old s.files.pending
     → AskSo Old next.0 (client_step s input next step).0.files.pending (client_step s input next step).1.next (client_step s input next step).1.sends
 step_asks Old s input next step h =
-    goes (Asked Old next.0) (asking Old next.0).telling input (λ tx source body t e q. answered (Asked Old next.0) (asking Old next.0) tx source body t q) (begins_step next step s) (record { numbered = omega arith; asks = rows_weaken Old (Known Old next.0 []) (λ tx prefix k. inl k) s.files.pending h })
+    whole_step input (Asked Old next.0) (asking Old next.0 input) (begins_step next step s) (record { numbered = omega arith; asks = rows_weaken Old (Known Old next.0 []) (λ tx prefix k. inl k) s.files.pending h })
 
 -- ---- in the words of the law
 

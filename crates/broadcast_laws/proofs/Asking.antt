@@ -4,14 +4,19 @@ use Rattle.std.specs.List.{AllByRecursion, find}
 use Rattle.sprite_ids.specs.declared.TxNo.{TxNo}
 use Rattle.sprite_ids.specs.Lists.{less}
 use Rattle.sprite_ids.proofs.ListLaws.{each_push, each_weaken, some_is}
+use Rattle.kernel_steps.specs.declared.Input.{Input}
 use Rattle.kernel_steps.specs.declared.Sending.{Sending}
 use Rattle.kernel_steps.specs.Rows.{is_under}
+use Rattle.unix_calls.specs.declared.SendKind.{SendKind}
+use Rattle.unix_calls.specs.declared.SendKind.TheVariants.{Broadcast, Other}
+use Rattle.client_file_tables.specs.declared.names.NameWork.{NameWork}
 use Rattle.client_file_tables.specs.declared.pending.Pending.{Pending}
 use Rattle.client_file_tables.specs.declared.pending.Pending.TheVariants as operations
 use Rattle.client_file_tables.specs.declared.states.NameState.{NameState}
 use Rattle.client_file_tables.specs.declared.states.NameState.TheVariants as states
 use Rattle.client_file_tables.specs.Rows.{less_of, same_pid}
-use Rattle.client_walks.proofs.Bearing.{Bears, Seen, is_plain, is_plain_state, waiting_so}
+use Rattle.client_names.specs.Requests.{echo_to, request_to}
+use Rattle.client_walks.proofs.Bearing.{Bears, Seen, broadcast_to, is_plain, waiting_so, waits_more}
 use Rattle.broadcast_laws.specs.Broadcasts.{AsksNow, Parts}
 
 -- ---- what each operation that waits in a broadcast asked before, or asks now
@@ -72,13 +77,8 @@ found_so F p (row ∷ rows) operation h e = found_by F (p row) row (find p rows)
 
 -- ---- it bears these
 
-plain_asks : (Asks : TxNo → Parts → Type 0) (state : NameState) → is_plain_state state ≡ true → StateAsks Asks state
-plain_asks Asks (states.Broadcasting tx prefix) e = absurd (cc)
-plain_asks Asks (states.Echoing tx server) e = tt
-plain_asks Asks (states.Asking tx) e = tt
-
 plain_so : (Asks : TxNo → Parts → Type 0) (operation : Pending) → is_plain operation ≡ true → OperationAsks Asks operation
-plain_so Asks (operations.Name call) e = plain_asks Asks call.state e
+plain_so Asks (operations.Name call) e = absurd (cc)
 plain_so Asks (operations.Data call) e = tt
 plain_so Asks (operations.Sync call) e = tt
 plain_so Asks (operations.Close work) e = tt
@@ -113,10 +113,18 @@ module _ (Old : TxNo → Parts → Type 0) (first : ℕ) where
   left_asks : (rows : List (ℕ × Pending)) (sends : List Sending) (pid : ℕ) → RowsAsk (Known Old first sends) rows → RowsAsk (Known Old first sends) (less_of pid rows)
   left_asks rows sends pid h = each_less (λ (row : ℕ × Pending). OperationAsks (Known Old first sends) row.1) (is_under same_pid pid) rows h
 
-  pub asking : Bears (Asked Old first)
-  asking = record {
+  -- a request more, for which a call waits so
+  waits_asks : (seen : Seen) (sending : Sending) (pid : ℕ) (work : NameWork) (state : NameState) (kind : SendKind) → StateAsks (Known Old first (seen.sends ++ sending ∷ [])) state → Asked Old first seen → Asked Old first (waits_more seen sending kind pid work state)
+  waits_asks seen sending pid work state kind here q = record {
+    numbered = more_length first seen.next.0 seen.sends sending q.numbered;
+    asks = kept_asks seen.rows (seen.sends ++ sending ∷ []) pid (waiting_so work state) here (asks_more seen.sends sending seen.rows q.asks);
+  }
+
+  pub asking : (came : Input) → Bears came (Asked Old first)
+  asking came = record {
     telling = record {
       tells = λ seen event h q. q;
+      enters = λ seen entry cause q. q;
       says = λ seen sending kind h q. record { numbered = more_length first seen.next.0 seen.sends sending q.numbered; asks = asks_more seen.sends sending seen.rows q.asks };
       answers = λ seen tx body here q. record { numbered = q.numbered; asks = q.asks };
       keeps = λ seen pid operation plain q. record { numbered = q.numbered; asks = kept_asks seen.rows seen.sends pid operation (plain_so (Known Old first seen.sends) operation plain) q.asks };
@@ -125,11 +133,11 @@ module _ (Old : TxNo → Parts → Type 0) (first : ℕ) where
         numbered = q.numbered;
         asks = kept_asks (less_of pid seen.rows) seen.sends pid operation (found_so (OperationAsks (Known Old first seen.sends)) (is_under same_pid pid) seen.rows operation q.asks e) (left_asks seen.rows seen.sends pid q.asks);
       };
-      broadcasts = λ seen pid work prefix sending asks e q. record {
-        numbered = more_length first seen.next.0 seen.sends sending q.numbered;
-        asks = kept_asks seen.rows (seen.sends ++ sending ∷ []) pid (waiting_so work (states.Broadcasting seen.next prefix))
-            (inr (record { at = length seen.sends; sending = sending; there = got_last seen.sends sending; number = q.numbered; asks = asks })) (asks_more seen.sends sending seen.rows q.asks);
-      };
+      broadcasts = λ seen pid work prefix may e q.
+          let sending : Sending = broadcast_to seen.servers pid work prefix in
+          waits_asks seen sending pid work (states.Broadcasting seen.next prefix) (Broadcast prefix) (inr (record { at = length seen.sends; sending = sending; there = got_last seen.sends sending; number = q.numbered; asks = refl })) q;
+      echoes = λ seen pid work server q. waits_asks seen (echo_to server pid work) pid work (states.Echoing seen.next server) Other tt q;
+      asks = λ seen pid work server q. waits_asks seen (request_to server pid work) pid work (states.Asking seen.next) Other tt q;
     };
     learns = λ seen prefix server e q. q;
   }

@@ -1,8 +1,6 @@
 -- Which entries that call a server unreachable a kernel's step tells.
 use Rattle.std.proofs.Common.{◌≡◌, ℕ, Bool, true, false, cond, List, [], ◌∷◌, ◌++◌, map, Option, Some, None, refl, sym, ap, subst, ◌∙◌, append_assoc, append-nil}
-use Rattle.sprite_ids.specs.declared.Errno.{Errno}
 use Rattle.sprite_ids.specs.declared.TxNo.{TxNo}
-use Rattle.process_machine.specs.declared.Call.TheVariants as calls
 use Rattle.kernel_steps.specs.declared.Input.{Input}
 use Rattle.kernel_steps.specs.declared.Input.TheVariants as inputs
 use Rattle.kernel_steps.specs.Outs.{send_event}
@@ -11,9 +9,7 @@ use Rattle.unix_calls.specs.declared.Entry.{Entry}
 use Rattle.unix_calls.specs.declared.Event.{Event}
 use Rattle.unix_calls.specs.declared.Event.TheVariants as events
 use Rattle.unix_calls.specs.declared.SendKind.{SendKind}
-use Rattle.call_journal.specs.Calls.{is_unreachable_error}
 use Rattle.call_journal.specs.Unreachable.{is_unreachable_entry}
-use Rattle.server_kernel.specs.Steps as server_steps
 use Rattle.client_file_tables.specs.declared.client_files.ClientFiles.{ClientFiles}
 use Rattle.client_file_tables.specs.declared.pending.Pending.{Pending}
 use Rattle.client_file_tables.specs.declared.pending.Pending.TheVariants as operations
@@ -23,10 +19,11 @@ use Rattle.client_homes.specs.declared.client.ClientProcs.{ClientProcs}
 use Rattle.client_homes.specs.Says.{with_files}
 use Rattle.client_procs.specs.Steps.{begins_step, client_step, takes}
 use Rattle.client_procs.specs.Turning.{goes_on}
-use Rattle.cause_entries.specs.Causes.{ClientsCallUnreachableSo, ServersCallNoneUnreachable, brings_refused, given_up_by, given_up_for, given_up_from, is_unreachable_event, unreachable_by, unreachable_in}
-use Rattle.cause_entries.proofs.Bearing.{Bears, Parts, is_loud}
-use Rattle.cause_entries.proofs.ServerSaying.{server_takes}
-use Rattle.cause_entries.proofs.StepSaying.{goes, rounds}
+use Rattle.client_walks.proofs.Bearing.{Bears, Seen, is_quiet}
+use Rattle.client_walks.proofs.NameBearing.{answered}
+use Rattle.client_walks.proofs.ReplyLaws.{Caused, GivenUp, NotSo, Refused}
+use Rattle.client_walks.proofs.StepBearing.{rounds, whole_step}
+use Rattle.cause_entries.specs.Causes.{ClientsCallUnreachableSo, brings_refused, given_up_by, given_up_for, given_up_from, is_unreachable_event, unreachable_by, unreachable_in}
 
 -- ---- entries among events
 
@@ -52,30 +49,45 @@ one_more told event found h q = unreachable_append told (event ∷ []) ∙ (ap (
 some_sent : (told : List Event) (tos : List ℕ) (tx : TxNo) (about : Option About) (kind : SendKind) (found : List Entry) → unreachable_in told ≡ found → unreachable_in (told ++ map (send_event tx about kind) tos) ≡ found
 some_sent told tos tx about kind found q = unreachable_append told (map (send_event tx about kind) tos) ∙ (ap (λ (xs : List Entry). unreachable_in told ++ xs) (none_sent tos tx about kind) ∙ (append-nil (unreachable_in told) ∙ q))
 
+-- whether an event tells more than others: that a remote call went out, or that a server is called unreachable
+abbrev pub is_loud : Event → Bool
+is_loud (events.Send tx to about kind) = true
+is_loud event = is_unreachable_event event
+
 pub not_loud : (event : Event) → is_loud event ≡ false → is_unreachable_event event ≡ false
 not_loud (events.Send tx to about kind) h = absurd (cc)
 not_loud (events.Enter entry) h = h
 not_loud event h = refl
 
+pub quiet_not_loud : (event : Event) → is_quiet event ≡ true → is_loud event ≡ false
+quiet_not_loud (events.Send tx to about kind) h = absurd (cc)
+quiet_not_loud (events.Enter entry) h = absurd (cc)
+quiet_not_loud event h = refl
+
 -- ---- that these entries were told so, and no others
 
-abbrev Any : Parts → Type 0
-Any prefix = Unit {0}
+abbrev Found : List Entry → Seen → Type 0
+Found found seen = unreachable_in seen.told ≡ found
 
-abbrev Found : List Entry → List ℕ → List (ℕ × Pending) → TxNo → List Event → Type 0
-Found found servers rows next told = unreachable_in told ≡ found
+-- where nothing that came has a server called unreachable
+abbrev NoCause : Input → Type 0
+NoCause came = (calls_so : Bool) → Caused came calls_so → calls_so ≡ false
 
-finding : (found : List Entry) → Bears Any (Found found)
-finding found = record {
-  root = tt;
-  tells = λ servers rows next told event h q. one_more told event found (not_loud event h) q;
-  sends = λ servers rows next told about kind tos q. some_sent told tos next about kind found q;
-  keeps = λ servers rows next told pid operation h q. q;
-  puts_back = λ servers rows next told pid operation e q. q;
-  left = λ servers rows next told pid q. q;
-  broadcasts = λ servers rows next told pid work prefix may q. some_sent told servers next _ _ found q;
-  echoes = λ servers rows next told pid work server q. some_sent told (server ∷ []) next _ _ found q;
-  asks = λ servers rows next told pid work server q. some_sent told (server ∷ []) next _ _ found q;
+finding : (came : Input) (found : List Entry) → NoCause came → Bears came (Found found)
+finding came found none = record {
+  telling = record {
+    tells = λ seen event h q. one_more seen.told event found (not_loud event (quiet_not_loud event h)) q;
+    enters = λ seen entry cause q. one_more seen.told (events.Enter entry) found (none (is_unreachable_entry entry) cause) q;
+    says = λ seen sending kind h q. some_sent seen.told sending.to seen.next sending.about kind found q;
+    answers = λ seen tx body here q. q;
+    keeps = λ seen pid operation plain q. q;
+    left = λ seen pid q. q;
+    puts_back = λ seen pid operation e q. q;
+    broadcasts = λ seen pid work prefix may e q. some_sent seen.told seen.servers seen.next _ _ found q;
+    echoes = λ seen pid work server q. some_sent seen.told (server ∷ []) seen.next _ _ found q;
+    asks = λ seen pid work server q. some_sent seen.told (server ∷ []) seen.next _ _ found q;
+  };
+  learns = λ seen prefix server e q. one_more seen.told (events.Learned prefix server) found refl q;
 }
 
 -- ---- a remote call that is given up
@@ -105,11 +117,13 @@ up tx s q = up_first (first_call tx s.txs) tx (record s { txs = less_call tx s.t
 abbrev Apart : Input → Type 0
 Apart input = (tx : TxNo) → input ≡ inputs.GaveUp tx → ⊥
 
-abbrev Lawful : Input → Type 0
-Lawful input = (pid number : ℕ) (why : Errno) → input ≡ inputs.Issued pid number (calls.Refused why) → is_unreachable_error (Some why) ≡ false
+no_cause : (input : Input) → Apart input → brings_refused input ≡ false → NoCause input
+no_cause input apart h calls_so (NotSo e) = e
+no_cause input apart h calls_so (Refused pid number why is e) = e ∙ subst (λ (input : Input). brings_refused input ≡ false) is h
+no_cause input apart h calls_so (GivenUp tx is) = absurd (apart tx is)
 
-apart_goes : (input : Input) → Apart input → Lawful input → (s : ClientProcs) → unreachable_in s.files.out.events ≡ [] → unreachable_in (goes_on (takes input s)).files.out.events ≡ []
-apart_goes input apart lawful s q = goes Any (Found []) (finding []) input (λ tx source path e. tt) (λ tx t e p. absurd (apart tx e)) lawful s q
+apart_goes : (input : Input) → Apart input → brings_refused input ≡ false → (s : ClientProcs) → unreachable_in s.files.out.events ≡ [] → unreachable_in (goes_on (takes input s)).files.out.events ≡ []
+apart_goes input apart h s q = whole_step input (Found []) (finding input [] (no_cause input apart h)) s q
 
 -- the rounds of a step give up none
 abbrev some_input : Input
@@ -118,19 +132,18 @@ some_input = inputs.PageNeeded 0 0
 input_apart : Apart some_input
 input_apart tx e = absurd (cc)
 
-input_lawful : Lawful some_input
-input_lawful pid number why e = absurd (cc)
-
 found_rounds : (found : List Entry) (s : ClientProcs) → unreachable_in s.files.out.events ≡ found → unreachable_in (goes_on s).files.out.events ≡ found
-found_rounds found s q = rounds Any (Found found) (finding found) some_input (λ tx source path e. tt) (λ tx t e p. absurd (input_apart tx e)) input_lawful s q
+found_rounds found s q =
+    let bears : Bears some_input (Found found) = finding some_input found (no_cause some_input input_apart refl) in
+    rounds some_input (Found found) bears.telling (λ tx source body t e p. answered some_input (Found found) bears tx source body t e p) s q
 
 taken_so : (input : Input) (s : ClientProcs) → brings_refused input ≡ false → unreachable_in s.files.out.events ≡ [] → unreachable_in (goes_on (takes input s)).files.out.events ≡ given_up_from input s.files
 taken_so (inputs.GaveUp tx) s h q = found_rounds (given_up_from (inputs.GaveUp tx) s.files) (with_files (name_answers.gives_up tx s.files) s) (up tx s.files q)
-taken_so (inputs.Issued pid number call) s h q = apart_goes (inputs.Issued pid number call) (λ tx e. absurd (cc)) (λ other n why e. subst (λ (input : Input). brings_refused input ≡ false) e h) s q
-taken_so (inputs.Request tx source body) s h q = apart_goes (inputs.Request tx source body) (λ other e. absurd (cc)) (λ pid number why e. absurd (cc)) s q
-taken_so (inputs.Replied tx source body) s h q = apart_goes (inputs.Replied tx source body) (λ other e. absurd (cc)) (λ pid number why e. absurd (cc)) s q
-taken_so (inputs.Due file block) s h q = apart_goes (inputs.Due file block) (λ tx e. absurd (cc)) (λ pid number why e. absurd (cc)) s q
-taken_so (inputs.PageNeeded pid page) s h q = apart_goes (inputs.PageNeeded pid page) (λ tx e. absurd (cc)) (λ other number why e. absurd (cc)) s q
+taken_so (inputs.Issued pid number call) s h q = apart_goes (inputs.Issued pid number call) (λ tx e. absurd (cc)) h s q
+taken_so (inputs.Request tx source body) s h q = apart_goes (inputs.Request tx source body) (λ other e. absurd (cc)) refl s q
+taken_so (inputs.Replied tx source body) s h q = apart_goes (inputs.Replied tx source body) (λ other e. absurd (cc)) refl s q
+taken_so (inputs.Due file block) s h q = apart_goes (inputs.Due file block) (λ tx e. absurd (cc)) refl s q
+taken_so (inputs.PageNeeded pid page) s h q = apart_goes (inputs.PageNeeded pid page) (λ tx e. absurd (cc)) refl s q
 
 pub clients_call : ClientsCallUnreachableSo
 clients_call s input next step h = begun_same input s next step (taken_so input (begins_step next step s) h refl)
@@ -138,6 +151,3 @@ clients_call s input next step h = begun_same input s next step (taken_so input 
     begun_same : (input : Input) (s : ClientProcs) (next : TxNo) (step : ℕ) → unreachable_in (client_step s input next step).1.events ≡ given_up_from input (begins_step next step s).files → unreachable_in (client_step s input next step).1.events ≡ given_up_from input s.files
     begun_same (inputs.GaveUp tx) s next step h = h
     begun_same input s next step h = h
-
-pub servers_call : ServersCallNoneUnreachable
-servers_call s input next = server_takes (λ told. unreachable_in told ≡ []) (λ told event h q. one_more told event [] h q) input (server_steps.begins next s) refl

@@ -1,13 +1,4 @@
-pub mod Bearing
-pub mod ReplyLaws
-pub mod EndLaws
-pub mod DataSaying
-pub mod NameSaying
-pub mod Deeds
-pub mod HomeSaying
-pub mod WalkSaying
-pub mod StepSaying
-pub mod ServerSaying
 pub mod CauseLaws
+pub mod ServerCauses
 pub mod WaitLaws
 pub mod SaidLaws

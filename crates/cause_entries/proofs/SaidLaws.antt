@@ -5,10 +5,10 @@ use Rattle.std.specs.List.{AllByRecursion, find}
 use Rattle.sprite_ids.specs.declared.TxNo.{TxNo}
 use Rattle.sprite_ids.specs.Lists.{less}
 use Rattle.sprite_ids.proofs.ListLaws.{each_append, each_push, each_weaken, some_is}
+use Rattle.kernel_steps.specs.declared.Input.{Input}
 use Rattle.kernel_steps.specs.Outs.{send_event}
 use Rattle.kernel_steps.specs.Rows.{is_under}
 use Rattle.unix_calls.specs.declared.About.{About}
-use Rattle.unix_calls.specs.declared.Entry.{Entry}
 use Rattle.unix_calls.specs.declared.Event.{Event}
 use Rattle.unix_calls.specs.declared.Event.TheVariants as events
 use Rattle.unix_calls.specs.declared.SendKind.{SendKind}
@@ -20,11 +20,12 @@ use Rattle.client_file_tables.specs.declared.states.NameState.TheVariants as sta
 use Rattle.client_file_tables.specs.Rows.{first_of, less_of, same_pid}
 use Rattle.client_file_tables.specs.Says.{about_of}
 use Rattle.client_procs.specs.Steps.{begins_step}
+use Rattle.client_walks.proofs.Bearing.{Bears, MayAsk, Seen, is_plain, waiting_so}
+use Rattle.client_walks.proofs.StepBearing.{whole_step}
 use Rattle.cause_entries.specs.Sayings.{AreBelow, ClientsSaySo, IsBelow, IsFor, IsSaid, OperationSaid, RowsSaid, SaysSo, awaited, kind_of, may_ask}
-use Rattle.cause_entries.proofs.Bearing.{Bears, Parts, is_loud, is_plain, waiting_so}
-use Rattle.cause_entries.proofs.NameSaying.{gives_up}
-use Rattle.cause_entries.proofs.StepSaying.{goes}
-use Rattle.cause_entries.proofs.WaitLaws.{each_less, lawful_so}
+use Rattle.cause_entries.specs.Waits.{Parts}
+use Rattle.cause_entries.proofs.CauseLaws.{is_loud, quiet_not_loud}
+use Rattle.cause_entries.proofs.WaitLaws.{asked_so, each_less}
 
 -- ---- events
 
@@ -111,11 +112,8 @@ module _ (may : Parts → Bool) where
 
   -- ---- with what was told before the step
 
-  abbrev Said : List Event → List ℕ → List (ℕ × Pending) → TxNo → List Event → Type 0
-  Said before servers rows next told = SaysSo may (before ++ told) next.0 rows
-
-  abbrev May : Parts → Type 0
-  May prefix = may prefix ≡ true
+  abbrev Said : List Event → Seen → Type 0
+  Said before seen = SaysSo may (before ++ seen.told) seen.next.0 seen.rows
 
   -- one event more, of which nothing depends
   one_said : (before told : List Event) (event : Event) (next : TxNo) (rows : List (ℕ × Pending)) → IsBelow next.0 event → ((number : ℕ) (about : About) (kind : SendKind) → IsFor number about kind event) → SaysSo may (before ++ told) next.0 rows → SaysSo may (before ++ (told ++ event ∷ [])) next.0 rows
@@ -148,27 +146,27 @@ module _ (may : Parts → Bool) where
         rows_said = kept_said rows (before ++ (told ++ map (send_event next (Some (about_of pid work.number)) (kind_of state)) tos)) (next.0 + 1) pid (waiting_so work state) (own_said before told tos next (about_of pid work.number) state rows is asked q) sent.rows_said;
       }
 
-  pub saying : (before : List Event) → May [] → Bears May (Said before)
-  saying before root = record {
-    root = root;
-    tells = λ servers rows next told event h q. one_said before told event next rows (quiet_below next.0 event h) (λ number about kind. quiet_for number about kind event h) q;
-    sends = λ servers rows next told about kind tos q. sent_said before told tos next about kind rows q;
-    keeps = λ servers rows next told pid operation plain q. record { told_below = q.told_below; rows_said = kept_said rows (before ++ told) next.0 pid operation (plain_said operation (before ++ told) next.0 pid plain) q.rows_said };
-    puts_back = λ servers rows next told pid operation e q. record {
-      told_below = q.told_below;
-      rows_said = kept_said (less_of pid rows) (before ++ told) next.0 pid operation (found_said rows (before ++ told) next.0 pid operation q.rows_said e) (left_said rows (before ++ told) next.0 pid q.rows_said);
+  saying : (came : Input) (before : List Event) → ((prefix : Parts) → MayAsk came prefix → may prefix ≡ true) → Bears came (Said before)
+  saying came before asked = record {
+    telling = record {
+      tells = λ seen event h q. let quiet = quiet_not_loud event h in one_said before seen.told event seen.next seen.rows (quiet_below seen.next.0 event quiet) (λ number about kind. quiet_for number about kind event quiet) q;
+      enters = λ seen entry cause q. one_said before seen.told (events.Enter entry) seen.next seen.rows tt (λ number about kind. tt) q;
+      says = λ seen sending kind h q. sent_said before seen.told sending.to seen.next sending.about kind seen.rows q;
+      answers = λ seen tx body here q. record { told_below = q.told_below; rows_said = q.rows_said };
+      keeps = λ seen pid operation plain q. record { told_below = q.told_below; rows_said = kept_said seen.rows (before ++ seen.told) seen.next.0 pid operation (plain_said operation (before ++ seen.told) seen.next.0 pid plain) q.rows_said };
+      left = λ seen pid q. record { told_below = q.told_below; rows_said = left_said seen.rows (before ++ seen.told) seen.next.0 pid q.rows_said };
+      puts_back = λ seen pid operation e q. record {
+        told_below = q.told_below;
+        rows_said = kept_said (less_of pid seen.rows) (before ++ seen.told) seen.next.0 pid operation (found_said seen.rows (before ++ seen.told) seen.next.0 pid operation q.rows_said e) (left_said seen.rows (before ++ seen.told) seen.next.0 pid q.rows_said);
+      };
+      broadcasts = λ seen pid work prefix ask e q. waits_said before seen.told seen.servers seen.next pid work (states.Broadcasting seen.next prefix) seen.rows refl (asked prefix ask) q;
+      echoes = λ seen pid work server q. waits_said before seen.told (server ∷ []) seen.next pid work (states.Echoing seen.next server) seen.rows refl refl q;
+      asks = λ seen pid work server q. waits_said before seen.told (server ∷ []) seen.next pid work (states.Asking seen.next) seen.rows refl refl q;
     };
-    left = λ servers rows next told pid q. record { told_below = q.told_below; rows_said = left_said rows (before ++ told) next.0 pid q.rows_said };
-    broadcasts = λ servers rows next told pid work prefix asked q. waits_said before told servers next pid work (states.Broadcasting next prefix) rows refl asked q;
-    echoes = λ servers rows next told pid work server q. waits_said before told (server ∷ []) next pid work (states.Echoing next server) rows refl refl q;
-    asks = λ servers rows next told pid work server q. waits_said before told (server ∷ []) next pid work (states.Asking next) rows refl refl q;
+    learns = λ seen prefix server e q. one_said before seen.told (events.Learned prefix server) seen.next seen.rows tt (λ number about kind. tt) q;
   }
 
 -- ---- a step
-
--- a call that is given up is entered, which tells of no sending
-entered_said : (may : Parts → Bool) (before told : List Event) (entry : Entry) (next : TxNo) (rows : List (ℕ × Pending)) → SaysSo may (before ++ told) next.0 rows → SaysSo may (before ++ (told ++ events.Enter entry ∷ [])) next.0 rows
-entered_said may before told entry next rows q = one_said may before told (events.Enter entry) next rows tt (λ number about kind. tt) q
 
 -- an event that isn't loud, one more
 pub quiet_said : (may : Parts → Bool) (before told : List Event) (event : Event) (next : TxNo) (rows : List (ℕ × Pending)) → is_loud event ≡ false → SaysSo may (before ++ told) next.0 rows → SaysSo may (before ++ (told ++ event ∷ [])) next.0 rows
@@ -176,6 +174,4 @@ quiet_said may before told event next rows quiet q = one_said may before told ev
 
 pub clients_say : ClientsSaySo
 clients_say may told s input next step safe root redirected h =
-    goes (May may) (Said may told) (saying may told root) input redirected
-    (λ tx t e q. gives_up (May may) (Said may told) (saying may told root) (λ servers rows after es entry k. entered_said may told es entry after rows k) tx t q)
-    (lawful_so input safe) (begins_step next step s) (subst (λ (es : List Event). SaysSo may es next.0 s.files.pending) (sym (append-nil told)) h)
+    whole_step input (Said may told) (saying may input told (λ prefix ask. asked_so may input root redirected prefix ask)) (begins_step next step s) (subst (λ (es : List Event). SaysSo may es next.0 s.files.pending) (sym (append-nil told)) h)

@@ -2,11 +2,10 @@
 use Rattle.std.proofs.Common.{◌≡◌, ℕ, zero, suc, Bool, true, false, cond, List, [], ◌∷◌, ◌++◌, map, slice_get, Option, Some, option_map, refl, sym, ap, subst, append_assoc, append-nil}
 use Rattle.std.proofs.lemmas.Bool.{eqb-true}
 use Rattle.std.specs.List.{AllByRecursion, find}
-use Rattle.sprite_ids.specs.declared.Errno.{Errno}
 use Rattle.sprite_ids.specs.declared.TxNo.{TxNo}
 use Rattle.sprite_ids.specs.Lists.{less}
 use Rattle.sprite_ids.proofs.ListLaws.{each_push, each_weaken, some_is}
-use Rattle.process_machine.specs.declared.Call.TheVariants as calls
+use Rattle.packet_bodies.specs.declared.ReplyBody.TheVariants.{Redirect}
 use Rattle.kernel_steps.specs.declared.Input.{Input}
 use Rattle.kernel_steps.specs.declared.Input.TheVariants as inputs
 use Rattle.kernel_steps.specs.Outs.{send_event}
@@ -16,7 +15,6 @@ use Rattle.unix_calls.specs.declared.Event.{Event}
 use Rattle.unix_calls.specs.declared.Event.TheVariants as events
 use Rattle.unix_calls.specs.declared.SendKind.{SendKind}
 use Rattle.unix_calls.specs.declared.SendKind.TheVariants.{Broadcast, Other}
-use Rattle.call_journal.specs.Calls.{is_unreachable_error}
 use Rattle.client_file_tables.specs.declared.pending.Pending.{Pending}
 use Rattle.client_file_tables.specs.declared.pending.Pending.TheVariants as operations
 use Rattle.client_file_tables.specs.declared.states.NameState.{NameState}
@@ -24,11 +22,9 @@ use Rattle.client_file_tables.specs.declared.states.NameState.TheVariants as sta
 use Rattle.client_file_tables.specs.Rows.{first_of, less_of, same_pid}
 use Rattle.client_file_tables.specs.Says.{about_of}
 use Rattle.client_procs.specs.Steps.{begins_step}
-use Rattle.cause_entries.specs.Causes.{brings_refused}
-use Rattle.cause_entries.specs.Waits.{ClientsWaitSo, IsTold, OperationWent, RowsWent, WentOut}
-use Rattle.cause_entries.proofs.Bearing.{Bears, Parts, is_plain, waiting_so}
-use Rattle.cause_entries.proofs.NameSaying.{gives_up}
-use Rattle.cause_entries.proofs.StepSaying.{goes}
+use Rattle.client_walks.proofs.Bearing.{Bears, Led, MayAsk, Root, Seen, is_plain, waiting_so}
+use Rattle.client_walks.proofs.StepBearing.{whole_step}
+use Rattle.cause_entries.specs.Waits.{ClientsWaitSo, IsTold, OperationWent, Parts, RowsWent, WentOut}
 
 -- ---- lists
 
@@ -112,11 +108,8 @@ module _ (may : Parts → Bool) where
 
   -- ---- with what was told before the step
 
-  abbrev Went : List Event → List ℕ → List (ℕ × Pending) → TxNo → List Event → Type 0
-  Went before servers rows next told = RowsWent may (before ++ told) servers rows
-
-  abbrev May : Parts → Type 0
-  May prefix = may prefix ≡ true
+  abbrev Went : List Event → Seen → Type 0
+  Went before seen = RowsWent may (before ++ seen.told) seen.servers seen.rows
 
   more_went : (before told more : List Event) (servers : List ℕ) (rows : List (ℕ × Pending)) → RowsWent may (before ++ told) servers rows → RowsWent may (before ++ (told ++ more)) servers rows
   more_went before told more servers rows h = subst (λ (es : List Event). RowsWent may es servers rows) (append_assoc before told more) (rows_more rows (before ++ told) more servers h)
@@ -124,32 +117,40 @@ module _ (may : Parts → Bool) where
   sent_more : (before told : List Event) (tos : List ℕ) (tx : TxNo) (about : Option About) (kind : SendKind) (at to : ℕ) → slice_get tos at ≡ Some to → IsTold (before ++ (told ++ map (send_event tx about kind) tos)) (events.Send tx to about kind)
   sent_more before told tos tx about kind at to e = subst (λ (es : List Event). IsTold es (events.Send tx to about kind)) (append_assoc before told _) (sent_told (before ++ told) tos tx about kind at to e)
 
-  pub going : (before : List Event) → May [] → Bears May (Went before)
-  going before root = record {
-    root = root;
-    tells = λ servers rows next told event h q. more_went before told (event ∷ []) servers rows q;
-    sends = λ servers rows next told about kind tos q. more_went before told (map (send_event next about kind) tos) servers rows q;
-    keeps = λ servers rows next told pid operation plain q. kept_went rows (before ++ told) servers pid operation (plain_went operation (before ++ told) servers pid plain) q;
-    puts_back = λ servers rows next told pid operation e q. kept_went (less_of pid rows) (before ++ told) servers pid operation (found_went rows (before ++ told) servers pid operation q e) (left_went rows (before ++ told) servers pid q);
-    left = λ servers rows next told pid q. left_went rows (before ++ told) servers pid q;
-    broadcasts = λ servers rows next told pid work prefix asked q.
-        let more : List Event = map (send_event next (Some (about_of pid work.number)) (Broadcast prefix)) servers in
-        kept_went rows (before ++ (told ++ more)) servers pid (waiting_so work (states.Broadcasting next prefix)) (asked, λ at to e. sent_more before told servers next (Some (about_of pid work.number)) (Broadcast prefix) at to e) (more_went before told more servers rows q);
-    echoes = λ servers rows next told pid work server q.
-        let more : List Event = map (send_event next (Some (about_of pid work.number)) Other) (server ∷ []) in
-        kept_went rows (before ++ (told ++ more)) servers pid (waiting_so work (states.Echoing next server)) (sent_more before told (server ∷ []) next (Some (about_of pid work.number)) Other 0 server refl) (more_went before told more servers rows q);
-    asks = λ servers rows next told pid work server q.
-        let more : List Event = map (send_event next (Some (about_of pid work.number)) Other) (server ∷ []) in
-        kept_went rows (before ++ (told ++ more)) servers pid (waiting_so work (states.Asking next)) (server, sent_more before told (server ∷ []) next (Some (about_of pid work.number)) Other 0 server refl) (more_went before told more servers rows q);
+  -- one more went out, and one waits for it
+  waits_went : (before : List Event) (seen : Seen) (pid : ℕ) (operation : Pending) (more : List Event) → OperationWent may (before ++ (seen.told ++ more)) seen.servers pid operation → Went before seen → RowsWent may (before ++ (seen.told ++ more)) seen.servers (seen.rows ++ (pid, operation) ∷ [])
+  waits_went before seen pid operation more here q = kept_went seen.rows (before ++ (seen.told ++ more)) seen.servers pid operation here (more_went before seen.told more seen.servers seen.rows q)
+
+  going : (came : Input) (before : List Event) → ((prefix : Parts) → MayAsk came prefix → may prefix ≡ true) → Bears came (Went before)
+  going came before asked = record {
+    telling = record {
+      tells = λ seen event h q. more_went before seen.told (event ∷ []) seen.servers seen.rows q;
+      enters = λ seen entry cause q. more_went before seen.told (events.Enter entry ∷ []) seen.servers seen.rows q;
+      says = λ seen sending kind h q. more_went before seen.told (map (send_event seen.next sending.about kind) sending.to) seen.servers seen.rows q;
+      answers = λ seen tx body here q. q;
+      keeps = λ seen pid operation plain q. kept_went seen.rows (before ++ seen.told) seen.servers pid operation (plain_went operation (before ++ seen.told) seen.servers pid plain) q;
+      left = λ seen pid q. left_went seen.rows (before ++ seen.told) seen.servers pid q;
+      puts_back = λ seen pid operation e q. kept_went (less_of pid seen.rows) (before ++ seen.told) seen.servers pid operation (found_went seen.rows (before ++ seen.told) seen.servers pid operation q e) (left_went seen.rows (before ++ seen.told) seen.servers pid q);
+      broadcasts = λ seen pid work prefix ask e q.
+          waits_went before seen pid (waiting_so work (states.Broadcasting seen.next prefix)) (map (send_event seen.next (Some (about_of pid work.number)) (Broadcast prefix)) seen.servers)
+          (asked prefix ask, λ at to e. sent_more before seen.told seen.servers seen.next (Some (about_of pid work.number)) (Broadcast prefix) at to e) q;
+      echoes = λ seen pid work server q.
+          waits_went before seen pid (waiting_so work (states.Echoing seen.next server)) (map (send_event seen.next (Some (about_of pid work.number)) Other) (server ∷ []))
+          (sent_more before seen.told (server ∷ []) seen.next (Some (about_of pid work.number)) Other 0 server refl) q;
+      asks = λ seen pid work server q.
+          waits_went before seen pid (waiting_so work (states.Asking seen.next)) (map (send_event seen.next (Some (about_of pid work.number)) Other) (server ∷ []))
+          (server, sent_more before seen.told (server ∷ []) seen.next (Some (about_of pid work.number)) Other 0 server refl) q;
+    };
+    learns = λ seen prefix server e q. more_went before seen.told (events.Learned prefix server ∷ []) seen.servers seen.rows q;
   }
 
 -- ---- a step
 
-pub lawful_so : (input : Input) → brings_refused input ≡ false → (pid number : ℕ) (why : Errno) → input ≡ inputs.Issued pid number (calls.Refused why) → is_unreachable_error (Some why) ≡ false
-lawful_so input h pid number why e = subst (λ (input : Input). brings_refused input ≡ false) e h
+-- servers are asked only for prefixes for which they may be
+pub asked_so : (may : Parts → Bool) (input : Input) → may [] ≡ true → ((tx : TxNo) (source : ℕ) (path : Parts) → input ≡ inputs.Replied tx source (Redirect path) → may path ≡ true) → (prefix : Parts) → MayAsk input prefix → may prefix ≡ true
+asked_so may input root redirected prefix (Root e) = subst (λ (path : Parts). may path ≡ true) (sym e) root
+asked_so may input root redirected prefix (Led tx source e) = redirected tx source prefix e
 
 pub clients_wait : ClientsWaitSo
 clients_wait may told s input next step safe root redirected h =
-    goes (May may) (Went may told) (going may told root) input redirected
-    (λ tx t e q. gives_up (May may) (Went may told) (going may told root) (λ servers rows after es entry k. more_went may told es (events.Enter entry ∷ []) servers rows k) tx t q)
-    (lawful_so input safe) (begins_step next step s) (subst (λ (es : List Event). RowsWent may es s.files.servers s.files.pending) (sym (append-nil told)) h)
+    whole_step input (Went may told) (going may input told (λ prefix ask. asked_so may input root redirected prefix ask)) (begins_step next step s) (subst (λ (es : List Event). RowsWent may es s.files.servers s.files.pending) (sym (append-nil told)) h)

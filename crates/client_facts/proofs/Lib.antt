@@ -14,3 +14,4 @@ pub mod ComingLaws
 pub mod ArrivalLaws
 pub mod QuietLaws
 pub mod CacheLaws
+pub mod LockLaws

@@ -38,6 +38,7 @@ use Rattle.client_homes.specs.Waits as waiting
 use Rattle.client_homes.specs.Words as words
 use Rattle.client_walks.specs.Hands.{Nothing, Holding, child_heard, forked, hand_of, heard}
 use Rattle.client_walks.proofs.Deeds.{Always, Hand, KeepsAtHome, KeepsWithin, WalkWithin, holds}
+use Rattle.client_walks.proofs.ReplyLaws.{NotSo}
 
 module _ (P : ClientProcs → Hand → Type 0) (came : Input) (keeps : KeepsWithin came Always P) (h : Hand) where
   -- no process is in hand
@@ -222,10 +223,10 @@ module _ (P : ClientProcs → Hand → Type 0) (came : Input) (keeps : KeepsWith
   fetched_or_gone None request s p = gone_home (issuing.home_for request) request s p
 
   begun_if : (o : Option HomeRequest) (pid : ℕ) (s : ClientProcs) → At s → At (issuing.begins_if pid o s)
-  begun_if None pid s p = keeps.calls.answers_here s h pid (Error errnos.NoProcess) tt p
+  begun_if None pid s p = keeps.calls.answers_here s h pid (Error errnos.NoProcess) (NotSo refl) tt p
   begun_if (Some request) pid s p =
       on_if (holds Nothing h) (not (is_client s.kernels (issuing.home_for request))) (procs_of.answers_here request.pid (Error errnos.NoProcess) s) (issuing.fetches_or_goes (issuing.page_for request s) request s)
-      (λ e. keeps.calls.answers_here s h request.pid (Error errnos.NoProcess) tt p) (λ e. fetched_or_gone (issuing.page_for request s) request s p)
+      (λ e. keeps.calls.answers_here s h request.pid (Error errnos.NoProcess) (NotSo refl) tt p) (λ e. fetched_or_gone (issuing.page_for request s) request s p)
 
   issued_home : (pid : ℕ) (s : ClientProcs) → At s → At (issuing.issues_home pid s)
   issued_home pid s p = begun_if (issuing.own_request pid s) pid s p

@@ -19,6 +19,7 @@ use Rattle.packet_bodies.specs.declared.ReplyBody.{ReplyBody}
 use Rattle.packet_bodies.specs.declared.ReplyBody.TheVariants as bodies
 use Rattle.packet_bodies.specs.declared.ValueReply.{ValueReply}
 use Rattle.kernel_steps.specs.Rows.{is_under}
+use Rattle.kernel_steps.specs.declared.Input.{Input}
 use Rattle.unix_calls.specs.declared.About.{About}
 use Rattle.unix_calls.specs.declared.DropCause.{DropCause}
 use Rattle.unix_calls.specs.declared.DropCause.TheVariants as causes
@@ -66,10 +67,10 @@ use Rattle.client_file_tables.specs.Blocks as blocks
 use Rattle.client_file_tables.specs.Blocks.{state_in, with_cache}
 use Rattle.client_file_tables.specs.Extents.{is_within}
 use Rattle.client_file_tables.specs.Fillers as fillers
-use Rattle.client_file_tables.specs.Fillers.{drops_filler, is_filling}
+use Rattle.client_file_tables.specs.Fillers.{is_filling}
 use Rattle.client_file_tables.specs.Locks as locking
-use Rattle.client_file_tables.specs.Locks.{frees, gets_lock, takes_lock}
-use Rattle.client_file_tables.specs.Rows.{first_call, first_of, first_stream, is_pid, less_call, less_of, less_stream, same_pid}
+use Rattle.client_file_tables.specs.Locks.{gets_lock}
+use Rattle.client_file_tables.specs.Rows.{first_call, first_of, less_call, less_of, same_pid}
 use Rattle.client_file_tables.specs.Says as says
 use Rattle.client_file_tables.specs.Says.{about_of}
 use Rattle.client_file_tables.specs.Steps as steps
@@ -94,9 +95,13 @@ use Rattle.client_streams.specs.Closing as closing
 use Rattle.client_streams.specs.Descriptors as descriptors
 use Rattle.client_streams.specs.Moving as moving
 use Rattle.kernel_steps.specs.declared.Sending.{Sending}
-use Rattle.client_walks.proofs.Bearing.{BearsTelling, Seen, asks_none, is_other, seen_of}
+use Rattle.call_journal.specs.Unreachable.{is_unreachable_entry}
+use Rattle.client_facts.proofs.LockLaws as turns
+use Rattle.client_facts.proofs.LockLaws.{SeesNoTurns}
+use Rattle.client_walks.proofs.Bearing.{BearsTelling, Seen, asks_none, is_quiet, seen_of}
+use Rattle.client_walks.proofs.ReplyLaws.{Caused, NotSo, Safe}
 
-module _ (Q : Seen → Type 0) (bears : BearsTelling Q) where
+module _ (came : Input) (Q : Seen → Type 0) (bears : BearsTelling came Q) where
   abbrev pub P : ClientFiles → Type 0
   P s = Q (seen_of s)
 
@@ -106,14 +111,14 @@ module _ (Q : Seen → Type 0) (bears : BearsTelling Q) where
 
   -- What is said, what goes out, and what waits
 
-  pub noted : (event : Event) (s : ClientFiles) → is_other event ≡ true → P s → P (says.notes event s)
+  noted : (event : Event) (s : ClientFiles) → is_quiet event ≡ true → P s → P (says.notes event s)
   noted event s h p = bears.tells (seen_of s) event h p
 
-  pub entered : (entry : Entry) (s : ClientFiles) → P s → P (says.notes (events.Enter entry) s)
-  entered entry s p = noted (events.Enter entry) s refl p
+  pub entered : (entry : Entry) (s : ClientFiles) → Caused came (is_unreachable_entry entry) → P s → P (says.notes (events.Enter entry) s)
+  entered entry s cause p = bears.enters (seen_of s) entry cause p
 
-  pub answers_here : (about : About) (call : Call) (reply : Reply) (s : ClientFiles) → P s → P (says.answers_here about call reply s)
-  answers_here about call reply s p = entered _ s p
+  pub answers_here : (about : About) (call : Call) (reply : Reply) (s : ClientFiles) → Safe reply → P s → P (says.answers_here about call reply s)
+  answers_here about call reply s safe p = entered _ s (NotSo safe) p
 
   -- a request more
   pub sent : (sending : Sending) (kind : SendKind) (s : ClientFiles) → asks_none kind ≡ true → P s → P (says.sends sending kind s)
@@ -139,30 +144,10 @@ module _ (Q : Seen → Type 0) (bears : BearsTelling Q) where
   pub puts_back : (pid : ℕ) (operation : Pending) (rows : List (ℕ × Pending)) (s : ClientFiles) → first_of pid rows ≡ Some operation → P (record s { pending = rows }) → P (record s { pending = less_of pid rows ++ (pid, operation) ∷ [] })
   puts_back pid operation rows s e p = bears.puts_back (seen_of (record s { pending = rows })) pid operation e p
 
-  -- Locks and turns to fill
+  -- Locks and turns to fill aren't seen
 
-  waits_for_lock : (pid : ℕ) (stream : StreamNo) (s : ClientFiles) → P s → P (locking.waits_for_lock pid stream s)
-  waits_for_lock pid stream s p = on_if _ s _ p p
-
-  pub locks : (pid : ℕ) (stream : StreamNo) (s : ClientFiles) → P s → P (locking.locks pid stream s)
-  locks pid stream s p = on_if (gets_lock pid stream s) (takes_lock pid stream s) (locking.waits_for_lock pid stream (takes_lock pid stream s)) p (waits_for_lock pid stream (takes_lock pid stream s) p)
-
-  hands_first : (o : Option ℕ) (stream : StreamNo) (s : ClientFiles) → P s → P (locking.hands_first o stream s)
-  hands_first (Some pid) stream s p = p
-  hands_first None stream s p = p
-
-  pub unlocks : (stream : StreamNo) (s : ClientFiles) → P s → P (locking.unlocks stream s)
-  unlocks stream s p = hands_first (first_stream stream s.lock_waits) stream (record (frees stream s) { lock_waits = less_stream stream s.lock_waits }) p
-
-  begins_filling : (pid : ℕ) (s : ClientFiles) → P s → P (fillers.begins_filling pid s)
-  begins_filling pid s p = on_if (list_any (is_pid pid) s.fillers) s _ p p
-
-  wakes_first : (waiting : List ℕ) (s : ClientFiles) → P s → P (fillers.wakes_first waiting s)
-  wakes_first [] s p = p
-  wakes_first (first ∷ rest) s p = p
-
-  leaves_filling : (pid : ℕ) (s : ClientFiles) → P s → P (fillers.leaves_filling pid s)
-  leaves_filling pid s p = on_if (is_filling pid s) _ (drops_filler pid s) (wakes_first (drops_filler pid s).fillers (drops_filler pid s) p) p
+  no_turns : SeesNoTurns P
+  no_turns = record { streams = λ s streams p. p; waits = λ s rows p. p; fillers = λ s pids p. p; woken = λ s pid p. p }
 
   -- Streams
 
@@ -263,10 +248,10 @@ module _ (Q : Seen → Type 0) (bears : BearsTelling Q) where
   -- Operations that end
 
   finishes : (pid : ℕ) (stream : StreamNo) (s : ClientFiles) → P s → P (finishing.finishes pid stream s)
-  finishes pid stream s p = unlocks stream (fillers.leaves_filling pid s) (leaves_filling pid s p)
+  finishes pid stream s p = turns.unlocks P no_turns stream (fillers.leaves_filling pid s) (turns.leaves_filling P no_turns pid s p)
 
-  ends_here : (pid : ℕ) (call : DataCall) (reply : Reply) (s : ClientFiles) → P s → P (finishing.ends_here pid call reply s)
-  ends_here pid call reply s p = finishes pid call.stream (says.answers_here (about_of pid call.number) _ reply s) (answers_here (about_of pid call.number) _ reply s p)
+  ends_here : (pid : ℕ) (call : DataCall) (reply : Reply) (s : ClientFiles) → Safe reply → P s → P (finishing.ends_here pid call reply s)
+  ends_here pid call reply s safe p = finishes pid call.stream (says.answers_here (about_of pid call.number) _ reply s) (answers_here (about_of pid call.number) _ reply s safe p)
 
   ends_there : (pid : ℕ) (call : DataCall) (reply : Reply) (s : ClientFiles) → P s → P (finishing.ends_there pid call reply s)
   ends_there pid call reply s p = finishes pid call.stream (says.replies pid reply s) p
@@ -276,7 +261,7 @@ module _ (Q : Seen → Type 0) (bears : BearsTelling Q) where
   reads_cached : (pid : ℕ) (call : DataCall) (extent : Extent) (s : ClientFiles) → P s → P (cached.reads_cached pid call extent s)
   reads_cached pid call extent s p =
       let used : ClientFiles = blocks.reads call.file extent s in
-      ends_here pid call _ (streams.moves_offset call.stream (extent.from + extent.length) used) (moves_offset call.stream (extent.from + extent.length) used (reads call.file extent s p))
+      ends_here pid call _ (streams.moves_offset call.stream (extent.from + extent.length) used) refl (moves_offset call.stream (extent.from + extent.length) used (reads call.file extent s p))
 
   writes_by : (kind : DataKind) (file : FileId) (start : ℕ) (s : ClientFiles) → P s → P (cached.writes_by kind file start s)
   writes_by (kinds.Write bytes) file start s p = writes file start bytes s p
@@ -288,7 +273,7 @@ module _ (Q : Seen → Type 0) (bears : BearsTelling Q) where
   writes_cached pid call extent s p =
       let put : ClientFiles = cached.writes_bytes call extent.from s in
       let dirty : ClientFiles = backs.dirties_all call.file extent put in
-      ends_here pid call _ (streams.moves_offset call.stream (extent.from + extent.length) dirty)
+      ends_here pid call _ (streams.moves_offset call.stream (extent.from + extent.length) dirty) refl
       (moves_offset call.stream (extent.from + extent.length) dirty (dirties_all call.file extent put (writes_by call.kind call.file extent.from s p)))
 
   does_cached : (pid : ℕ) (call : DataCall) (extent : Extent) (s : ClientFiles) → P s → P (cached.does_cached pid call extent s)
@@ -347,7 +332,7 @@ module _ (Q : Seen → Type 0) (bears : BearsTelling Q) where
   fills_first : (pid : ℕ) (call : DataCall) (extent : Extent) (s : ClientFiles) → P s → P (filling.fills_first pid call extent s)
   fills_first pid call extent s p =
       let begun : ClientFiles = fillers.begins_filling pid s in
-      let so = begins_filling pid s p in
+      let so = turns.begins_filling P no_turns pid s p in
       on_if (is_filling pid begun) _ _ (fills_own pid call extent begun so) (kept_data pid _ begun so)
 
   -- Operations that look at everything anew
@@ -357,10 +342,10 @@ module _ (Q : Seen → Type 0) (bears : BearsTelling Q) where
   uses_by None pid call extent s p = does_cached pid call extent s p
 
   does : (plan : Plan) (pid : ℕ) (call : DataCall) (append : Bool) (s : ClientFiles) → P s → P (looking.does plan pid call append s)
-  does (plans.Seek to) pid call append s p = ends_here pid call _ (streams.moves_offset call.stream to s) (moves_offset call.stream to s p)
-  does plans.Refuse pid call append s p = ends_here pid call _ s p
-  does (plans.Ask offset) pid call append s p = let left : ClientFiles = fillers.leaves_filling pid s in kept_data pid _ (server_ops.sends_op pid call offset append left) (sent (server_ops.op_sending pid call offset append left) (sendings.Op call.file) left refl (leaves_filling pid s p))
-  does (plans.Tell size) pid call append s p = ends_here pid call _ s p
+  does (plans.Seek to) pid call append s p = ends_here pid call _ (streams.moves_offset call.stream to s) refl (moves_offset call.stream to s p)
+  does plans.Refuse pid call append s p = ends_here pid call _ s refl p
+  does (plans.Ask offset) pid call append s p = let left : ClientFiles = fillers.leaves_filling pid s in kept_data pid _ (server_ops.sends_op pid call offset append left) (sent (server_ops.op_sending pid call offset append left) (sendings.Op call.file) left refl (turns.leaves_filling P no_turns pid s p))
+  does (plans.Tell size) pid call append s p = ends_here pid call _ s refl p
   does (plans.Use extent) pid call append s p = uses_by (cached.missing_of call extent s) pid call extent s p
 
   looks_by : (o : Option Stream) (pid : ℕ) (call : DataCall) (s : ClientFiles) → P s → P (looking.looks_by o pid call s)
@@ -370,7 +355,7 @@ module _ (Q : Seen → Type 0) (bears : BearsTelling Q) where
   pub looks : (pid : ℕ) (call : DataCall) (s : ClientFiles) → P s → P (looking.looks pid call s)
   looks pid call s p =
       let locked : ClientFiles = locking.locks pid call.stream s in
-      let so = locks pid call.stream s p in
+      let so = turns.locks P no_turns pid call.stream s p in
       on_if (gets_lock pid call.stream s) _ _ (looks_by (stream_at call.stream locked) pid call locked so) (kept_data pid _ locked so)
 
   -- Answers to them
@@ -419,7 +404,7 @@ module _ (Q : Seen → Type 0) (bears : BearsTelling Q) where
 
   syncs_first : (o : Option BlockNo) (pid : ℕ) (call : SyncCall) (s : ClientFiles) → P s → P (syncing.syncs_first pid call o s)
   syncs_first (Some block) pid call s p = syncs_out (current_write_back call.file block s) pid call block s p
-  syncs_first None pid call s p = entered _ s p
+  syncs_first None pid call s p = entered _ s (NotSo refl) p
 
   pub syncs : (pid : ℕ) (call : SyncCall) (s : ClientFiles) → P s → P (syncing.syncs pid call s)
   syncs pid call s p =
@@ -480,7 +465,7 @@ module _ (Q : Seen → Type 0) (bears : BearsTelling Q) where
   -- Closes
 
   enters_closed : (cause : ClosingOf) (pid : ℕ) (s : ClientFiles) → P s → P (closing.enters_closed pid cause s)
-  enters_closed (closings.Call number fd) pid s p = entered _ s p
+  enters_closed (closings.Call number fd) pid s p = entered _ s (NotSo refl) p
   enters_closed (closings.End about) pid s p = p
 
   ends_closing : (cause : ClosingOf) (pid : ℕ) (s : ClientFiles) → P s → P (closing.ends_closing pid cause s)
@@ -493,12 +478,12 @@ module _ (Q : Seen → Type 0) (bears : BearsTelling Q) where
 
   closes_last : (o : Option (StreamNo × Stream)) (pid : ℕ) (work : CloseWork) (number : StreamNo) (file : FileId) (s : ClientFiles) → P s → P (closing.closes_last pid work number file o s)
   closes_last (Some last) pid work number file s p = let many : ℕ = last.1.grants in kept_close pid _ (says.sends_for pid (closing.close_to pid work.of number file many) sendings.Other s) (sent (closing.close_to pid work.of number file many) sendings.Other s refl p)
-  closes_last None pid work number file s p = closes_rest work.fds pid work.of (locking.unlocks number s) (unlocks number s p)
+  closes_last None pid work number file s p = closes_rest work.fds pid work.of (locking.unlocks number s) (turns.unlocks P no_turns number s p)
 
   closes_file : (pid : ℕ) (work : CloseWork) (fd : ℕ) (number : StreamNo) (file : FileId) (s : ClientFiles) → P s → P (closing.closes_file pid work fd number file s)
   closes_file pid work fd number file s p =
       let locked : ClientFiles = locking.locks pid number s in
-      let so = locks pid number s p in
+      let so = turns.locks P no_turns pid number s p in
       on_if (gets_lock pid number s) _ _
       (closes_last (closed_stream locked.streams pid fd) pid (closing.without_first work) number file (closing.enters_closed pid work.of (descriptors.drops pid fd locked)) (enters_closed work.of pid (descriptors.drops pid fd locked) so))
       (kept_close pid _ locked so)
@@ -534,7 +519,7 @@ module _ (Q : Seen → Type 0) (bears : BearsTelling Q) where
   runs_close (close_states.Closing tx stream) pid work s p = kept_close pid _ s p
 
   pub close_answers : (o : Option StreamNo) (pid : ℕ) (work : CloseWork) (s : ClientFiles) → P s → P (closing.close_answers_by o pid work s)
-  close_answers (Some stream) pid work s p = closes_rest work.fds pid work.of (locking.unlocks stream s) (unlocks stream s p)
+  close_answers (Some stream) pid work s p = closes_rest work.fds pid work.of (locking.unlocks stream s) (turns.unlocks P no_turns stream s p)
   close_answers None pid work s p = kept_close pid _ s p
 
   -- Moves
@@ -555,7 +540,7 @@ module _ (Q : Seen → Type 0) (bears : BearsTelling Q) where
   moves_object : (object : Object) (pid : ℕ) (work : MoveWork) (stream : Stream) (s : ClientFiles) → P s → P (moving.moves_object_by object pid work stream s)
   moves_object (objects.File file) pid work stream s p =
       let locked : ClientFiles = locking.locks pid work.stream s in
-      let so = locks pid work.stream s p in
+      let so = turns.locks P no_turns pid work.stream s p in
       let dropped : ClientFiles = descriptors.drops_each pid work.stream locked in
       let request : Sending = moving.move_to work stream file (is_some (stream_at work.stream dropped)) in
       on_if (gets_lock pid work.stream s) _ _ (kept_move pid _ (says.sends_for pid request sendings.Other dropped) (sent request sendings.Other dropped refl (drops_each pid work.stream locked so))) (kept_move pid _ locked so)
@@ -574,5 +559,5 @@ module _ (Q : Seen → Type 0) (bears : BearsTelling Q) where
   shares stays number s p = on_if stays _ s (moves_place number Shared s p) p
 
   pub move_answers : (o : Option (Bool × Place)) (pid : ℕ) (work : MoveWork) (grant : Option Grant) (many : ℕ) (s : ClientFiles) → P s → P (moving.move_answers_by o pid work grant many s)
-  move_answers (Some out) pid work grant many s p = unlocks work.stream (moving.shares out.0 work.stream s) (shares out.0 work.stream s p)
+  move_answers (Some out) pid work grant many s p = turns.unlocks P no_turns work.stream (moving.shares out.0 work.stream s) (shares out.0 work.stream s p)
   move_answers None pid work grant many s p = kept_move pid _ s p

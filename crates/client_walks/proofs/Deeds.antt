@@ -75,6 +75,7 @@ use Rattle.client_procs.specs.Moving as moving
 use Rattle.client_procs.specs.Steps as stepping
 use Rattle.client_procs.specs.Turning as turning
 use Rattle.client_walks.specs.Hands.{Held, Nothing, Coming, Holding, hand_of, heard}
+use Rattle.client_walks.proofs.ReplyLaws.{Caused, calls_unreachable}
 
 -- what a step took in hand and hasn't put anywhere; between two steps it is nothing
 pub record Hand : Type 0 where
@@ -97,17 +98,17 @@ pub record KeepsFiles (came : Input) (F P : ClientProcs → Hand → Type 0) : T
   pub uses_files : (s : ClientProcs) (h : Hand) (about : About) (call : Call) (device : Option DeviceId) → F s (holds Nothing h) → P s (holds Nothing h) → P (issuing_calls.uses_files about call device s) (holds Nothing h)
   pub called_back : (s : ClientProcs) (h : Hand) (tx : TxNo) (request : CallbackRequest) → F s (holds Nothing h) → P s (holds Nothing h) → P (record s { files = file_grants.called_back tx request s.files }) (holds Nothing h)
   pub answered : (s : ClientProcs) (h : Hand) (tx : TxNo) (source : ℕ) (body : ReplyBody) → came ≡ inputs.Replied tx source body → tables_of_files.owns tx s.files ≡ true → F s (holds Nothing h) → P s (holds Nothing h) → P (record s { files = file_answers.answered tx source body s.files }) (holds Nothing h)
-  pub gives_up : (s : ClientProcs) (h : Hand) (tx : TxNo) → F s (holds Nothing h) → P s (holds Nothing h) → P (record s { files = name_answers.gives_up tx s.files }) (holds Nothing h)
+  pub gives_up : (s : ClientProcs) (h : Hand) (tx : TxNo) → came ≡ inputs.GaveUp tx → F s (holds Nothing h) → P s (holds Nothing h) → P (record s { files = name_answers.gives_up tx s.files }) (holds Nothing h)
   pub due_goes : (s : ClientProcs) (h : Hand) (file : FileId) (block : BlockNo) → F s (holds Nothing h) → P s (holds Nothing h) → P (record s { files = write_backs.due_goes file block s.files }) (holds Nothing h)
   pub goes_on : (s : ClientProcs) (h : Hand) → turning.is_quiet s ≡ false → F s (holds Nothing h) → P s (holds Nothing h) → P (record s { files = file_turns.goes_on s.files }) (holds Nothing h)
   pub takes_report : (s : ClientProcs) (h : Hand) (report : Report) (rest : List Report) → s.files.results ≡ report ∷ rest → F s (holds Nothing h) → P s (holds Nothing h) → P (record s { files = record s.files { results = rest } }) (holds Nothing h)
   pub takes_reply : (s : ClientProcs) (h : Hand) (row : ℕ × Reply) (rest : List (ℕ × Reply)) → s.files.out.replies ≡ row ∷ rest → F s (holds Nothing h) → P s (holds Nothing h) → P (record s { files = record s.files { out = record s.files.out { replies = rest } } }) (holds Nothing h)
 
--- calls that processes come to, and their replies
-pub record KeepsCalls (F P : ClientProcs → Hand → Type 0) : Type 0 where
+-- calls that processes come to, and their replies, where that input came
+pub record KeepsCalls (came : Input) (F P : ClientProcs → Hand → Type 0) : Type 0 where
   pub comes_to : (s : ClientProcs) (h : Hand) (about : About) (call : Call) → issuing_calls.is_next about s ≡ true → F s (holds Nothing h) → P s (holds Nothing h) → P (issuing_calls.notes_issue about call (issuing_calls.comes_to about call s)) (holds Nothing h)
   pub counts : (s : ClientProcs) (h : Hand) → F s (holds Nothing h) → P s (holds Nothing h) → P (record s { issues = s.issues + 1 }) (holds Nothing h)
-  pub answers_here : (s : ClientProcs) (h : Hand) (pid : ℕ) (reply : Reply) → F s (holds Nothing h) → P s (holds Nothing h) → P (procs_of.answers_here pid reply s) (holds Nothing h)
+  pub answers_here : (s : ClientProcs) (h : Hand) (pid : ℕ) (reply : Reply) → Caused came (calls_unreachable reply) → F s (holds Nothing h) → P s (holds Nothing h) → P (procs_of.answers_here pid reply s) (holds Nothing h)
   pub replies : (s : ClientProcs) (h : Hand) (pid : ℕ) (reply : Reply) → F s (holds Nothing h) → P s (holds Nothing h) → P (procs_of.replies pid reply s) (holds Nothing h)
   pub begins_here : (s : ClientProcs) (h : Hand) (about : About) (program arg : ℕ) → F s (holds Nothing h) → P s (holds Nothing h) → P (moving.begins_here about program arg s) (holds Nothing h)
   pub returns : (s : ClientProcs) (h : Hand) (pid : ℕ) (reply : Reply) → F s (holds Nothing h) → P s (holds Nothing h) → P (returning.notes_return pid reply (returning.has_returned pid reply s)) (holds Nothing h)
@@ -202,7 +203,7 @@ pub record KeepsComings (F P : ClientProcs → Hand → Type 0) : Type 0 where
 -- all that is done within a step, where that input came
 pub record KeepsWithin (came : Input) (F P : ClientProcs → Hand → Type 0) : Type 0 where
   pub files : KeepsFiles came F P
-  pub calls : KeepsCalls F P
+  pub calls : KeepsCalls came F P
   pub homes : KeepsHomes F P
   pub kills : KeepsKills F P
   pub devices : KeepsDevices F P
@@ -235,7 +236,7 @@ pub record KeepsAtHome (P : ClientProcs → Hand → Type 0) (came : Input) : Ty
 -- what a walk through what is done within a step must keep that was given that: what is done at homes as a whole, and the deeds of the rest
 pub record WalkWithin (P : ClientProcs → Hand → Type 0) (came : Input) : Type 0 where
   pub files : KeepsFiles came Always P
-  pub calls : KeepsCalls Always P
+  pub calls : KeepsCalls came Always P
   pub home : KeepsAtHome P came
   pub devices : KeepsDevices Always P
   pub moves : KeepsMoves Always P

@@ -14,18 +14,18 @@ joined_files came F P f p = record {
   uses_files = λ s h about call device u k. (f.uses_files s h about call device u k.0, p.uses_files s h about call device k.0 k.1);
   called_back = λ s h tx request u k. (f.called_back s h tx request u k.0, p.called_back s h tx request k.0 k.1);
   answered = λ s h tx source body e0 e1 u k. (f.answered s h tx source body e0 e1 u k.0, p.answered s h tx source body e0 e1 k.0 k.1);
-  gives_up = λ s h tx u k. (f.gives_up s h tx u k.0, p.gives_up s h tx k.0 k.1);
+  gives_up = λ s h tx e0 u k. (f.gives_up s h tx e0 u k.0, p.gives_up s h tx e0 k.0 k.1);
   due_goes = λ s h file block u k. (f.due_goes s h file block u k.0, p.due_goes s h file block k.0 k.1);
   goes_on = λ s h e0 u k. (f.goes_on s h e0 u k.0, p.goes_on s h e0 k.0 k.1);
   takes_report = λ s h report rest e0 u k. (f.takes_report s h report rest e0 u k.0, p.takes_report s h report rest e0 k.0 k.1);
   takes_reply = λ s h row rest e0 u k. (f.takes_reply s h row rest e0 u k.0, p.takes_reply s h row rest e0 k.0 k.1);
 }
 
-joined_calls : (F P : ClientProcs → Hand → Type 0) → KeepsCalls Always F → KeepsCalls F P → KeepsCalls Always (Both F P)
-joined_calls F P f p = record {
+joined_calls : (came : Input) (F P : ClientProcs → Hand → Type 0) → KeepsCalls came Always F → KeepsCalls came F P → KeepsCalls came Always (Both F P)
+joined_calls came F P f p = record {
   comes_to = λ s h about call e0 u k. (f.comes_to s h about call e0 u k.0, p.comes_to s h about call e0 k.0 k.1);
   counts = λ s h u k. (f.counts s h u k.0, p.counts s h k.0 k.1);
-  answers_here = λ s h pid reply u k. (f.answers_here s h pid reply u k.0, p.answers_here s h pid reply k.0 k.1);
+  answers_here = λ s h pid reply e0 u k. (f.answers_here s h pid reply e0 u k.0, p.answers_here s h pid reply e0 k.0 k.1);
   replies = λ s h pid reply u k. (f.replies s h pid reply u k.0, p.replies s h pid reply k.0 k.1);
   begins_here = λ s h about program arg u k. (f.begins_here s h about program arg u k.0, p.begins_here s h about program arg k.0 k.1);
   returns = λ s h pid reply u k. (f.returns s h pid reply u k.0, p.returns s h pid reply k.0 k.1);
@@ -122,7 +122,7 @@ joined_comings F P f p = record {
 pub joined_within : (came : Input) (F P : ClientProcs → Hand → Type 0) → KeepsWithin came Always F → KeepsWithin came F P → KeepsWithin came Always (Both F P)
 joined_within came F P f p = record {
   files = joined_files came F P f.files p.files;
-  calls = joined_calls F P f.calls p.calls;
+  calls = joined_calls came F P f.calls p.calls;
   homes = joined_homes F P f.homes p.homes;
   kills = joined_kills F P f.kills p.kills;
   devices = joined_devices F P f.devices p.devices;

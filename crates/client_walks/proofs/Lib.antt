@@ -1,3 +1,4 @@
+pub mod ReplyLaws
 pub mod Deeds
 pub mod JoinedLaws
 pub mod AtHomeLaws

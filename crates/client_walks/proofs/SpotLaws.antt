@@ -258,18 +258,18 @@ module _ (F : ClientProcs → Hand → Type 0) (Q : Spots → Held → Type 0) (
     uses_files = λ s h about call device f p. state_kept Nothing about.pid states.InFiles s p;
     called_back = λ s h tx request f p. p;
     answered = λ s h tx source body e g f p. p;
-    gives_up = λ s h tx f p. p;
+    gives_up = λ s h tx e f p. p;
     due_goes = λ s h file block f p. p;
     goes_on = λ s h e f p. p;
     takes_report = λ s h report rest e f p. p;
     takes_reply = λ s h row rest e f p. p;
   }
 
-  calls : KeepsCalls F Holds
-  calls = record {
+  calls : (came : Input) → KeepsCalls came F Holds
+  calls came = record {
     comes_to = λ s h about call e f p. with_kept Nothing about.pid (procs_of.proc_at about.pid s) (issuing_calls.inside about.number call) s refl p;
     counts = λ s h f p. p;
-    answers_here = λ s h pid reply f p. here_kept Nothing pid reply s p;
+    answers_here = λ s h pid reply e f p. here_kept Nothing pid reply s p;
     replies = λ s h pid reply f p. replies_kept Nothing pid reply s p;
     begins_here = λ s h about program arg f p.
         let entered : ClientProcs = procs_of.enters_own about.pid (value 0 0) s in
@@ -374,5 +374,5 @@ module _ (F : ClientProcs → Hand → Type 0) (Q : Spots → Held → Type 0) (
   pub by_spots : Keeps F Holds
   by_spots = record {
     steps = steps;
-    within = λ came. record { files = files came; calls = calls; homes = homes_kept; kills = kills_kept; devices = devices; moves = moves; comings = comings };
+    within = λ came. record { files = files came; calls = calls came; homes = homes_kept; kills = kills_kept; devices = devices; moves = moves; comings = comings };
   }

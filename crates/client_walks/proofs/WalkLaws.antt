@@ -89,6 +89,7 @@ use Rattle.client_facts.proofs.PlaceLaws.{by_bool}
 use Rattle.client_walks.specs.Hands.{Nothing, Coming, Holding, brought, coming_if, heard}
 use Rattle.client_walks.proofs.AtHomeLaws.{by_deeds}
 use Rattle.client_walks.proofs.Deeds.{Always, Hand, Keeps, KeepsSteps, KeepsWithin, Walk, WalkWithin, holds}
+use Rattle.client_walks.proofs.ReplyLaws.{NotSo, Refused, Safe}
 
 module _ (P : ClientProcs → Hand → Type 0) (came : Input) (walk : WalkWithin P came) (h : Hand) where
   -- no process is in hand
@@ -126,10 +127,10 @@ module _ (P : ClientProcs → Hand → Type 0) (came : Input) (walk : WalkWithin
 
   sent_if : (o : Option AskRequest) (pid : ℕ) (s : ClientProcs) → At s → At (asking.sends_if pid o s)
   sent_if (Some request) pid s p = walk.devices.sends_ask s h pid request tt p
-  sent_if None pid s p = walk.calls.answers_here s h pid (Error errnos.Invalid) tt p
+  sent_if None pid s p = walk.calls.answers_here s h pid (Error errnos.Invalid) (NotSo refl) tt p
 
   asked_by : (o : Option Ask) (pid : ℕ) (device : DeviceId) (s : ClientProcs) → At s → At (asking.asks_by pid device o s)
-  asked_by None pid device s p = walk.calls.answers_here s h pid (Error errnos.Invalid) tt p
+  asked_by None pid device s p = walk.calls.answers_here s h pid (Error errnos.Invalid) (NotSo refl) tt p
   asked_by (Some ask) pid device s p =
       let inside : ClientProcs = procs_of.in_state pid (states.InAsk None) s in
       on_if (holds Nothing h) (device.kernel == s.kernel) (asking.enters_ask device.number ask None inside) (asking.sends_if pid (packed_ask ask device) s)
@@ -140,7 +141,7 @@ module _ (P : ClientProcs → Hand → Type 0) (came : Input) (walk : WalkWithin
 
   error_put : (o : Option Errno) (pid device : ℕ) (bytes : List ℕ) (s : ClientProcs) → At s → At (masters.puts_error pid device bytes o s)
   error_put (Some errno) pid device bytes s p = walk.devices.puts_with s h pid device bytes (Some errno) tt p
-  error_put None pid device bytes s p = walk.calls.answers_here s h pid (Error errnos.Invalid) tt p
+  error_put None pid device bytes s p = walk.calls.answers_here s h pid (Error errnos.Invalid) (NotSo refl) tt p
 
   put_to : (pid device : ℕ) (bytes : List ℕ) (number : ℕ) (s : ClientProcs) → At s → At (masters.puts_to pid device bytes number s)
   put_to pid device bytes number s p =
@@ -339,22 +340,22 @@ module _ (P : ClientProcs → Hand → Type 0) (came : Input) (walk : WalkWithin
 
   -- Calls that processes come to
 
-  answers : (about : About) (reply : Reply) (s : ClientProcs) → At s → At (procs_of.answers_here about.pid reply s)
-  answers about reply s p = walk.calls.answers_here s h about.pid reply tt p
+  answers : (about : About) (reply : Reply) (s : ClientProcs) → Safe reply → At s → At (procs_of.answers_here about.pid reply s)
+  answers about reply s safe p = walk.calls.answers_here s h about.pid reply (NotSo safe) tt p
 
   executed : (o : Option ℕ) (about : About) (arg : ℕ) (s : ClientProcs) → At s → At (moving.execs_as about arg o s)
   executed (Some program) about arg s p = walk.calls.begins_here s h about program arg tt p
-  executed None about arg s p = answers about (Error errnos.NoEntry) s p
+  executed None about arg s p = answers about (Error errnos.NoEntry) s refl p
 
   stayed : (o : Option ℕ) (about : About) (s : ClientProcs) → At s → At (moving.stays about o s)
   stayed (Some program) about s p = walk.calls.begins_here s h about program 0 tt p
-  stayed None about s p = answers about (value 0 0) s p
+  stayed None about s p = answers about (value 0 0) s refl p
 
   gone_if : (o : Option ℕ) (about : About) (program : Option ℕ) (s : ClientProcs) → At s → At (moving.goes_if about program o s)
-  gone_if None about program s p = answers about (Error errnos.BadHost) s p
+  gone_if None about program s p = answers about (Error errnos.BadHost) s refl p
   gone_if (Some to) about program s p =
       let route : Route = record { to = to; about = Some about; program = program } in
-      on_if (holds Nothing h) (holds_master about.pid s) (procs_of.answers_here about.pid (Error errnos.Busy) s) _ (λ e. answers about (Error errnos.Busy) s p)
+      on_if (holds Nothing h) (holds_master about.pid s) (procs_of.answers_here about.pid (Error errnos.Busy) s) _ (λ e. answers about (Error errnos.Busy) s refl p)
       (λ e. on_if (holds Nothing h) (to == s.kernel) (moving.stays about program s) (freezing.freezes about.pid route s) (λ f. stayed program about s p) (λ f. frozen about.pid route s p))
 
   migrated : (about : About) (host : List ℕ) (program : Option ℕ) (s : ClientProcs) → At s → At (moving.moves_to_host about host program s)
@@ -362,12 +363,12 @@ module _ (P : ClientProcs → Hand → Type 0) (came : Input) (walk : WalkWithin
 
   sent_to_run : (o : Option ℕ) (about : About) (host : List ℕ) (s : ClientProcs) → At s → At (moving.rexecs_as about host o s)
   sent_to_run (Some program) about host s p = migrated about host (Some program) s p
-  sent_to_run None about host s p = answers about (Error errnos.NoEntry) s p
+  sent_to_run None about host s p = answers about (Error errnos.NoEntry) s refl p
 
   -- a read, write or command: of a pseudo-device, else of a file
   used_device : (allowed : Bool) (device : DeviceId) (about : About) (call : Call) (s : ClientProcs) → At s → At (issuing_calls.uses_by (asking.is_used_by (asking.device_aim device allowed)) about call (asking.uses_by about.pid (asking.device_aim device allowed) s))
   used_device true device about call s p = asked_by (asking.own_ask about.pid s) about.pid device s p
-  used_device false device about call s p = answers about (Error errnos.BadMode) s p
+  used_device false device about call s p = answers about (Error errnos.BadMode) s refl p
 
   used_object : (object : Object) (allowed : Bool) (about : About) (call : Call) (s : ClientProcs) → At s → At (issuing_calls.uses_by (asking.is_used_by (asking.data_aim object allowed)) about call (asking.uses_by about.pid (asking.data_aim object allowed) s))
   used_object (objects.Device device) allowed about call s p = used_device allowed device about call s p
@@ -384,59 +385,59 @@ module _ (P : ClientProcs → Hand → Type 0) (came : Input) (walk : WalkWithin
 
   commanded : (object : Object) (about : About) (call : Call) (s : ClientProcs) → At s → At (issuing_calls.uses_by (asking.is_used_by (asking.command_on object)) about call (asking.uses_by about.pid (asking.command_on object) s))
   commanded (objects.Device device) about call s p = asked_by (asking.own_ask about.pid s) about.pid device s p
-  commanded (objects.File file) about call s p = answers about (Error errnos.Invalid) s p
-  commanded (objects.Master device) about call s p = answers about (Error errnos.BadMode) s p
+  commanded (objects.File file) about call s p = answers about (Error errnos.Invalid) s refl p
+  commanded (objects.Master device) about call s p = answers about (Error errnos.BadMode) s refl p
 
   used_command : (o : Option Stream) (about : About) (call : Call) (s : ClientProcs) → At s → At (issuing_calls.uses_by (asking.is_used_by (asking.command_aim o)) about call (asking.uses_by about.pid (asking.command_aim o) s))
   used_command (Some stream) about call s p = commanded stream.object about call s p
-  used_command None about call s p = answers about (Error errnos.BadFd) s p
+  used_command None about call s p = answers about (Error errnos.BadFd) s refl p
 
   -- what masters do
   got_object : (object : Object) (pid max : ℕ) (s : ClientProcs) → At s → At (masters.gets_by pid max (masters.master_in object) s)
   got_object (objects.Master device) pid max s p = got_by pid device.number (masters.most max) s p
-  got_object (objects.File file) pid max s p = walk.calls.answers_here s h pid (Error errnos.BadMode) tt p
-  got_object (objects.Device device) pid max s p = walk.calls.answers_here s h pid (Error errnos.BadMode) tt p
+  got_object (objects.File file) pid max s p = walk.calls.answers_here s h pid (Error errnos.BadMode) (NotSo refl) tt p
+  got_object (objects.Device device) pid max s p = walk.calls.answers_here s h pid (Error errnos.BadMode) (NotSo refl) tt p
 
   got_if : (o : Option Object) (pid max : ℕ) (s : ClientProcs) → At s → At (masters.gets_by pid max (masters.master_by o) s)
   got_if (Some object) pid max s p = got_object object pid max s p
-  got_if None pid max s p = walk.calls.answers_here s h pid (Error errnos.BadFd) tt p
+  got_if None pid max s p = walk.calls.answers_here s h pid (Error errnos.BadFd) (NotSo refl) tt p
 
   put_object : (object : Object) (pid : ℕ) (bytes : List ℕ) (number : ℕ) (s : ClientProcs) → At s → At (masters.puts_by pid bytes number (masters.master_in object) s)
   put_object (objects.Master device) pid bytes number s p = put_to pid device.number bytes number s p
-  put_object (objects.File file) pid bytes number s p = walk.calls.answers_here s h pid (Error errnos.BadMode) tt p
-  put_object (objects.Device device) pid bytes number s p = walk.calls.answers_here s h pid (Error errnos.BadMode) tt p
+  put_object (objects.File file) pid bytes number s p = walk.calls.answers_here s h pid (Error errnos.BadMode) (NotSo refl) tt p
+  put_object (objects.Device device) pid bytes number s p = walk.calls.answers_here s h pid (Error errnos.BadMode) (NotSo refl) tt p
 
   put_if : (o : Option Object) (pid : ℕ) (bytes : List ℕ) (number : ℕ) (s : ClientProcs) → At s → At (masters.puts_by pid bytes number (masters.master_by o) s)
   put_if (Some object) pid bytes number s p = put_object object pid bytes number s p
-  put_if None pid bytes number s p = walk.calls.answers_here s h pid (Error errnos.BadFd) tt p
+  put_if None pid bytes number s p = walk.calls.answers_here s h pid (Error errnos.BadFd) (NotSo refl) tt p
 
   -- the call's first step
   begun_other : (call : Call) (about : About) (s : ClientProcs) → At s → At (issuing_calls.begins_other about call s)
   begun_other call about s p =
       on_if (holds Nothing h) (issuing_calls.is_of_home call) (issuing.issues_home about.pid s) (issuing_calls.uses_files about call None s) (λ e. walk.home.issues s h about.pid p) (λ e. walk.files.uses_files s h about call None tt p)
 
-  begun : (call : Call) (about : About) (s : ClientProcs) → At s → At (issuing_calls.begins about call s)
-  begun (calls.Read fd many) about s p = used_read (opened.stream_at about.pid fd s) about (calls.Read fd many) s p
-  begun (calls.Write fd bytes) about s p = used_write (opened.stream_at about.pid fd s) about (calls.Write fd bytes) s p
-  begun (calls.Ioctl fd command bytes) about s p = used_command (opened.stream_at about.pid fd s) about (calls.Ioctl fd command bytes) s p
-  begun (calls.PdMake path) about s p = walk.files.uses_files (making.makes_device about.pid s) h about (calls.PdMake path) (Some (making.next_device s)) tt (walk.devices.makes_device s h about.pid tt p)
-  begun (calls.PdGet fd max) about s p = got_if (opened.object_at about.pid fd s) about.pid max s p
-  begun (calls.PdPut fd bytes errno) about s p = put_if (opened.object_at about.pid fd s) about.pid bytes errno s p
-  begun (calls.Exec name arg) about s p = executed (program_named s.programs name) about arg s p
-  begun (calls.Migrate name) about s p = migrated about name None s p
-  begun (calls.Rexec name host) about s p = sent_to_run (program_named s.programs name) about host s p
-  begun calls.Getpid about s p = answers about (value about.pid 0) s p
-  begun (calls.Refused errno) about s p = answers about (Error errno) s p
-  begun call about s p = begun_other call about s p
+  begun : (call : Call) (about : About) (s : ClientProcs) → came ≡ inputs.Issued about.pid about.number call → At s → At (issuing_calls.begins about call s)
+  begun (calls.Read fd many) about s e p = used_read (opened.stream_at about.pid fd s) about (calls.Read fd many) s p
+  begun (calls.Write fd bytes) about s e p = used_write (opened.stream_at about.pid fd s) about (calls.Write fd bytes) s p
+  begun (calls.Ioctl fd command bytes) about s e p = used_command (opened.stream_at about.pid fd s) about (calls.Ioctl fd command bytes) s p
+  begun (calls.PdMake path) about s e p = walk.files.uses_files (making.makes_device about.pid s) h about (calls.PdMake path) (Some (making.next_device s)) tt (walk.devices.makes_device s h about.pid tt p)
+  begun (calls.PdGet fd max) about s e p = got_if (opened.object_at about.pid fd s) about.pid max s p
+  begun (calls.PdPut fd bytes errno) about s e p = put_if (opened.object_at about.pid fd s) about.pid bytes errno s p
+  begun (calls.Exec name arg) about s e p = executed (program_named s.programs name) about arg s p
+  begun (calls.Migrate name) about s e p = migrated about name None s p
+  begun (calls.Rexec name host) about s e p = sent_to_run (program_named s.programs name) about host s p
+  begun calls.Getpid about s e p = answers about (value about.pid 0) s refl p
+  begun (calls.Refused errno) about s e p = walk.calls.answers_here s h about.pid (Error errno) (Refused about.pid about.number errno e refl) tt p
+  begun call about s e p = begun_other call about s p
 
-  issued : (about : About) (call : Call) (s : ClientProcs) → At s → At (issuing_calls.issues about call s)
-  issued about call s p = by_test (issuing_calls.is_next about s) refl
+  issued : (about : About) (call : Call) (s : ClientProcs) → came ≡ inputs.Issued about.pid about.number call → At s → At (issuing_calls.issues about call s)
+  issued about call s is p = by_test (issuing_calls.is_next about s) refl
     where
       by_test : (b : Bool) → issuing_calls.is_next about s ≡ b → At (cond (not b) s (issuing_calls.issues_next about call s))
       by_test false e = p
       by_test true e =
           let come : ClientProcs = issuing_calls.notes_issue about call (issuing_calls.comes_to about call s) in
-          begun call about (evicting.counts_issue come) (counted come (walk.calls.comes_to s h about call e tt p))
+          begun call about (evicting.counts_issue come) is (counted come (walk.calls.comes_to s h about call e tt p))
 
   -- What comes
 
@@ -481,10 +482,10 @@ module _ (P : ClientProcs → Hand → Type 0) (came : Input) (walk : WalkWithin
   replied false tx source body s is e p = walk_heard tx body s p
 
   taken : (input : Input) (s : ClientProcs) → came ≡ input → P s (holds (brought input s) h) → At (stepping.takes input s)
-  taken (inputs.Issued pid number call) s e p = issued (about_of pid number) call s p
+  taken (inputs.Issued pid number call) s e p = issued (about_of pid number) call s e p
   taken (inputs.Request tx source body) s e p = served body tx source s e p
   taken (inputs.Replied tx source body) s e p = replied (owns tx s.files) tx source body s e refl p
-  taken (inputs.GaveUp tx) s e p = walk.files.gives_up s h tx tt p
+  taken (inputs.GaveUp tx) s e p = walk.files.gives_up s h tx e tt p
   taken (inputs.Due file block) s e p = walk.files.due_goes s h file block tt p
   taken (inputs.PageNeeded pid page) s e p = page_needed pid page s p
 

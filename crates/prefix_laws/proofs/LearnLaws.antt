@@ -1,6 +1,6 @@
 -- What each step of a kernel tells of prefixes.
 use Rattle.std.proofs.Common.{◌≡◌, ℕ, Bool, true, false, cond, List, [], ◌∷◌, ◌++◌, Option, Some, None, option_map, refl, sym, ap, ◌∙◌, append-nil}
-use Rattle.std.specs.List.{list_any}
+use Rattle.std.specs.List.{AllByRecursion, list_any}
 use Rattle.sprite_ids.specs.declared.TxNo.{TxNo}
 use Rattle.process_machine.specs.Machine.{Machine}
 use Rattle.packet_bodies.specs.declared.ReplyBody.{ReplyBody}
@@ -8,6 +8,7 @@ use Rattle.kernel_steps.specs.declared.Input.{Input}
 use Rattle.kernel_steps.specs.declared.Input.TheVariants as inputs
 use Rattle.kernel_steps.specs.Rows.{is_under}
 use Rattle.unix_calls.specs.declared.Description.{Description}
+use Rattle.unix_calls.specs.declared.Event.{Event}
 use Rattle.unix_calls.specs.declared.Event.TheVariants as events
 use Rattle.unix_calls.specs.declared.SendKind.TheVariants as sendings
 use Rattle.prefix_table.specs.declared.prefixes.Domain.{Domain}
@@ -38,21 +39,22 @@ use Rattle.client_procs.specs.Boot.{boots}
 use Rattle.client_procs.specs.Readers.{with_image}
 use Rattle.client_procs.specs.Steps.{begins_step, client_step, takes}
 use Rattle.client_procs.specs.Turning.{goes_on}
+use Rattle.server_walks.specs.Served.{is_served}
+use Rattle.server_walks.proofs.TellingLaws.{servers_tell}
 use Rattle.prefix_laws.specs.Prefixes.{LearnsSo, learned_by_call, learned_by_operation, learned_by_process, learned_from, learned_from_answer, learned_in}
-use Rattle.client_walks.proofs.Bearing.{Seen, seen_of}
+use Rattle.client_walks.proofs.Bearing.{Leads, Led, Seen, is_other, seen_of}
 use Rattle.client_walks.proofs.DataBearing as data_side
 use Rattle.client_walks.proofs.NameBearing as files_side
-use Rattle.client_walks.proofs.StepBearing.{goes, heard, rounds}
+use Rattle.client_walks.proofs.StepBearing.{goes, heard, rounds, whole_step}
 use Rattle.prefix_laws.proofs.Bearing.{HasLearned, Learns, learned_so, learning}
-use Rattle.prefix_laws.proofs.ServerBearing.{server_takes}
-use Rattle.prefix_laws.proofs.TellsLaws.{learned_append, learns_nothing, learns_told}
+use Rattle.prefix_laws.proofs.TellsLaws.{learned_append, learns_joined, learns_nothing, learns_other}
 
 -- ---- what is known grows by what is told
 
 pub clients_learn : (s : ClientProcs) (input : Input) (next : TxNo) (step : ℕ) → LearnsSo s.files.prefixes (client_step s input next step).0.files.prefixes (client_step s input next step).1.events
 clients_learn s input next step =
     let before : List Domain = s.files.prefixes in
-    goes (Learns before) (learning before).telling input (λ tx source body t e q. files_side.answered (Learns before) (learning before) tx source body t q) (begins_step next step s) (learns_nothing before)
+    whole_step input (Learns before) (learning input before) (begins_step next step s) (learns_nothing before)
 
 pub clients_begin : (c : Description) (kernel : ℕ) → (boots c kernel).files.prefixes ≡ []
 clients_begin c kernel = refl
@@ -64,10 +66,30 @@ image_leaves (Some proc) s pid f = refl
 pub images_leave : (s : ClientProcs) (pid : ℕ) (image : Machine) → (with_image pid image s).files.prefixes ≡ s.files.prefixes
 images_leave s pid image = image_leaves (proc_at pid s) s pid (λ proc. record proc { image = image })
 
+-- what a server tells is nothing of prefixes
+served_other : (event : Event) → is_served event ≡ true → is_other event ≡ true
+served_other (events.Learned prefix server) h = absurd (cc)
+served_other (events.Send tx to about (sendings.Broadcast prefix)) h = absurd (cc)
+served_other event h = refl
+
+none_learned : (told : List Event) → AllByRecursion (λ (event : Event). is_served event ≡ true) told → LearnsSo [] [] told
+none_learned [] h = learns_nothing []
+none_learned (event ∷ rest) h = learns_joined [] [] [] (event ∷ []) rest (learns_other [] event (served_other event h.0)) (none_learned rest h.1)
+
 pub servers_learn : (s : Server) (input : Input) (next : TxNo) → LearnsSo [] [] (server_steps.server_step s input next).1.events
-servers_learn s input next = server_takes (λ told. LearnsSo [] [] told) (λ told event h q. learns_told [] [] told event h q) input (server_steps.begins next s) (learns_nothing [])
+servers_learn s input next = none_learned (server_steps.server_step s input next).1.events (servers_tell s input next)
 
 -- ---- which steps learn
+
+no_call : TxNo
+no_call = record { 0 = 0 }
+
+-- an answer may lead into another domain, whichever remote call it answers
+abbrev replied_by : ℕ → ReplyBody → Input
+replied_by source body = inputs.Replied no_call source body
+
+leads : (source : ℕ) (body : ReplyBody) → Leads (replied_by source body) body
+leads source body path e = Led no_call source (ap (λ (reply : ReplyBody). inputs.Replied no_call source reply) e)
 
 module _ (domains : List Domain) where
   -- so much was learned
@@ -87,18 +109,18 @@ module _ (domains : List Domain) where
   call_learns : (state : NameState) (pid : ℕ) (work : NameWork) (source : ℕ) (body : ReplyBody) (s : ClientFiles) → Q (seen_of s) → Told (asked.answers_name_by state pid work source body s) (learned_by_call state source s.prefixes)
   call_learns (name_states.Broadcasting tx prefix) pid work source body s q =
       let more : List Domain = learned_by_call (name_states.Broadcasting tx prefix) source s.prefixes in
-      files_side.looks_up (HasLearned (domains ++ more)) (learned_so (domains ++ more)) pid work (lookups.learns prefix source s) (learns_by (knows s.prefixes prefix) prefix source s q)
+      files_side.looks_up (replied_by source body) (HasLearned (domains ++ more)) (learned_so (replied_by source body) (domains ++ more)) pid work (lookups.learns prefix source s) (learns_by (knows s.prefixes prefix) prefix source s q)
   call_learns (name_states.Echoing tx server) pid work source body s q =
-      no_more (asked.answers_name_by (name_states.Echoing tx server) pid work source body s) (data_side.sent Q (learned_so domains) (request_to server pid work) sendings.Other s refl q)
+      no_more (asked.answers_name_by (name_states.Echoing tx server) pid work source body s) (data_side.sent (replied_by source body) Q (learned_so (replied_by source body) domains) (request_to server pid work) sendings.Other s refl q)
   call_learns (name_states.Asking tx) pid work source body s q =
-      no_more (asked.answers_name_by (name_states.Asking tx) pid work source body s) (files_side.ends_asked Q (learned_so domains) body pid work s q)
+      no_more (asked.answers_name_by (name_states.Asking tx) pid work source body s) (files_side.ends_asked (replied_by source body) Q (learned_so (replied_by source body) domains) body pid work s (leads source body) q)
 
   operation_learns : (o : Option Pending) (pid source : ℕ) (body : ReplyBody) (s : ClientFiles) → Q (seen_of s) → Told (answering.answered_by o pid source body s) (learned_by_operation o source s.prefixes)
   operation_learns (Some (operations.Name call)) pid source body s q = call_learns call.state pid call.work source body s q
-  operation_learns (Some (operations.Data call)) pid source body s q = no_more (answering.answered_by (Some (operations.Data call)) pid source body s) (data_side.answered_in Q (learned_so domains) call.state pid call body s q)
+  operation_learns (Some (operations.Data call)) pid source body s q = no_more (answering.answered_by (Some (operations.Data call)) pid source body s) (data_side.answered_in (replied_by source body) Q (learned_so (replied_by source body) domains) call.state pid call body s q)
   operation_learns (Some (operations.Sync call)) pid source body s q = no_more s q
-  operation_learns (Some (operations.Close work)) pid source body s q = no_more (answering.answered_by (Some (operations.Close work)) pid source body s) (data_side.close_answers Q (learned_so domains) (closed_at_server work.state) pid work s q)
-  operation_learns (Some (operations.Move work)) pid source body s q = no_more (answering.answered_by (Some (operations.Move work)) pid source body s) (files_side.answers_move Q (learned_so domains) body pid work s q)
+  operation_learns (Some (operations.Close work)) pid source body s q = no_more (answering.answered_by (Some (operations.Close work)) pid source body s) (data_side.close_answers (replied_by source body) Q (learned_so (replied_by source body) domains) (closed_at_server work.state) pid work s q)
+  operation_learns (Some (operations.Move work)) pid source body s q = no_more (answering.answered_by (Some (operations.Move work)) pid source body s) (files_side.answers_move (replied_by source body) Q (learned_so (replied_by source body) domains) body pid work s q)
   operation_learns None pid source body s q = no_more s q
 
   -- where the operation takes the answer, it learns, and else nobody
@@ -116,27 +138,27 @@ module _ (domains : List Domain) where
   answer_by false tx source body s t back q = process_learns (first_call tx s.txs) tx source body (record s { txs = less_call tx s.txs }) q
 
   pub answer_learns : (tx : TxNo) (source : ℕ) (body : ReplyBody) (s : ClientFiles) → learned_in s.out.events ≡ domains → learned_in (answering.answered tx source body s).out.events ≡ domains ++ learned_from_answer tx source s
-  answer_learns tx source body s q = answer_by (list_any (is_under same_call tx) s.write_backs) tx source body s _ (data_side.written_back Q (learned_so domains) tx body s q) q
+  answer_learns tx source body s q = answer_by (list_any (is_under same_call tx) s.write_backs) tx source body s _ (data_side.written_back (replied_by source body) Q (learned_so (replied_by source body) domains) tx body s q) q
 
 -- no answer to a remote call of the files' side comes by another input
 abbrev Apart : Input → Type 0
 Apart input = (tx : TxNo) (source : ℕ) (body : ReplyBody) → input ≡ inputs.Replied tx source body → ⊥
 
 goes_apart : (input : Input) → Apart input → (s : ClientProcs) → learned_in s.files.out.events ≡ [] → learned_in (goes_on (takes input s)).files.out.events ≡ []
-goes_apart input apart s q = goes (HasLearned []) (learned_so []) input (λ tx source body t e p. absurd (apart tx source body e)) s q
+goes_apart input apart s q = goes input (HasLearned []) (learned_so input []) (λ tx source body t e p. absurd (apart tx source body e)) s q
 
 -- the rounds of a step have no such answer
-no_call : TxNo
-no_call = record { 0 = 0 }
+abbrev given_up : Input
+given_up = inputs.GaveUp no_call
 
-due_apart : Apart (inputs.GaveUp no_call)
+due_apart : Apart given_up
 due_apart tx source body e = absurd (cc)
 
 rounds_so : (domains : List Domain) (s : ClientProcs) → learned_in s.files.out.events ≡ domains → learned_in (goes_on s).files.out.events ≡ domains
-rounds_so domains s q = rounds (HasLearned domains) (learned_so domains) (inputs.GaveUp no_call) (λ tx source body t e p. absurd (due_apart tx source body e)) s q
+rounds_so domains s q = rounds given_up (HasLearned domains) (learned_so given_up domains) (λ tx source body t e p. absurd (due_apart tx source body e)) s q
 
 heard_so : (tx : TxNo) (body : ReplyBody) (s : ClientProcs) → learned_in s.files.out.events ≡ [] → learned_in (hears_own tx body s).files.out.events ≡ []
-heard_so tx body s q = heard (HasLearned []) (learned_so []) (inputs.GaveUp no_call) (λ tx source body t e p. absurd (due_apart tx source body e)) tx body s q
+heard_so tx body s q = heard given_up (HasLearned []) (learned_so given_up []) (λ tx source body t e p. absurd (due_apart tx source body e)) tx body s q
 
 replied_so : (b : Bool) (tx : TxNo) (source : ℕ) (body : ReplyBody) (s : ClientProcs) → learned_in s.files.out.events ≡ [] → learned_in (goes_on (cond b (with_files (answering.answered tx source body s.files) s) (hears_own tx body s))).files.out.events ≡ cond b (learned_from_answer tx source s.files) []
 replied_so true tx source body s q = rounds_so (learned_from_answer tx source s.files) (with_files (answering.answered tx source body s.files) s) (answer_learns [] tx source body s.files q)

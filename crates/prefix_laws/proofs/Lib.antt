@@ -1,4 +1,3 @@
 pub mod TellsLaws
 pub mod Bearing
-pub mod ServerBearing
 pub mod LearnLaws

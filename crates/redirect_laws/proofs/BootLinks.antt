@@ -1,11 +1,9 @@
 -- Where other domains hang in those of a server as it begins.
-use Rattle.std.proofs.Common.{◌≡◌, ℕ, zero, suc, ◌-◌, ◌==◌, Bool, true, false, ◌||◌, cond, List, [], ◌∷◌, ◌++◌, length, slice_get, slice_set, Option, Some, None, position, Result, Ok, Err, refl, ap, subst, ◌∙◌}
+use Rattle.std.proofs.Common.{◌≡◌, ℕ, ◌==◌, Bool, true, false, ◌||◌, cond, List, [], ◌∷◌, ◌++◌, length, Option, Some, Result, Ok, Err, refl, ap, subst, ◌∙◌}
 use Rattle.std.specs.List.{AllByRecursion, filter}
 use Rattle.sprite_ids.specs.declared.Errno.TheVariants as errnos
-use Rattle.sprite_ids.specs.declared.FileId.{FileId}
-use Rattle.sprite_ids.proofs.ListLaws.{each_push, some_is}
+use Rattle.sprite_ids.proofs.ListLaws.{each_push}
 use Rattle.unix_calls.specs.declared.Description.{Description}
-use Rattle.unix_calls.specs.declared.FileLine.{FileLine}
 use Rattle.unix_calls.specs.Domains.{begins_domain, roots_of}
 use Rattle.unix_calls.specs.Tree.{same_path}
 use Rattle.server_names.specs.declared.Entry.{Entry}
@@ -20,17 +18,11 @@ use Rattle.server_names.proofs.FoundLaws.{path_itself}
 use Rattle.server_kernel.specs.declared.Domain.{Domain}
 use Rattle.server_kernel.specs.declared.Server.{Server}
 use Rattle.server_kernel.specs.Boot as booting
-use Rattle.server_kernel.specs.Directory.{found_in, has_path}
-use Rattle.server_kernel.specs.Files as files
-use Rattle.server_kernel.specs.Opens as opening
+use Rattle.server_kernel.specs.Opens.{new_file}
+use Rattle.server_walks.proofs.BootWalk.{KeepsBoot, server_begins}
 use Rattle.redirect_laws.specs.Links.{AreLinks, IsLink, LinksIn, Parts, ServersBeginLinked}
 use Rattle.redirect_laws.proofs.TreeLinks.{IfThere, put_links}
-use Rattle.redirect_laws.proofs.DomainLinks.{set_links}
-
--- what a step gave that goes on
-then_some : {A B : Type 0} (o : Option A) (f : A → Option B) (y : B) → booting.and_then o f ≡ Some y → (x : A) × (o ≡ Some x) × (f x ≡ Some y)
-then_some (Some x) f y e = (x, refl, e)
-then_some None f y e = absurd (cc)
+use Rattle.redirect_laws.proofs.DomainLinks.{got_links, set_links}
 
 kept_filtered : {X : Type 0} (test : X → Bool) (P : X → Type 0) (xs : List X) → AllByRecursion P xs → AllByRecursion P (filter test xs)
 kept_filtered test P [] h = tt
@@ -112,97 +104,24 @@ module _ (leads : Parts → Bool) (all : List Parts) where
       (either_links (length root == 0) (Some []) (booting.names_from (names.booted [] root (entries.Node nodes.Dir))) tt (from_links (names.booted [] root (entries.Node nodes.Dir)) (booted_links [] root (entries.Node nodes.Dir) tt tt)))
       (from_links (names.hung_all [] links) (hung_links links [] (kept_filtered (booting.hangs_in roots root) (λ (path : Parts). leads path ≡ true) roots are) tt))
 
-  -- ---- domains that are hung
+  -- ---- as the cluster begins
 
   abbrev Hung : Server → Type 0
   Hung s = (Lead s.roots × (s.roots ≡ all)) × LinksIn leads s.domains
 
-  hung_new : (o : Option Tree) (root : Parts) (s next : Server) → IfThere (AreLinks leads) o → Hung s → booting.with_domain_of root s o ≡ Some next → Hung next
-  hung_new None root s next is h e = absurd (cc)
-  hung_new (Some tree) root s next is h e =
-      let new : Domain = record { root = root; names = tree } in
-      subst Hung (some_is (record s { domains = s.domains ++ new ∷ [] }) next e) (h.0, each_push (λ (domain : Domain). AreLinks leads domain.names) s.domains new h.1 is)
-
-  hung_by : (b : Bool) (root : Parts) (s next : Server) → Hung s → cond b (booting.with_domain_of root s (booting.names_of s.roots root)) (Some s) ≡ Some next → Hung next
-  hung_by true root s next h e = hung_new (booting.names_of s.roots root) root s next (names_links s.roots root h.0.0) h e
-  hung_by false root s next h e = subst Hung (some_is s next e) h
-
-  hung_each : (rest : List Parts) (parts : ℕ) (s next : Server) → Hung s → booting.hangs_all parts rest s ≡ Some next → Hung next
-  hung_each [] parts s next h e = subst Hung (some_is s next e) h
-  hung_each (root ∷ rest) parts s next h e =
-      let got = then_some (booting.hangs_one parts root s) (λ (mid : Server). booting.hangs_all parts rest mid) next e in
-      hung_each rest parts got.0 next (hung_by (length root == parts) root s got.0 h got.1) got.2
-
-  all_hung : (done : ℕ) (serves : List Parts) (s next : Server) → Hung s → booting.all_hung serves done s ≡ Some next → Hung next
-  all_hung zero serves s next h e = subst Hung (some_is s next e) h
-  all_hung (suc done) serves s next h e =
-      let got = then_some (booting.all_hung serves done s) (λ (mid : Server). booting.hangs_all (16 - done) serves mid) next e in
-      hung_each serves (16 - done) got.0 next (all_hung done serves s got.0 h got.1) got.2
-
-  -- ---- files hang no further ones
-
-  either_hung : (b : Bool) (one other : Server) → Hung one → Hung other → Hung (cond b one other)
-  either_hung true one other h k = h
-  either_hung false one other h k = k
-
-  written_hung : (file : FileId) (start : ℕ) (bytes : List ℕ) (s : Server) → Hung s → Hung (files.written_to file start bytes s)
-  written_hung file start bytes s h = either_hung _ _ s h h
-
-  made_hung : (file : FileId) (s : Server) → Hung s → Hung (files.made_file file s)
-  made_hung file s h = either_hung _ s _ h h
-
-  appended_hung : (found : Result Node NameEnd) (bytes : List ℕ) (s : Server) → Hung s → Hung (booting.appends_found bytes found s)
-  appended_hung (Ok (nodes.File file)) bytes s h = written_hung file (files.size_in file s) bytes s h
-  appended_hung (Ok nodes.Dir) bytes s h = h
-  appended_hung (Ok (nodes.Device device)) bytes s h = h
-  appended_hung (Err end) bytes s h = h
-
-  named_hung : (made : Result Tree NameEnd) (at : ℕ) (domain : Domain) (s next : Server) → TreeLinks made → Hung s → booting.with_domains s (booting.put_at at s.domains (booting.named_domain domain made)) ≡ Some next → Hung next
-  named_hung (Ok tree) at domain s next is h e =
-      let new : Domain = record domain { names = tree } in
-      subst Hung (some_is (record s { domains = slice_set s.domains at new }) next e) (h.0, set_links leads s.domains at new is h.1)
-  named_hung (Err end) at domain s next is h e = absurd (cc)
-
-  booted_hung : (o : Option Domain) (path : Parts) (file : FileId) (at : ℕ) (s next : Server) → IfThere (λ (domain : Domain). AreLinks leads domain.names) o → Hung s → booting.with_domains s (booting.boot_by at path file o s.domains) ≡ Some next → Hung next
-  booted_hung (Some domain) path file at s next is h e =
-      named_hung (names.booted domain.names path (entries.Node (nodes.File file))) at domain s next (booted_links domain.names path (entries.Node (nodes.File file)) tt is) h e
-  booted_hung None path file at s next is h e = absurd (cc)
-
-  there_links : (domains : List Domain) (at : ℕ) → LinksIn leads domains → IfThere (λ (domain : Domain). AreLinks leads domain.names) (slice_get domains at)
-  there_links [] at h = tt
-  there_links (domain ∷ domains) zero h = h.0
-  there_links (domain ∷ domains) (suc at) h = there_links domains at h.1
-
-  placed_hung : (o : Option ℕ) (path : Parts) (file : FileId) (s next : Server) → Hung s → booting.boots_at path file o s ≡ Some next → Hung next
-  placed_hung (Some at) path file s next h e = booted_hung (slice_get s.domains at) path file at s next (there_links s.domains at h.1) h e
-  placed_hung None path file s next h e = absurd (cc)
-
-  line_made : (line : FileLine) (s next : Server) → Hung s → booting.makes_line line s ≡ Some next → Hung next
-  line_made line s next h e =
-      let file : FileId = opening.new_file s in
-      let got = then_some (booting.boots_name line.path file s) (λ (named : Server). Some (booting.filled file line.bytes named)) next e in
-      let named : Server = got.0 in
-      subst Hung (some_is (booting.filled file line.bytes named) next got.2) (written_hung file 0 line.bytes (files.made_file file named) (made_hung file named (placed_hung (position (has_path line.path) s.domains) line.path file s named h got.1)))
-
-  line_by : (here joins : Bool) (line : FileLine) (s next : Server) → Hung s → cond here (cond joins (Some (booting.appends_line line s)) (booting.makes_line line s)) (Some s) ≡ Some next → Hung next
-  line_by true true line s next h e = subst Hung (some_is (booting.appends_line line s) next e) (appended_hung (found_in line.path s) line.bytes s h)
-  line_by true false line s next h e = line_made line s next h e
-  line_by false joins line s next h e = subst Hung (some_is s next e) h
-
-  filled_hung : (lines : List FileLine) (s next : Server) → Hung s → booting.fills lines s ≡ Some next → Hung next
-  filled_hung [] s next h e = subst Hung (some_is s next e) h
-  filled_hung (line ∷ lines) s next h e =
-      let got = then_some (booting.fills_line line s) (λ (mid : Server). booting.fills lines (opening.counts_file mid)) next e in
-      filled_hung lines (opening.counts_file got.0) next (line_by (booting.lies_here line.path s) line.append line s got.0 h got.1) got.2
-
-  -- ---- as the cluster begins
+  hanging : (serves : List Parts) → KeepsBoot serves Hung
+  hanging serves = record {
+    hangs = λ s root tree is e h. (h.0, each_push (λ (domain : Domain). AreLinks leads domain.names) s.domains (record { root = root; names = tree }) h.1 (subst (IfThere (AreLinks leads)) e (names_links s.roots root h.0.0)));
+    makes = λ s at domain path tree there e h.
+        let file : Entry = entries.Node (nodes.File (new_file s)) in
+        let are : AreLinks leads domain.names = subst (IfThere (λ (domain : Domain). AreLinks leads domain.names)) there (got_links leads s.domains at h.1) in
+        (h.0, set_links leads s.domains at (record domain { names = tree }) (subst TreeLinks e (booted_links domain.names path file tt are)) h.1);
+    writes = λ s file bytes there h. h;
+    passes = λ s h. h;
+  }
 
   pub begun_hung : (c : Description) (kernel : ℕ) (s : Server) → Lead (booting.bare c kernel).roots → (booting.bare c kernel).roots ≡ all → booting.boots c kernel ≡ Some s → LinksIn leads s.domains × (s.roots ≡ all)
-  begun_hung c kernel s are same e =
-      let serves : List Parts = booting.serves_of c.kernels kernel in
-      let got = then_some (booting.all_hung serves 17 (booting.bare c kernel)) (λ (hung : Server). booting.fills c.files hung) s e in
-      let hung : Hung s = filled_hung c.files got.0 s (all_hung 17 serves (booting.bare c kernel) got.0 ((are, same), tt) got.1) got.2 in
-      (hung.1, hung.0.1)
+  begun_hung c kernel s are same e = let hung : Hung s = server_begins c kernel Hung (hanging (booting.serves_of c.kernels kernel)) s e ((are, same), tt) in (hung.1, hung.0.1)
 
 -- ---- each of the paths begins a domain
 

@@ -1,4 +1,3 @@
 pub mod Answering
-pub mod ServerAnswers
 pub mod RootLaws
 pub mod ServerLaws

@@ -12,10 +12,11 @@ use Rattle.kernel_steps.specs.declared.Input.TheVariants as inputs
 use Rattle.server_kernel.specs.declared.Asked.{Asked}
 use Rattle.server_kernel.specs.declared.Server.{Server}
 use Rattle.server_kernel.specs.Steps.{begins, server_step}
+use Rattle.server_walks.proofs.Bearing.{server_takes}
+use Rattle.server_walks.proofs.StepWalk.{Comes}
 use Rattle.server_answers.specs.Servers.{AnswersTo, Before, Came, ForADomain, KeptFrom, RootsStay, ServersAnswerSo, ServersKeepSo, ToARequest}
-use Rattle.server_answers.proofs.Answering.{AllKept, AnswerSo, FreeFor, MayAnswer, MayTake, answering}
-use Rattle.server_answers.proofs.RootLaws.{roots_in, roots_same}
-use Rattle.server_answers.proofs.ServerAnswers.{server_takes}
+use Rattle.server_answers.proofs.Answering.{AllKept, AnswerSo, FreeFor, MayAnswer, MayTake, ServedSo, answering, roots_same}
+use Rattle.server_answers.proofs.RootLaws.{roots_in}
 
 -- what is so at each place is so of each
 each_there : {X : Type 0} (F : X → Type 0) (xs : List X) → ((at : ℕ) (x : X) → slice_get xs at ≡ Some x → F x) → AllByRecursion F xs
@@ -25,7 +26,12 @@ each_there F (x ∷ xs) there = (there 0 x refl, each_there F xs (λ at y e. the
 -- behind a step that begins with requests that are so, and is given one that may be kept or answered
 pub step_answers : (A : TxNo → ReplyBody → Type 0) (K : Asked → Type 0) → ((request : Asked) → K request → FreeFor A request.tx request.body) → (s : Server) (input : Input) (next : TxNo) → AllKept K s.asking → AllKept K s.waiting → MayTake A K s.domains input
     → AnswerSo A K (roots_in s) (server_step s input next).0.domains (server_step s input next).0.asking (server_step s input next).0.waiting (server_step s input next).1.answers
-step_answers A K frees s input next ask wait may = server_takes A K frees (AnswerSo A K (roots_in s)) (answering A K (roots_in s)) input (begins next s) may (record { hang = refl; ask = ask; wait = wait; are = tt })
+step_answers A K frees s input next ask wait may =
+    server_takes (ServedSo A K s.domains) (λ v. AnswerSo A K (roots_in s) v.domains v.asking v.waiting v.answers) (answering A K frees s.domains) input (begins next s) (comes input may) (record { hang = refl; ask = ask; wait = wait; are = tt })
+  where
+    comes : (input : Input) → MayTake A K s.domains input → Comes (ServedSo A K s.domains) input
+    comes (inputs.Request tx source body) may = may
+    comes input may = tt
 
 -- ---- in the words of the laws
 

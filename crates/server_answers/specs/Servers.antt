@@ -15,7 +15,7 @@ use Rattle.server_kernel.specs.declared.Server.{Server}
 use Rattle.server_kernel.specs.Boot.{boots, serves_of}
 use Rattle.server_kernel.specs.Directory.{Parts, is_root}
 use Rattle.server_kernel.specs.Steps.{server_step}
-use Rattle.server_answers.specs.Sorts.{fits}
+use Rattle.server_walks.specs.Sorts.{fits}
 
 -- whether a request asks for the server of a prefix
 abbrev pub asks_for_server : Request → Bool

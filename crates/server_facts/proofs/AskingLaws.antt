@@ -30,9 +30,11 @@ use Rattle.server_kernel.specs.Grants as grants
 use Rattle.server_kernel.specs.Steps as stepping
 use Rattle.server_kernel.specs.Waits as waiting
 use Rattle.server_kernel.specs.Waits.{first_about, is_about, less_about}
-use Rattle.server_facts.specs.Asking.{AreFilesOnce, AskingStands, AtMost, action_in, action_of, has_about}
+use Rattle.server_walks.specs.Actions.{action_of}
+use Rattle.server_walks.proofs.Deeds.{Every, Keeps}
+use Rattle.server_walks.proofs.ServeWalk.{grants_asked, puts_all, serves}
+use Rattle.server_facts.specs.Asking.{AreFilesOnce, AskingStands, AtMost, action_in, has_about}
 use Rattle.server_facts.specs.Steps.{StepKeeps}
-use Rattle.server_facts.proofs.ServerWalk.{Keeps, grants_by, puts_all, serves}
 use Rattle.server_facts.proofs.Tables.{any_last, any_none, by_file, file_gone, file_left, file_other, find_apart, find_last, find_none, find_other, first_goes, itself, less_apart, less_none, most_all, most_apart, most_other, none_found, once_left, once_put, part_put, same_file, turned}
 
 abbrev pub busy_in : Files → FileId → Bool
@@ -159,9 +161,10 @@ module _ (allow : FileId → ℕ) where
   calls_all [] asked s p = p
   calls_all (call ∷ calls) asked s p = calls_all calls asked (grants.calls_one asked call s) p
 
-  pub keeps_asking : Keeps P
+  pub keeps_asking : Keeps Every P
   keeps_asking = record {
-    says = λ s out p. p;
+    notes = λ s event told p. p;
+    answers = λ s asked reply k is p. p;
     pages = λ s swap p. p;
     shares = λ s shadows p. p;
     writes = λ s file bytes there p. p;
@@ -171,9 +174,9 @@ module _ (allow : FileId → ℕ) where
     creates = λ s path done e p. p;
     unlinks = λ s path file e free opens p. p;
     forgets = λ s path file e free opens p. gone_same allow s.versions.files s.asking s.waiting file free p;
-    waits = λ s asked file busy p. waits_more allow s.versions.files s.asking s.waiting file asked busy p;
+    waits = λ s asked file k wait busy p. waits_more allow s.versions.files s.asking s.waiting file asked busy p;
     granted = λ s file action free e p. put_same allow s.versions.files s.asking s.waiting file _ (granted_asking s.versions.cached (files.kept_of file s) action e ∙ sym (free_none (files.kept_of file s).asking free)) p;
-    asks = λ s asked file action call calls may free e p. calls_all (call ∷ calls) asked (grants.asks asked file (grants.with_decided file action s)) (asks_more allow s.versions.files s.asking s.waiting file asked _ (asked_action s.versions.cached (files.kept_of file s) action call calls e ∙ sym may) (asked_busy s.versions.cached (files.kept_of file s) action call calls e) free p);
+    asks = λ s asked file action call calls k may free e p. calls_all (call ∷ calls) asked (grants.asks asked file (grants.with_decided file action s)) (asks_more allow s.versions.files s.asking s.waiting file asked _ (asked_action s.versions.cached (files.kept_of file s) action call calls e ∙ sym may) (asked_busy s.versions.cached (files.kept_of file s) action call calls e) free p);
     closes = λ s file kernel stream many mode free there last p. closed_same allow s.versions.files s.asking s.waiting file kernel stream many p;
     closes_last = λ s file kernel stream many mode free there last p. gone_same allow (with_closed s.versions.files file kernel stream many) s.asking s.waiting file (still_free s.versions.files file kernel stream many free) (closed_same allow s.versions.files s.asking s.waiting file kernel stream many p);
   }
@@ -251,7 +254,7 @@ module _ (file : FileId) where
   }
 
   served : (o : Option Asked) (n : ℕ) (s : Server) → Q n s → Q n (waiting.serves_first o s)
-  served (Some asked) n s h = serves (Q n) (keeps_asking (at file n)) asked s h
+  served (Some asked) n s h = serves Every (Q n) (keeps_asking (at file n)) asked s tt h
   served None n s h = h
 
   turned_by : (b : Bool) (n : ℕ) (s : Server) → files.is_busy file s ≡ b → Q (suc n) s → Q n (cond b s (waiting.serves_first (first_about file s.waiting) (record s { waiting = less_about file s.waiting })))
@@ -315,7 +318,7 @@ settled_by (Some asking) asked file rows s e busy h same =
     let after : Server = waiting.with_settled file s in
     let free : tables.is_busy (tables.settled (files.kept_of file s)) ≡ false = settled_free (files.kept_of file s) (files.kept_of file s).asking refl in
     let settled : Q file (length s.waiting) after = subst (λ (asking : List (FileId × Asked)). Asks (at file (length s.waiting)) after.versions.files asking s.waiting) (sym same) (settled_more file s.versions.files rows s.waiting _ free h) in
-    waited_served file (length s.waiting) (grants.grants asked file grant after) (grants_by (Q file (length s.waiting)) (keeps_asking (at file (length s.waiting))) asked.body asked file grant after settled)
+    waited_served file (length s.waiting) (grants.grants asked file grant after) (grants_asked Every (Q file (length s.waiting)) (keeps_asking (at file (length s.waiting))) asked file grant after tt settled)
 settled_by None asked file rows s e busy h same = absurd (cc)
 
 settles_first : (o : Option Asked) (file : FileId) (s : Server) → first_about file s.asking ≡ o → tables.is_ready (files.kept_of file s) ≡ true → Stands s → Stands (waiting.settles_first file o (record s { asking = less_about file s.asking }))
@@ -342,7 +345,7 @@ hears call s h = elim (files.is_busy call.file s) as (λ b. Stands (cond b (wait
 ]
 
 flushes_first : (o : Option CallOut) (flushed : Flushed) (s : Server) → Stands s → Stands (waiting.flushes_first flushed o s)
-flushes_first (Some call) flushed s h = hears call (waiting.puts_all call.file flushed.size flushed.blocks s) (puts_all Stands (keeps_asking none) flushed.blocks call.file flushed.size s h)
+flushes_first (Some call) flushed s h = hears call (waiting.puts_all call.file flushed.size flushed.blocks s) (puts_all Every Stands (keeps_asking none) flushed.blocks call.file flushed.size s h)
 flushes_first None flushed s h = h
 
 -- ---- a step
@@ -352,7 +355,7 @@ takes_reply (bodies.Flushed flushed) tx s h = flushes_first (first_under waiting
 takes_reply body tx s h = h
 
 takes : (input : Input) (s : Server) → Stands s → Stands (stepping.takes input s)
-takes (inputs.Request tx source body) s h = serves Stands (keeps_asking none) (record { tx = tx; from = source; body = body }) s h
+takes (inputs.Request tx source body) s h = serves Every Stands (keeps_asking none) (record { tx = tx; from = source; body = body }) s tt h
 takes (inputs.Replied tx source body) s h = takes_reply body tx s h
 takes input s h = h
 

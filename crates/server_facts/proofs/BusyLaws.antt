@@ -33,7 +33,9 @@ use Rattle.server_facts.specs.Calls.{BusyStands, CallsStand}
 use Rattle.server_facts.specs.Steps.{StepKeeps}
 use Rattle.server_facts.proofs.AskingLaws.{Stands, granted_free, keeps_asking, none, settled_free, stands_from, step_keeps_asking}
 use Rattle.server_facts.proofs.CallLaws.{Ascend, Calls, answered_calls, ascends, busy_in, calls_from, is_called, keeps_calls, marked, settled_calls, step_keeps_calls, stored, unmarked}
-use Rattle.server_facts.proofs.ServerWalk.{Keeps, grants_by, puts_all, serves, turns}
+use Rattle.server_walks.proofs.Deeds.{Every, Keeps}
+use Rattle.server_walks.proofs.ServeWalk.{grants_asked, puts_all, serves}
+use Rattle.server_walks.proofs.StepWalk.{turns}
 use Rattle.server_facts.proofs.Tables.{both_ways, by_file, file_gone, file_left, file_other, none_found, once_put, turned}
 
 -- a busy file has a callback out
@@ -117,9 +119,10 @@ same_table : (calls : List Callback) (asked : Asked) (s : Server) → (grants.ca
 same_table [] asked s = refl
 same_table (call ∷ calls) asked s = same_table calls asked (grants.calls_one asked call s)
 
-keeps_busy : Keeps P
+keeps_busy : Keeps Every P
 keeps_busy = record {
-  says = λ s out p. p;
+  notes = λ s event told p. p;
+  answers = λ s asked reply k is p. p;
   pages = λ s swap p. p;
   shares = λ s shadows p. p;
   writes = λ s file bytes there p. p;
@@ -129,9 +132,9 @@ keeps_busy = record {
   creates = λ s path done e p. p;
   unlinks = λ s path file e free opens p. p;
   forgets = λ s path file e free opens p. (keeps_calls.forgets s path file e free opens p.0, gone_called s.versions.files file p.0.once p.1);
-  waits = λ s asked file busy p. p;
+  waits = λ s asked file k wait busy p. p;
   granted = λ s file action free e p. (keeps_calls.granted s file action free e p.0, put_called s.versions.files file _ (λ busy. absurd (true≢false (sym busy ∙ granted_free s.versions.cached (files.kept_of file s) action e))) (λ other off. p.1 other));
-  asks = λ s asked file action call calls may free e p. (keeps_calls.asks s asked file action call calls may free e p.0, subst Called (sym (same_table (call ∷ calls) asked (grants.asks asked file (grants.with_decided file action s)))) (put_called s.versions.files file _ (λ busy. asked_any s.versions.cached (files.kept_of file s) action call calls e (p.0.places file)) (λ other off. p.1 other)));
+  asks = λ s asked file action call calls k may free e p. (keeps_calls.asks s asked file action call calls k may free e p.0, subst Called (sym (same_table (call ∷ calls) asked (grants.asks asked file (grants.with_decided file action s)))) (put_called s.versions.files file _ (λ busy. asked_any s.versions.cached (files.kept_of file s) action call calls e (p.0.places file)) (λ other off. p.1 other)));
   closes = λ s file kernel stream many mode free there last p. (keeps_calls.closes s file kernel stream many mode free there last p.0, closing_called (lookup (is_file file) s.versions.files) s.versions.files file kernel stream many refl p.1);
   closes_last = λ s file kernel stream many mode free there last p.
       let closed = closing_called (lookup (is_file file) s.versions.files) s.versions.files file kernel stream many refl p.1 in
@@ -159,7 +162,7 @@ settled_by (Some asking) asked file s e busy p =
     let grant : Grant = tables.grant_of (files.kept_of file s) asking.action in
     let after : Server = waiting.with_settled file s in
     let given : Server = grants.grants asked file grant after in
-    turns P keeps_busy (λ s rows p. p) (length given.waiting) file given (grants_by P keeps_busy asked.body asked file grant after p)
+    turns Every P keeps_busy (λ s file request e p. tt) (λ s file p. p) (length given.waiting) file given (grants_asked Every P keeps_busy asked file grant after tt p)
 settled_by None asked file s e busy p = absurd (cc)
 
 settles : (file : FileId) (s : Server) → files.is_busy file s ≡ true → has_about file s.asking ≡ true → Calls s.versions.files s.callbacks → ((other : FileId) → is_file file other ≡ false → busy_in s.versions.files other ≡ true → tables.is_any_out (file_of s.versions.files other) ≡ true) → P (waiting.settles file s)
@@ -205,7 +208,7 @@ flushes_first : (o : Option (TxNo × CallOut)) (q : TxNo × CallOut → Bool) (r
 flushes_first (Some row) q rows flushed s found same asks calls called =
     let kept = stored flushed.blocks row.1.file flushed.size s in
     let put : Server = waiting.puts_all row.1.file flushed.size flushed.blocks s in
-    (hears rows q row put found (kept.1 ∙ same) (puts_all Stands (keeps_asking none) flushed.blocks row.1.file flushed.size s asks) (subst (λ (table : Files). Calls table rows) (sym kept.0) calls) (subst Called (sym kept.0) called)).1
+    (hears rows q row put found (kept.1 ∙ same) (puts_all Every Stands (keeps_asking none) flushed.blocks row.1.file flushed.size s asks) (subst (λ (table : Files). Calls table rows) (sym kept.0) calls) (subst Called (sym kept.0) called)).1
 flushes_first None q rows flushed s found same asks calls called = called
 
 -- ---- a step
@@ -217,7 +220,7 @@ takes_reply (bodies.Flushed flushed) tx s asks p =
 takes_reply body tx s asks p = p.1
 
 takes : (input : Input) (s : Server) → Stands s → P s → Called (stepping.takes input s).versions.files
-takes (inputs.Request tx source body) s asks p = (serves P keeps_busy (record { tx = tx; from = source; body = body }) s p).1
+takes (inputs.Request tx source body) s asks p = (serves Every P keeps_busy (record { tx = tx; from = source; body = body }) s tt p).1
 takes (inputs.Replied tx source body) s asks p = takes_reply body tx s asks p
 takes input s asks p = p.1
 

@@ -38,7 +38,9 @@ use Rattle.server_kernel.specs.Waits.{first_about, less_about}
 use Rattle.server_facts.specs.Asking.{AreFilesOnce, AtMost}
 use Rattle.server_facts.specs.Calls.{CallsStand}
 use Rattle.server_facts.specs.Steps.{StepKeeps}
-use Rattle.server_facts.proofs.ServerWalk.{Keeps, grants_by, serves, turns}
+use Rattle.server_walks.proofs.Deeds.{Every, Keeps}
+use Rattle.server_walks.proofs.ServeWalk.{grants_asked, serves}
+use Rattle.server_walks.proofs.StepWalk.{turns}
 use Rattle.server_facts.proofs.Tables.{any_last, any_none, by_file, each_less, file_gone, file_left, file_other, first_goes, found_any, found_each, itself, most_less, none_found, none_less, most_other, once_left, once_put, part_put, removed_one, removed_other, turned}
 
 abbrev pub busy_in : Files → FileId → Bool
@@ -318,9 +320,10 @@ asks_more s asked file action call calls free e h = record {
 abbrev P : Server → Type 0
 P s = Calls s.versions.files s.callbacks
 
-pub keeps_calls : Keeps P
+pub keeps_calls : Keeps Every P
 keeps_calls = record {
-  says = λ s out p. p;
+  notes = λ s event told p. p;
+  answers = λ s asked reply k is p. p;
   pages = λ s swap p. p;
   shares = λ s shadows p. p;
   writes = λ s file bytes there p. p;
@@ -330,9 +333,9 @@ keeps_calls = record {
   creates = λ s path done e p. p;
   unlinks = λ s path file e free opens p. p;
   forgets = λ s path file e free opens p. gone_same s.versions.files s.callbacks file free p;
-  waits = λ s asked file busy p. p;
+  waits = λ s asked file k wait busy p. p;
   granted = λ s file action free e p. put_same s.versions.files s.callbacks file _ (decided_file s.versions.cached (files.kept_of file s) action) (granted_out s.versions.cached (files.kept_of file s) action e) (λ still at. p.quiet file free at) p;
-  asks = λ s asked file action call calls may free e p. subst (λ (table : Files). Calls table (grants.calls_first asked file (call ∷ calls) (grants.with_decided file action s)).callbacks) (sym (same_table (call ∷ calls) asked (grants.asks asked file (grants.with_decided file action s)))) (asks_more s asked file action call calls free e p);
+  asks = λ s asked file action call calls k may free e p. subst (λ (table : Files). Calls table (grants.calls_first asked file (call ∷ calls) (grants.with_decided file action s)).callbacks) (sym (same_table (call ∷ calls) asked (grants.asks asked file (grants.with_decided file action s)))) (asks_more s asked file action call calls free e p);
   closes = λ s file kernel stream many mode free there last p. closed_same s.versions.files s.callbacks file kernel stream many free p;
   closes_last = λ s file kernel stream many mode free there last p. gone_same (with_closed s.versions.files file kernel stream many) s.callbacks file (closing_free (lookup (is_file file) s.versions.files) s.versions.files file kernel stream many refl free) (closed_same s.versions.files s.callbacks file kernel stream many free p);
 }
@@ -389,7 +392,7 @@ settles file s h = by_ready (tables.is_ready (files.kept_of file s)) refl
         let after : Server = waiting.with_settled file s in
         let settled : P after = settled_calls file s none h in
         let given : Server = grants.grants asked file grant after in
-        turns P keeps_calls (λ s rows p. p) (length given.waiting) file given (grants_by P keeps_calls asked.body asked file grant after settled)
+        turns Every P keeps_calls (λ s file request e p. tt) (λ s file p. p) (length given.waiting) file given (grants_asked Every P keeps_calls asked file grant after tt settled)
     granted None asked s none h = h
 
     first : (o : Option Asked) (s : Server) → ((at : ℕ) → marked (files.kept_of file s).out at ≡ false) → P s → P (waiting.settles_first file o s)
@@ -459,7 +462,7 @@ takes_reply (bodies.Flushed flushed) tx s h =
 takes_reply body tx s h = h
 
 takes : (input : Input) (s : Server) → P s → P (stepping.takes input s)
-takes (inputs.Request tx source body) s h = serves P keeps_calls (record { tx = tx; from = source; body = body }) s h
+takes (inputs.Request tx source body) s h = serves Every P keeps_calls (record { tx = tx; from = source; body = body }) s tt h
 takes (inputs.Replied tx source body) s h = takes_reply body tx s h
 takes input s h = h
 

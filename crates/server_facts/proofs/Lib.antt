@@ -1,4 +1,3 @@
-pub mod ServerWalk
 pub mod Tables
 pub mod AskingLaws
 pub mod CallLaws

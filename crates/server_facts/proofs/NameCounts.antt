@@ -6,7 +6,7 @@ use Rattle.std.proofs.lemmas.Bool.{false_from_ne_true}
 use Rattle.indexmap.specs.IndexMap.{insert_entry}
 use Rattle.sprite_ids.specs.declared.Errno.TheVariants.{Exists}
 use Rattle.sprite_ids.specs.declared.FileId.{FileId}
-use Rattle.sprite_ids.specs.Lists.{less}
+use Rattle.sprite_ids.specs.Lists.{less, one_if}
 use Rattle.sprite_ids.proofs.ListLaws.{some_is}
 use Rattle.server_names.specs.declared.Entry.{Entry}
 use Rattle.server_names.specs.declared.Entry.TheVariants as entries
@@ -21,8 +21,8 @@ use Rattle.server_kernel.specs.declared.Domain.{Domain}
 use Rattle.server_kernel.specs.Directory as directory
 use Rattle.server_kernel.specs.Directory.{Parts}
 use Rattle.server_kernel.specs.Files.{is_that}
-use Rattle.server_facts.specs.Unlinked.{in_domains, in_listed, in_tree, is_name_of, one_if, times}
-use Rattle.server_facts.proofs.ServerWalk.{changed_in, is_a_file}
+use Rattle.server_facts.specs.Unlinked.{in_domains, in_listed, in_tree, is_name_of, times}
+use Rattle.server_walks.proofs.Deeds.{changed_in, is_a_file}
 use Rattle.server_facts.proofs.Tables.{itself}
 
 -- ---- sums

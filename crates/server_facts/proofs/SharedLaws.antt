@@ -48,11 +48,13 @@ use Rattle.server_kernel.specs.Requests.{moving_of}
 use Rattle.server_kernel.specs.Steps as stepping
 use Rattle.server_kernel.specs.Waits as waiting
 use Rattle.server_kernel.specs.Waits.{first_about, less_about}
-use Rattle.server_facts.specs.Asking.{AreFilesOnce, AskingStands, action_by, action_in, action_of}
+use Rattle.server_walks.specs.Actions.{action_by, action_of}
+use Rattle.server_walks.proofs.Deeds.{Every, KeepsFit, shares_of}
+use Rattle.server_walks.proofs.ServeWalk.{fit_grants, fit_puts, fit_serves, puts_all}
+use Rattle.server_facts.specs.Asking.{AreFilesOnce, AskingStands, action_in}
 use Rattle.server_facts.specs.Shared.{AreOpensOnce, CloseFits, Fits, FitsAs, GrantFitsAs, IsReadyFor, MoveFits, OpeningFits, SettlesFit, SharedStand, StepFits, StepKeepsWhereFit, StepsFit, TargetFits, TurnsFit, is_shared_in}
 use Rattle.server_facts.specs.Steps.{after}
 use Rattle.server_facts.proofs.AskingLaws.{Stands, answered_stands, keeps_asking, none, stands_from, step_keeps_asking}
-use Rattle.server_facts.proofs.ServerWalk.{KeepsFit, fit_grants, fit_puts, fit_serves, puts_all, shares_of}
 use Rattle.server_facts.proofs.ShadowCounts.{HasPlaces, added_here, added_once, added_there, by_stream, close_beside, close_here, close_places, count_of_open, counted_here, counted_other, grant_beside, grant_here, grant_places, is_key, off_here, off_once, off_there, offset_places, offset_same, put_any, same_stream, share_beside, share_found, share_places}
 use Rattle.server_facts.proofs.Tables.{by_file, file_gone, file_left, file_other, less_none, once_left, once_put, turned}
 
@@ -460,9 +462,10 @@ close_fits asked r file table list e o fits free =
 
 -- ---- a server serves
 
-keeps_shared : KeepsFit Fits P
+keeps_shared : KeepsFit Every Fits P
 keeps_shared = record {
-  says = λ s out p. p;
+  notes = λ s event told p. p;
+  answers = λ s asked reply k is p. p;
   pages = λ s swap p. p;
   offsets = λ s stream offset p. record { counted = λ file other kernel low shared. offset_same s.shadows other stream offset kernel ∙ p.counted file other kernel low shared; ready = p.ready; opens = p.opens; places = offset_places s.shadows stream offset p.places; once = p.once };
   writes = λ s file bytes there p. p;
@@ -472,9 +475,9 @@ keeps_shared = record {
   creates = λ s path done e p. p;
   unlinks = λ s path file e free opens p. p;
   forgets = λ s path file e free opens p. gone_counts s.versions.files s.shadows s.shadows file s.versions.files p.once (λ other off. refl) (λ other stream kernel off shared. refl) p.places p;
-  waits = λ s asked file busy p. p;
+  waits = λ s asked file k wait busy p. p;
   gives = λ s asked file action may about f free e p. takes_effect asked.body asked file action s.versions.files _ (grants.with_decided file action s) may refl (decided_effect s.versions.cached (files.kept_of file s) action e) (grant_fits asked.body asked.from file s.versions.files s.shadows f about free) p;
-  asks = λ s asked file action call calls may free e p. calls_all (call ∷ calls) asked (grants.asks asked file (grants.with_decided file action s)) (asks_counts s file action call calls e p);
+  asks = λ s asked file action call calls k may free e p. calls_all (call ∷ calls) asked (grants.asks asked file (grants.with_decided file action s)) (asks_counts s file action call calls e p);
   closes = λ s asked r file mode e o f free there last p. closing_counts (lookup (is_file file) s.versions.files) s.versions.files s.shadows file asked.from r.stream r.grants mode refl there free (close_fits asked r file s.versions.files s.shadows e o f free) p;
   closes_last = λ s asked r file mode e o f free there last p.
       gone_counts s.versions.files s.shadows (shadows.close s.shadows r.stream asked.from r.grants) file (with_closed s.versions.files file asked.from r.stream r.grants)
@@ -485,7 +488,7 @@ keeps_shared = record {
 -- ---- what waits is served
 
 served : (o : Option Asked) (file : FileId) (s : Server) → ((asked : Asked) → o ≡ Some asked → Fits asked s.versions.files s.shadows) → P s → P (waiting.serves_first o s)
-served (Some asked) file s fits p = fit_serves Fits P keeps_shared asked s (fits asked refl) p
+served (Some asked) file s fits p = fit_serves Every Fits P keeps_shared asked s tt (fits asked refl) p
 served None file s fits p = p
 
 turned_by : (b : Bool) (file : FileId) (s : Server) → files.is_busy file s ≡ b → ((asked : Asked) → files.is_busy file s ≡ false → first_about file s.waiting ≡ Some asked → Fits asked s.versions.files s.shadows) → P s → P (cond b s (waiting.serves_first (first_about file s.waiting) (record s { waiting = less_about file s.waiting })))
@@ -510,7 +513,7 @@ settled_by (Some asking) asked file s e acts fits waited p =
     subst (λ (o : Option Asking). Effect (files.kept_of file s) (tables.settling (files.kept_of file s) o) asking.action) (sym e) (settled_effect asking (files.kept_of file s) (subst (IsReadyFor (files.kept_of file s).opens (files.kept_of file s).shared) e (p.ready file))) in
     let shared : P (shares_of asked.body asked file after) = takes_effect asked.body asked file asking.action s.versions.files (tables.settled (files.kept_of file s)) after (sym acts) refl effect fits p in
     let given : Server = grants.grants asked file grant after in
-    turns (length given.waiting) file given (waited grant refl) (fit_grants Fits P keeps_shared asked.body asked file grant after shared)
+    turns (length given.waiting) file given (waited grant refl) (fit_grants Every Fits P keeps_shared asked.body asked file grant after refl tt shared)
 settled_by None asked file s e acts fits waited p = p
 
 settles : (file : FileId) (s : Server) → ((asked : Asked) → tables.is_ready (files.kept_of file s) ≡ true → first_about file s.asking ≡ Some asked → SettlesFit file s asked) → Stands s → P s → P (waiting.settles file s)
@@ -540,8 +543,8 @@ flushes_first : (o : Option CallOut) (flushed : Flushed) (tx : TxNo) (s : Server
 flushes_first (Some call) flushed tx s found fits asks p =
     let taken : Server = record s { callbacks = less (is_under waiting.is_call tx) s.callbacks } in
     let stored : Server = waiting.puts_all call.file flushed.size flushed.blocks taken in
-    let kept : P stored = fit_puts Fits P keeps_shared flushed.blocks call.file flushed.size taken p in
-    let stands : Stands stored = puts_all Stands (keeps_asking none) flushed.blocks call.file flushed.size taken asks in
+    let kept : P stored = fit_puts Every Fits P keeps_shared flushed.blocks call.file flushed.size taken p in
+    let stands : Stands stored = puts_all Every Stands (keeps_asking none) flushed.blocks call.file flushed.size taken asks in
     elim (files.is_busy call.file stored) as (λ b. P (cond b (waiting.settles call.file (waiting.with_answer call stored)) stored)) [
       | true ↦ settles call.file (waiting.with_answer call stored) (λ asked ready first. fits call asked found ready first) (answered_stands call stored stands) (answered_counts call stored kept)
       | false ↦ kept
@@ -555,7 +558,7 @@ takes_reply (bodies.Flushed flushed) tx s fits asks p = flushes_first (first_und
 takes_reply body tx s fits asks p = p
 
 takes : (input : Input) (s : Server) → StepFits s input → Stands s → P s → P (stepping.takes input s)
-takes (inputs.Request tx source body) s fits asks p = fit_serves Fits P keeps_shared (record { tx = tx; from = source; body = body }) s fits p
+takes (inputs.Request tx source body) s fits asks p = fit_serves Every Fits P keeps_shared (record { tx = tx; from = source; body = body }) s tt fits p
 takes (inputs.Replied tx source body) s fits asks p = takes_reply body tx s fits asks p
 takes input s fits asks p = p
 

@@ -1,20 +1,12 @@
 -- Every step keeps that a file without a name is there, and open.
-use Rattle.std.proofs.Common.{◌≡◌, ◌≤◌, ℕ, suc, ◌+◌, Bool, true, false, ◌&&◌, not, cond, List, [], ◌∷◌, ◌++◌, length, Option, Some, None, is_some, Ok, refl, sym, ap, subst, arith, ◌∙◌, true≢false}
+use Rattle.std.proofs.Common.{◌≡◌, ◌≤◌, ℕ, suc, ◌+◌, Bool, true, false, ◌&&◌, not, cond, List, [], ◌∷◌, ◌++◌, Option, Some, None, is_some, Ok, refl, sym, ap, subst, arith, ◌∙◌, true≢false}
 use Rattle.std.specs.List.{list_any, position}
 use Rattle.std.specs.Map.{lookup}
 use Rattle.sprite_ids.specs.declared.Callback.{Callback}
 use Rattle.sprite_ids.specs.declared.FileId.{FileId}
-use Rattle.sprite_ids.specs.declared.Flushed.{Flushed}
-use Rattle.sprite_ids.specs.declared.Grant.{Grant}
 use Rattle.sprite_ids.specs.declared.StreamNo.{StreamNo}
-use Rattle.sprite_ids.specs.declared.TxNo.{TxNo}
 use Rattle.sprite_ids.specs.Lists as lists
-use Rattle.sprite_ids.specs.Lists.{less}
-use Rattle.packet_bodies.specs.declared.ReplyBody.{ReplyBody}
-use Rattle.packet_bodies.specs.declared.ReplyBody.TheVariants as bodies
-use Rattle.kernel_steps.specs.declared.Input.{Input}
-use Rattle.kernel_steps.specs.declared.Input.TheVariants as inputs
-use Rattle.kernel_steps.specs.Rows.{first_under, is_under}
+use Rattle.sprite_ids.specs.Lists.{less, one_if}
 use Rattle.file_store.specs.Files.{Kept, is_there, with_bytes, with_new, without}
 use Rattle.file_store.proofs.FileLaws.{changed_there, made_there, others_gone, others_made}
 use Rattle.server_names.specs.declared.Node.TheVariants as nodes
@@ -29,7 +21,6 @@ use Rattle.version_table.specs.Versions.{Files, is_file, or_fresh, file_of, with
 use Rattle.version_table.proofs.CoherenceLaws.{fold_same}
 use Rattle.version_table.proofs.FileLaws.{file_put}
 use Rattle.server_kernel.specs.declared.Asked.{Asked}
-use Rattle.server_kernel.specs.declared.CallOut.{CallOut}
 use Rattle.server_kernel.specs.declared.Domain.{Domain}
 use Rattle.server_kernel.specs.declared.Server.{Server}
 use Rattle.server_kernel.specs.Directory as directory
@@ -39,13 +30,13 @@ use Rattle.server_kernel.specs.Files.{is_that}
 use Rattle.server_kernel.specs.Grants as grants
 use Rattle.server_kernel.specs.Opens as opening
 use Rattle.server_kernel.specs.Steps as stepping
-use Rattle.server_kernel.specs.Waits as waiting
-use Rattle.server_kernel.specs.Waits.{first_about, less_about}
 use Rattle.server_facts.specs.Asking.{AreFilesOnce}
 use Rattle.server_facts.specs.Steps.{StepKeeps}
-use Rattle.server_facts.specs.Unlinked.{LeadsToOpens, UnlinkedStand, in_domains, one_if, times}
+use Rattle.server_facts.specs.Unlinked.{LeadsToOpens, UnlinkedStand, in_domains, times}
 use Rattle.server_facts.proofs.NameCounts.{any_times, made_most, no_file, none_times, one_most, removed_most, renamed_most, times_gone, times_less, times_push, unnamed_fewer}
-use Rattle.server_facts.proofs.ServerWalk.{Keeps, changed_in, dropped_files, grants_by, made_files, puts_all, serves, turns}
+use Rattle.server_walks.proofs.Deeds.{Every, Keeps, changed_in, dropped_files, made_files}
+use Rattle.server_walks.proofs.StepWalk.{KeepsSteps, takes}
+use Rattle.server_walks.proofs.Bearing.{any_comes}
 use Rattle.server_facts.proofs.Tables.{by_file, file_gone, file_left, file_other, itself, once_left, once_put, turned}
 
 -- how many names a file has, with how often it stands among those that have none
@@ -73,7 +64,7 @@ some_more a b c h some = omega arith
 
 -- ---- names that are no more than before
 
-fewer_names : (domains after : List Domain) (next : ℕ) (gone : List FileId) (kept : Kept) (table : Files) → ((file : FileId) → in_domains file after ≤ in_domains file domains + 0) → Names domains next gone kept table → Names after next gone kept table
+pub fewer_names : (domains after : List Domain) (next : ℕ) (gone : List FileId) (kept : Kept) (table : Files) → ((file : FileId) → in_domains file after ≤ in_domains file domains + 0) → Names domains next gone kept table → Names after next gone kept table
 fewer_names domains after next gone kept table fewer h = record {
   few = λ file. no_more (in_domains file after) (in_domains file domains) (times file gone) (fewer file) (h.few file);
   new = λ file high. none_more (in_domains file after) (in_domains file domains) (times file gone) (fewer file) (h.new file high);
@@ -411,9 +402,10 @@ last_parts : (a b : Bool) → (a && b) ≡ true → b ≡ true
 last_parts true b e = e
 last_parts false b e = absurd (cc)
 
-pub keeps_names : Keeps P
+keeps_names : Keeps Every P
 keeps_names = record {
-  says = λ s out p. p;
+  notes = λ s event told p. p;
+  answers = λ s asked reply k is p. p;
   pages = λ s swap p. p;
   shares = λ s shadows p. p;
   writes = λ s file bytes there p. written_names s.domains s.next_file s.unlinked s.store.files s.versions.files file bytes p;
@@ -423,58 +415,33 @@ keeps_names = record {
   creates = λ s path done e p. more_names s.domains _ s.next_file s.unlinked s.store.files s.versions.files (opening.new_file s) refl (λ other. made_most (position (directory.has_path path) s.domains) other path (nodes.File (opening.new_file s)) s.domains) p;
   unlinks = λ s path file e free opens p. unnamed_names (position (directory.has_path path) s.domains) s.domains s.next_file s.unlinked s.store.files s.versions.files path file e opens p;
   forgets = λ s path file e free opens p. forgotten_names (position (directory.has_path path) s.domains) s.domains s.next_file s.unlinked s.store.files s.versions.files path file e p;
-  waits = λ s asked file busy p. p;
+  waits = λ s asked file k wait busy p. p;
   granted = λ s file action free e p. put_opens s.domains s.next_file s.unlinked s.store.files s.versions.files file _ (λ some. granted_opens s.versions.cached (files.kept_of file s) action e) (granted_leads s.versions.cached (files.kept_of file s) action e) p;
-  asks = λ s asked file action call calls may free e p. calls_all (call ∷ calls) asked (grants.asks asked file (grants.with_decided file action s)) (put_opens s.domains s.next_file s.unlinked s.store.files s.versions.files file _ (λ some. ap is_any (asked_opens s.versions.cached (files.kept_of file s) action call calls e) ∙ p.opens file some) (asked_leads s.versions.cached (files.kept_of file s) action call calls e) p);
+  asks = λ s asked file action call calls k may free e p. calls_all (call ∷ calls) asked (grants.asks asked file (grants.with_decided file action s)) (put_opens s.domains s.next_file s.unlinked s.store.files s.versions.files file _ (λ some. ap is_any (asked_opens s.versions.cached (files.kept_of file s) action call calls e) ∙ p.opens file some) (asked_leads s.versions.cached (files.kept_of file s) action call calls e) p);
   closes = λ s file kernel stream many mode free there last p. closing_names (lookup (is_file file) s.versions.files) s.domains s.next_file s.unlinked s.store.files s.versions.files file kernel stream many refl last p;
   closes_last = λ s file kernel stream many mode free there last p. last_names s file kernel stream many (last_parts (tables.is_closed (files.kept_of file s) kernel stream many) (list_any (is_that file) s.unlinked) last) p;
 }
 
--- ---- a callback is answered
-
-settles : (file : FileId) (s : Server) → P s → P (waiting.settles file s)
-settles file s h = by_ready (tables.is_ready (files.kept_of file s)) refl
-  where
-    busy_part : (a b : Bool) → (a && b) ≡ true → a ≡ true
-    busy_part true b e = refl
-    busy_part false b e = absurd (cc)
-
-    granted : (o : Option Grant) (asked : Asked) (s : Server) → is_some (files.kept_of file s).asking ≡ true → P s → P (waiting.settles_by asked file o s)
-    granted (Some grant) asked s busy h =
-        let after : Server = waiting.with_settled file s in
-        let settled : P after = put_opens s.domains s.next_file s.unlinked s.store.files s.versions.files file (tables.settled (files.kept_of file s)) (λ some. settled_opens (files.kept_of file s).asking (files.kept_of file s) (h.waits file) busy) (settled_leads (files.kept_of file s).asking (files.kept_of file s) busy) h in
-        let given : Server = grants.grants asked file grant after in
-        turns P keeps_names (λ s rows p. p) (length given.waiting) file given (grants_by P keeps_names asked.body asked file grant after settled)
-    granted None asked s busy h = h
-
-    first : (o : Option Asked) (s : Server) → is_some (files.kept_of file s).asking ≡ true → P s → P (waiting.settles_first file o s)
-    first (Some asked) s busy h = elim (tables.is_ready (files.kept_of file s)) as (λ b. P (cond b (waiting.settles_by asked file (tables.settled_grant (files.kept_of file s)) s) s)) [ true ↦ granted (tables.settled_grant (files.kept_of file s)) asked s busy h | false ↦ h ]
-    first None s busy h = h
-
-    by_ready : (b : Bool) → tables.is_ready (files.kept_of file s) ≡ b → P (cond b (waiting.settles_first file (first_about file s.asking) (record s { asking = less_about file s.asking })) s)
-    by_ready true e = first (first_about file s.asking) (record s { asking = less_about file s.asking }) (busy_part (tables.is_busy (files.kept_of file s)) (not (tables.is_any_out (files.kept_of file s))) e) h
-    by_ready false e = h
-
-hears : (call : CallOut) (s : Server) → P s → P (waiting.hears call s)
-hears call s h = elim (files.is_busy call.file s) as (λ b. P (cond b (waiting.settles call.file (waiting.with_answer call s)) s)) [
-  | true ↦ settles call.file (waiting.with_answer call s) (put_opens s.domains s.next_file s.unlinked s.store.files s.versions.files call.file (tables.answered (files.kept_of call.file s) call.kernel) (λ some. h.opens call.file some) (h.waits call.file) h)
-  | false ↦ h
-]
-
-flushes_first : (o : Option CallOut) (flushed : Flushed) (s : Server) → P s → P (waiting.flushes_first flushed o s)
-flushes_first (Some call) flushed s h = hears call (waiting.puts_all call.file flushed.size flushed.blocks s) (puts_all P keeps_names flushed.blocks call.file flushed.size s h)
-flushes_first None flushed s h = h
-
 -- ---- a step
 
-takes_reply : (body : ReplyBody) (tx : TxNo) (s : Server) → P s → P (stepping.takes_reply tx body s)
-takes_reply (bodies.Flushed flushed) tx s h = flushes_first (first_under waiting.is_call tx s.callbacks) flushed (record s { callbacks = less (is_under waiting.is_call tx) s.callbacks }) h
-takes_reply body tx s h = h
+busy_part : (a b : Bool) → (a && b) ≡ true → a ≡ true
+busy_part true b e = refl
+busy_part false b e = absurd (cc)
 
-takes : (input : Input) (s : Server) → P s → P (stepping.takes input s)
-takes (inputs.Request tx source body) s h = serves P keeps_names (record { tx = tx; from = source; body = body }) s h
-takes (inputs.Replied tx source body) s h = takes_reply body tx s h
-takes input s h = h
+steps_keep : KeepsSteps Every P
+steps_keep = record {
+  deeds = keeps_names;
+  waited = λ s file asked e p. tt;
+  asked = λ s file asked e p. tt;
+  less_waiting = λ s file p. p;
+  less_asking = λ s file p. p;
+  less_callbacks = λ s tx p. p;
+  hears = λ s call busy p. put_opens s.domains s.next_file s.unlinked s.store.files s.versions.files call.file (tables.answered (files.kept_of call.file s) call.kernel) (λ some. p.opens call.file some) (p.waits call.file) p;
+  settles = λ s file ready p.
+      let kept : Versioned = files.kept_of file s in
+      let busy : is_some kept.asking ≡ true = busy_part (tables.is_busy kept) (not (tables.is_any_out kept)) ready in
+      put_opens s.domains s.next_file s.unlinked s.store.files s.versions.files file (tables.settled kept) (λ some. settled_opens kept.asking kept (p.waits file) busy) (settled_leads kept.asking kept busy) p;
+}
 
 -- ---- in the words of the law
 
@@ -495,4 +462,4 @@ names_from : (s : Server) → UnlinkedStand s → P s
 names_from s h = record { few = h.few; new = h.new; there = h.there; opens = λ file some. (h.opens file (some_named file s.unlinked some)).1; waits = h.waits; once = h.files }
 
 pub step_keeps_unlinked : StepKeeps UnlinkedStand
-step_keeps_unlinked s input next h = names_so (stepping.server_step s input next).0 (takes input (stepping.begins next s) (names_from s h))
+step_keeps_unlinked s input next h = names_so (stepping.server_step s input next).0 (takes Every P steps_keep input (stepping.begins next s) (any_comes input) (names_from s h))

@@ -1,12 +1,10 @@
 -- Which files are busy, and what waits for them.
-use Rattle.std.specs.Prelude.{◌≡◌, ℕ, zero, suc, Bool, false, List, [], ◌∷◌, Option, Some, None, option_map}
+use Rattle.std.specs.Prelude.{◌≡◌, ℕ, zero, suc, Bool, false, List, [], ◌∷◌, Option, Some, None}
 use Rattle.std.specs.List.{list_any}
 use Rattle.std.specs.Map.{lookup}
 use Rattle.sprite_ids.specs.declared.FileId.{FileId}
 use Rattle.sprite_ids.specs.Lists.{less}
 use Rattle.kernel_steps.specs.Rows.{is_under}
-use Rattle.packet_bodies.specs.declared.Request.{Request}
-use Rattle.packet_bodies.specs.declared.Request.TheVariants as requests
 use Rattle.version_table.specs.declared.Action.{Action}
 use Rattle.version_table.specs.declared.Asking.{Asking}
 use Rattle.version_table.specs.Versions.{Files, is_file}
@@ -14,10 +12,8 @@ use Rattle.server_kernel.specs.declared.Asked.{Asked}
 use Rattle.server_kernel.specs.declared.Server.{Server}
 use Rattle.server_kernel.specs.Facts.{BusyAreWaitedFor, BusyIsAsking}
 use Rattle.server_kernel.specs.Files.{kept_of}
-use Rattle.server_kernel.specs.Flags.{opening_mode}
-use Rattle.server_kernel.specs.Opens.{opening_of}
-use Rattle.server_kernel.specs.Requests.{moving_of}
 use Rattle.server_kernel.specs.Waits.{first_about, is_about}
+use Rattle.server_walks.specs.Actions.{action_of}
 
 -- at most that many items pass the test
 abbrev pub AtMost : {X : Type 0} → ℕ → (X → Bool) → List X → Type 0
@@ -32,15 +28,6 @@ has_about file rows = list_any (is_under is_about file) rows
 abbrev pub AreFilesOnce : Files → Type 0
 AreFilesOnce [] = Unit {0}
 AreFilesOnce (entry ∷ rest) = (lookup (is_file entry.0) rest ≡ None) × AreFilesOnce rest
-
--- what a request asks of the table of opens
-abbrev pub action_by : Request → ℕ → Option Action
-action_by (requests.Opening r) from = option_map (opening_of from r) (opening_mode r.flags)
-action_by (requests.Move r) from = Some (moving_of from r)
-action_by body from = None
-
-abbrev pub action_of : Asked → Option Action
-action_of asked = action_by asked.body asked.from
 
 -- what waits for callbacks in the table of opens
 abbrev pub action_in : Option Asking → Option Action

@@ -1,5 +1,6 @@
 -- How many names a file has, and which files have none.
 use Rattle.std.specs.Prelude.{◌≡◌, ◌≤◌, ℕ, ◌+◌, Bool, true, false, List, [], ◌∷◌, Option, Some, None}
+use Rattle.sprite_ids.specs.Lists.{one_if}
 use Rattle.sprite_ids.specs.declared.FileId.{FileId}
 use Rattle.file_store.specs.Files.{is_there}
 use Rattle.server_names.specs.declared.Entry.{Entry}
@@ -13,11 +14,6 @@ use Rattle.server_kernel.specs.declared.Server.{Server}
 use Rattle.server_kernel.specs.Facts.{UnlinkedAreOpen}
 use Rattle.server_kernel.specs.Files.{is_that, kept_of}
 use Rattle.server_facts.specs.Asking.{AreFilesOnce}
-
--- 1 for yes
-abbrev pub one_if : Bool → ℕ
-one_if true = 1
-one_if false = 0
 
 -- whether an entry names the file
 abbrev pub is_name_of : FileId → Entry → Bool

@@ -1,4 +1,4 @@
-use Rattle.cause_entries.proofs.CauseLaws.{servers_call}
+use Rattle.cause_entries.proofs.ServerCauses.{servers_call}
 use Rattle.cause_entries.proofs.entries.servers_call_none_unreachable.Goals as goal
 
 pub returns : goal.returns

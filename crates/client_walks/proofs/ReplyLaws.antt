@@ -1,6 +1,11 @@
--- No reply that a kernel makes of itself calls a server unreachable.
+-- Why a client's kernel may call a server unreachable; no reply that it makes of itself does.
 use Rattle.std.proofs.Common.{◌≡◌, ℕ, nat_lt, Bool, true, false, cond, Option, Some, None, length, refl, subst}
+use Rattle.sprite_ids.specs.declared.Errno.{Errno}
+use Rattle.sprite_ids.specs.declared.TxNo.{TxNo}
 use Rattle.sprite_ids.proofs.ListLaws.{some_is}
+use Rattle.kernel_steps.specs.declared.Input.{Input}
+use Rattle.kernel_steps.specs.declared.Input.TheVariants.{GaveUp, Issued}
+use Rattle.process_machine.specs.declared.Call.TheVariants as calls
 use Rattle.process_machine.specs.declared.Reply.{Reply}
 use Rattle.packet_bodies.specs.declared.HomeCall.{HomeCall}
 use Rattle.packet_bodies.specs.declared.HomeCall.TheVariants as home_calls
@@ -13,9 +18,20 @@ use Rattle.client_homes.specs.Clusters.{name_of}
 use Rattle.client_homes.specs.Homes as homes
 use Rattle.client_homes.specs.Words.{wait_told}
 
--- the reply doesn't call a server unreachable
+-- why a reply or an entry calls a server unreachable, where that input came: it doesn't; a process came to a call that is refused so; or a
+-- remote call is given up
+pub data Caused (came : Input) (calls_so : Bool) : Type 0 where
+  NotSo : calls_so ≡ false → Caused came calls_so
+  Refused : (pid number : ℕ) (why : Errno) → came ≡ Issued pid number (calls.Refused why) → calls_so ≡ is_unreachable_error (Some why) → Caused came calls_so
+  GivenUp : (tx : TxNo) → came ≡ GaveUp tx → Caused came calls_so
+
+-- whether the reply calls a server unreachable
+abbrev pub calls_unreachable : Reply → Bool
+calls_unreachable reply = is_unreachable_error (error_in (Some reply))
+
+-- it doesn't
 abbrev pub Safe : Reply → Type 0
-Safe reply = is_unreachable_error (error_in (Some reply)) ≡ false
+Safe reply = calls_unreachable reply ≡ false
 
 one_of : (b : Bool) (x y : Reply) → Safe x → Safe y → Safe (cond b x y)
 one_of true x y h k = h
