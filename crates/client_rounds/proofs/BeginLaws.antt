@@ -5,7 +5,7 @@ use Rattle.std.specs.BTreeMap.{is_at}
 use Rattle.std.specs.List.{list_any}
 use Rattle.std.specs.Map.{set_value}
 use Rattle.std.specs.Ordering.{nat_cmp}
-use Rattle.sprite_ids.specs.Lists.{EachOnce}
+use Rattle.sprite_ids.specs.Lists.{EachOnce, one_if, total}
 use Rattle.sprite_ids.proofs.OnceLaws.{or_false}
 use Rattle.process_machine.specs.Machine.{Machine}
 use Rattle.kernel_steps.specs.Rows.{is_under}
@@ -18,7 +18,7 @@ use Rattle.client_procs.specs.Boot.{boots}
 use Rattle.client_procs.specs.Readers.{with_image}
 use Rattle.client_facts.specs.FileFacts.{same_process}
 use Rattle.client_facts.proofs.BootLaws.{procs_begin_with_facts}
-use Rattle.client_rounds.specs.Rounds.{MayTurn, due_to, here, leaves, of_process, one_if, total}
+use Rattle.client_rounds.specs.Rounds.{MayTurn, due_to, here, leaves, of_process}
 use Rattle.client_rounds.proofs.Totals.{total_set}
 
 none_counted : {V : Type 0} (q : ℕ) (rows : List (ℕ × V)) → list_any (is_under same_pid q) rows ≡ false → total (of_process q) rows ≡ 0

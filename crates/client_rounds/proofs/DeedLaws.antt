@@ -9,7 +9,7 @@ use Rattle.sprite_ids.specs.declared.Ending.TheVariants.{Killed}
 use Rattle.sprite_ids.specs.declared.Errno.TheVariants.{NoServer}
 use Rattle.sprite_ids.specs.declared.Grant.{Grant}
 use Rattle.sprite_ids.specs.declared.TxNo.{TxNo}
-use Rattle.sprite_ids.specs.Lists.{less}
+use Rattle.sprite_ids.specs.Lists.{less, one_if, total}
 use Rattle.sprite_ids.specs.Pid.{home_of}
 use Rattle.sprite_ids.proofs.ListLaws.{each_push, some_is}
 use Rattle.sprite_ids.proofs.OnceLaws.{found_passes}
@@ -64,7 +64,7 @@ use Rattle.client_facts.specs.GoingOn.{has_few_fds}
 use Rattle.client_facts.proofs.CostLaws.{length_pushed}
 use Rattle.client_facts.proofs.PlaceLaws.{by_bool}
 use Rattle.client_facts.proofs.RowLaws.{all_append}
-use Rattle.client_rounds.specs.Rounds.{IsUnderWay, MovesFit, ask_of, move_of, of_process, one_if, room_in, total, wait_of, work_of}
+use Rattle.client_rounds.specs.Rounds.{IsUnderWay, MovesFit, ask_of, move_of, of_process, room_in, wait_of, work_of}
 use Rattle.client_rounds.proofs.RunLaws.{answer_of, one}
 use Rattle.client_rounds.proofs.Sides.{Stands, each, left_of, own_ask, own_wait, room_of, side_of, stands_less}
 use Rattle.client_rounds.proofs.Totals.{less_none, removed_none, total_first, total_found, total_push, total_removed, total_set}

@@ -2,7 +2,7 @@
 use Rattle.std.proofs.Common.{arith, ◌≡◌, ◌⊎◌, inl, inr, ℕ, zero, suc, ◌+◌, ◌*◌, ◌≤◌, ◌==◌, Bool, true, false, ◌&&◌, ◌||◌, cond, List, [], ◌∷◌, ◌++◌, length, refl, sym, ap, ◌∙◌, subst}
 use Rattle.std.proofs.lemmas.Bool.{eq-eqb}
 use Rattle.std.specs.List.{AllByRecursion, list_any}
-use Rattle.sprite_ids.specs.Lists.{EachOnce}
+use Rattle.sprite_ids.specs.Lists.{EachOnce, one_if, total}
 use Rattle.process_machine.specs.declared.Reply.{Reply}
 use Rattle.kernel_steps.specs.Rows.{is_under}
 use Rattle.client_file_tables.specs.declared.client_files.ClientFiles.{ClientFiles}
@@ -24,14 +24,11 @@ use Rattle.client_facts.specs.FileFacts.{same_process}
 use Rattle.client_facts.specs.GoingOn.{GoesOn}
 use Rattle.client_facts.specs.HomeFacts.{is_own}
 use Rattle.client_facts.proofs.TurnLaws.{going_on_keeps, turns_are_enough}
-use Rattle.client_rounds.specs.Rounds.{IsUnderWay, MayTurn, ask_of, due_to, end_of, here, is_own_ask, is_work, leaves, move_of, moved_of, moves_of, of_process, one_if, total, wait_of, work_of}
+use Rattle.client_rounds.specs.Rounds.{IsUnderWay, MayTurn, ask_of, due_to, end_of, here, is_own_ask, is_work, leaves, move_of, moved_of, moves_of, of_process, wait_of, work_of}
 use Rattle.client_rounds.proofs.RunLaws.{answer_of, one, turns_bring_no_more}
-use Rattle.client_rounds.proofs.Sides.{Stands, each, left_of, own_ask, own_wait, price, room_of, side_of, stands_less}
+use Rattle.client_rounds.proofs.Sides.{Any, Stands, each, left_of, own_ask, own_wait, price, room_of, side_of, stands_less}
 use Rattle.client_rounds.proofs.Totals.{counted_pids, is_pid_of, length_pids, no_longer, pids_in, total_append}
 use Rattle.client_rounds.proofs.DeedLaws.{ended, finished, has_moved, master_closed}
-
-abbrev Any : List Report → Type 0
-Any told = Unit {0}
 
 -- for each process
 abbrev All : ℕ → (List Report → Type 0) → ℕ → ClientProcs → Type 0
@@ -76,7 +73,7 @@ reports_taken (suc count) W w many s f =
     let before : ClientProcs = turning.takes_turns count s in
     first_taken before.files.results W w many before refl (reports_taken count W w (suc many) s (record { all = f.all; few = (let few = f.few in omega arith) }))
 
-none_of : (told : List Report) → length told ≤ 0 → told ≡ []
+pub none_of : (told : List Report) → length told ≤ 0 → told ≡ []
 none_of [] h = refl
 none_of (report ∷ rest) h = absurd (omega arith)
 
@@ -120,7 +117,7 @@ some_given (suc count) W w row rest s e all = let before : ClientProcs = turning
 
 -- What is ready
 
-none_any : {V : Type 0} (pid : ℕ) (rows : List (ℕ × V)) → total (of_process pid) rows ≤ 0 → list_any (is_under same_pid pid) rows ≡ false
+pub none_any : {V : Type 0} (pid : ℕ) (rows : List (ℕ × V)) → total (of_process pid) rows ≤ 0 → list_any (is_under same_pid pid) rows ≡ false
 none_any pid [] h = refl
 none_any {V} pid ((key, value) ∷ rows) h = none_by (key == pid) (list_any (is_under same_pid pid) rows) (total (of_process pid) rows) h (none_any pid rows)
   where
@@ -139,7 +136,7 @@ parted_by : (b : Bool) (n : ℕ) → cond b n 0 + cond b 0 n ≡ n
 parted_by true n = omega arith
 parted_by false n = omega arith
 
-parted : (q : ℕ) (rows : List (ℕ × Pending)) → total (of_process q) rows ≡ total (work_of q) rows + total (move_of q) rows
+pub parted : (q : ℕ) (rows : List (ℕ × Pending)) → total (of_process q) rows ≡ total (work_of q) rows + total (move_of q) rows
 parted q [] = refl
 parted q (row ∷ rows) = (let here_so = parted_by (is_work row.1) (of_process q row) in let rest = parted q rows in omega arith)
 

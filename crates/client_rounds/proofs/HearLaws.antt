@@ -1,6 +1,7 @@
 -- Answers to remote calls of the files' side: what they say to the processes' side.
 use Rattle.std.proofs.Common.{arith, ◌≡◌, ℕ, ◌+◌, ◌==◌, Bool, Option, Some, None, refl}
 use Rattle.std.specs.List.{list_any}
+use Rattle.sprite_ids.specs.Lists.{one_if}
 use Rattle.sprite_ids.specs.declared.BlockNo.{BlockNo}
 use Rattle.sprite_ids.specs.declared.FileId.{FileId}
 use Rattle.sprite_ids.specs.declared.Grant.{Grant}
@@ -49,9 +50,10 @@ use Rattle.client_files.specs.CallIssues as issuing
 use Rattle.process_machine.specs.declared.Call.{Call}
 use Rattle.process_machine.specs.declared.Reply.{Reply}
 use Rattle.sprite_ids.specs.declared.DeviceId.{DeviceId}
-use Rattle.client_rounds.specs.Rounds.{move_of, one_if, work_of}
+use Rattle.client_rounds.specs.Rounds.{move_of, work_of}
 use Rattle.client_rounds.proofs.Ledgers.{Ledger, RunsData, ledger_of}
 use Rattle.client_rounds.proofs.CallLaws as calling
+use Rattle.client_facts.proofs.LockLaws as turns
 use Rattle.client_rounds.proofs.OpLaws as running
 use Rattle.client_rounds.proofs.RunLaws.{Held, answer_of, answers_in, call_runs, close_answer, close_runs, data_runs, due_in, move_runs, moves_in, sync_runs}
 use Rattle.client_rounds.proofs.Totals.{total_first, total_less}
@@ -122,7 +124,7 @@ module _ (q D M W pid : ℕ) where
   closes : (o : Option StreamNo) (work : CloseWork) (s : ClientFiles) → Held q D M W (one_if (pid == q)) 0 (close_answer work.of) (ledger_of s) → Fits (ledger_of (closing.close_answers_by o pid work s))
   closes (Some stream) work s p =
       running.closes_on pid work.of (Held q D M W (one_if (pid == q)) 0 (close_answer work.of)) Fits (close_runs q D M W pid work.of) work (locking.unlocks stream s) refl
-      (running.unlocks (Held q D M W (one_if (pid == q)) 0 (close_answer work.of)) stream s p)
+      (turns.unlocks (running.P (Held q D M W (one_if (pid == q)) 0 (close_answer work.of))) (running.no_turns (Held q D M W (one_if (pid == q)) 0 (close_answer work.of))) stream s p)
   closes None work s p = (close_runs q D M W pid work.of).waits (ledger_of s) work refl p
 
   move_ends : (o : Option (Bool × Place)) (work : MoveWork) (grant : Option Grant) (many : ℕ) (s : ClientFiles) → Held q D M W 0 (one_if (pid == q)) 0 (ledger_of s) → Fits (ledger_of (moving.move_answers_by o pid work grant many s))
@@ -130,7 +132,7 @@ module _ (q D M W pid : ℕ) where
       let shared : ClientFiles = moving.shares out.0 work.stream s in
       let freed : ClientFiles = locking.unlocks work.stream shared in
       (move_runs q D M W pid).ends (ledger_of freed) _ grant many
-      (running.unlocks (Held q D M W 0 (one_if (pid == q)) 0) work.stream shared (running.on_if (Held q D M W 0 (one_if (pid == q)) 0) out.0 _ s (running.on_if (Held q D M W 0 (one_if (pid == q)) 0) (may_be_at Shared (stream_at work.stream s)) _ s p p) p))
+      (turns.unlocks (running.P (Held q D M W 0 (one_if (pid == q)) 0)) (running.no_turns (Held q D M W 0 (one_if (pid == q)) 0)) work.stream shared (running.on_if (Held q D M W 0 (one_if (pid == q)) 0) out.0 _ s (running.on_if (Held q D M W 0 (one_if (pid == q)) 0) (may_be_at Shared (stream_at work.stream s)) _ s p p) p))
   move_ends None work grant many s p = (move_runs q D M W pid).waits (ledger_of s) work p
 
   move_answered : (body : ReplyBody) (work : MoveWork) (s : ClientFiles) → Held q D M W 0 (one_if (pid == q)) 0 (ledger_of s) → Fits (ledger_of (answering.answers_move pid work body s))

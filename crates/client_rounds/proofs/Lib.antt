@@ -7,5 +7,12 @@ pub mod HearLaws
 pub mod Sides
 pub mod DeedLaws
 pub mod EnoughLaws
+pub mod Standing
+pub mod StandLaws
+pub mod HomeDeeds
 pub mod BeginLaws
 pub mod StepLaws
+pub mod FileDeeds
+pub mod ComeDeeds
+pub mod CallDeeds
+pub mod OneLaws

@@ -1,6 +1,5 @@
 -- Runs of operations of the files' side: what each of them says to the processes' side.
 use Rattle.std.proofs.Common.{◌≡◌, ℕ, zero, suc, ◌+◌, Bool, true, false, cond, List, [], ◌∷◌, Option, Some, None, refl, sym, subst, slice_get}
-use Rattle.std.specs.List.{list_any}
 use Rattle.sprite_ids.specs.declared.BlockNo.{BlockNo}
 use Rattle.sprite_ids.specs.declared.DeviceId.{DeviceId}
 use Rattle.sprite_ids.specs.declared.FileId.{FileId}
@@ -39,10 +38,9 @@ use Rattle.client_file_tables.specs.Blocks as blocks
 use Rattle.client_file_tables.specs.Blocks.{state_in, with_cache}
 use Rattle.client_file_tables.specs.Extents.{is_within}
 use Rattle.client_file_tables.specs.Fillers as fillers
-use Rattle.client_file_tables.specs.Fillers.{drops_filler, is_filling}
+use Rattle.client_file_tables.specs.Fillers.{is_filling}
 use Rattle.client_file_tables.specs.Locks as locking
-use Rattle.client_file_tables.specs.Locks.{frees, gets_lock, takes_lock}
-use Rattle.client_file_tables.specs.Rows.{first_stream, is_pid, less_stream}
+use Rattle.client_file_tables.specs.Locks.{gets_lock}
 use Rattle.client_file_tables.specs.Says as says
 use Rattle.client_file_tables.specs.Says.{about_of}
 use Rattle.client_file_tables.specs.Steps as steps
@@ -67,40 +65,22 @@ use Rattle.client_file_tables.specs.Calls.{data_call}
 use Rattle.unix_calls.specs.declared.Event.TheVariants as events
 use Rattle.block_cache.specs.declared.Block.{Block}
 use Rattle.block_cache.specs.declared.BlockKey.{BlockKey}
+use Rattle.client_facts.proofs.LockLaws as turns
+use Rattle.client_facts.proofs.LockLaws.{SeesNoTurns}
 use Rattle.client_rounds.proofs.Ledgers.{Ledger, RunsClose, RunsData, RunsMove, RunsSync, closed_more, ledger_of}
 
 -- What says nothing to the processes' side and leaves the operations as they are
 
 module _ (Q : Ledger → Type 0) where
-  abbrev P : ClientFiles → Type 0
+  abbrev pub P : ClientFiles → Type 0
   P s = Q (ledger_of s)
 
   pub on_if : (b : Bool) (s t : ClientFiles) → P s → P t → P (cond b s t)
   on_if true s t p q = p
   on_if false s t p q = q
 
-  waits_for_lock : (pid : ℕ) (stream : StreamNo) (s : ClientFiles) → P s → P (locking.waits_for_lock pid stream s)
-  waits_for_lock pid stream s p = on_if _ s _ p p
-
-  pub locks : (pid : ℕ) (stream : StreamNo) (s : ClientFiles) → P s → P (locking.locks pid stream s)
-  locks pid stream s p = on_if (gets_lock pid stream s) (takes_lock pid stream s) (locking.waits_for_lock pid stream (takes_lock pid stream s)) p (waits_for_lock pid stream (takes_lock pid stream s) p)
-
-  hands_first : (o : Option ℕ) (stream : StreamNo) (s : ClientFiles) → P s → P (locking.hands_first o stream s)
-  hands_first (Some pid) stream s p = p
-  hands_first None stream s p = p
-
-  pub unlocks : (stream : StreamNo) (s : ClientFiles) → P s → P (locking.unlocks stream s)
-  unlocks stream s p = hands_first (first_stream stream s.lock_waits) stream (record (frees stream s) { lock_waits = less_stream stream s.lock_waits }) p
-
-  begins_filling : (pid : ℕ) (s : ClientFiles) → P s → P (fillers.begins_filling pid s)
-  begins_filling pid s p = on_if (list_any (is_pid pid) s.fillers) s _ p p
-
-  wakes_first : (waiting : List ℕ) (s : ClientFiles) → P s → P (fillers.wakes_first waiting s)
-  wakes_first [] s p = p
-  wakes_first (first ∷ rest) s p = p
-
-  leaves_filling : (pid : ℕ) (s : ClientFiles) → P s → P (fillers.leaves_filling pid s)
-  leaves_filling pid s p = on_if (is_filling pid s) _ (drops_filler pid s) (wakes_first (drops_filler pid s).fillers (drops_filler pid s) p) p
+  pub no_turns : SeesNoTurns P
+  no_turns = record { streams = λ s streams p. p; waits = λ s rows p. p; fillers = λ s pids p. p; woken = λ s pid p. p }
 
   pub moves_offset : (stream : StreamNo) (offset : ℕ) (s : ClientFiles) → P s → P (streams.moves_offset stream offset s)
   moves_offset stream offset s p = on_if (may_be_at (Local offset) (stream_at stream s)) _ s p p
@@ -158,7 +138,7 @@ module _ (Q : Ledger → Type 0) where
   dirties_all file extent s p = on_if (is_within extent) _ s (dirties_from file (first_block extent.from) (block_count extent.from extent.length) s p) p
 
   pub finishes : (pid : ℕ) (stream : StreamNo) (s : ClientFiles) → P s → P (finishing.finishes pid stream s)
-  finishes pid stream s p = unlocks stream (fillers.leaves_filling pid s) (leaves_filling pid s p)
+  finishes pid stream s p = turns.unlocks P no_turns stream (fillers.leaves_filling pid s) (turns.leaves_filling P no_turns pid s p)
 
   makes_room : (file : FileId) (extent : Extent) (s : ClientFiles) → P s → P (filling.makes_room file extent s)
   makes_room file extent s p = on_if (is_full s.cache) _ s (drops_full file extent s p) p
@@ -255,7 +235,7 @@ module _ (pid : ℕ) (Q R : Ledger → Type 0) (runs : RunsData pid Q R) where
   fills_first : (call : DataCall) (extent : Extent) (s : ClientFiles) → Before s → Behind (filling.fills_first pid call extent s)
   fills_first call extent s p =
       let begun : ClientFiles = fillers.begins_filling pid s in
-      let so = begins_filling Q pid s p in
+      let so = turns.begins_filling (P Q) (no_turns Q) pid s p in
       on_if R (is_filling pid begun) _ _ (fills_own call extent begun so) (waits _ begun so)
 
   uses_by : (o : Option BlockNo) (call : DataCall) (extent : Extent) (s : ClientFiles) → Before s → Behind (looking.uses_by o pid call extent s)
@@ -265,7 +245,7 @@ module _ (pid : ℕ) (Q R : Ledger → Type 0) (runs : RunsData pid Q R) where
   does : (plan : Plan) (call : DataCall) (append : Bool) (s : ClientFiles) → Before s → Behind (looking.does plan pid call append s)
   does (plans.Seek to) call append s p = ends_here call _ (streams.moves_offset call.stream to s) (moves_offset Q call.stream to s p)
   does plans.Refuse call append s p = ends_here call _ s p
-  does (plans.Ask offset) call append s p = let left : ClientFiles = fillers.leaves_filling pid s in waits _ (server_ops.sends_op pid call offset append left) (leaves_filling Q pid s p)
+  does (plans.Ask offset) call append s p = let left : ClientFiles = fillers.leaves_filling pid s in waits _ (server_ops.sends_op pid call offset append left) (turns.leaves_filling (P Q) (no_turns Q) pid s p)
   does (plans.Tell size) call append s p = ends_here call _ s p
   does (plans.Use extent) call append s p = uses_by (cached.missing_of call extent s) call extent s p
 
@@ -276,7 +256,7 @@ module _ (pid : ℕ) (Q R : Ledger → Type 0) (runs : RunsData pid Q R) where
   pub looks : (call : DataCall) (s : ClientFiles) → Before s → Behind (looking.looks pid call s)
   looks call s p =
       let locked : ClientFiles = locking.locks pid call.stream s in
-      let so = locks Q pid call.stream s p in
+      let so = turns.locks (P Q) (no_turns Q) pid call.stream s p in
       on_if R (gets_lock pid call.stream s) _ _ (looks_by (stream_at call.stream locked) call locked so) (waits _ locked so)
 
 -- Syncs
@@ -317,7 +297,7 @@ module _ (pid : ℕ) (cause : ClosingOf) (Q R : Ledger → Type 0) (runs : RunsC
   closes_last : (o : Option (StreamNo × Stream)) (work : CloseWork) (number : StreamNo) (file : FileId) (s : ClientFiles) → work.of ≡ cause → Q (ledger_of s) → R (ledger_of (closing.closes_last pid work number file o s))
   closes_last (Some last) work number file s e p = runs.waits (ledger_of s) _ e p
   closes_last None work number file s e p =
-      subst (λ (of : ClosingOf). R (ledger_of (closing.closes_rest work.fds pid of (locking.unlocks number s)))) (sym e) (closes_rest work.fds (locking.unlocks number s) (unlocks Q number s p))
+      subst (λ (of : ClosingOf). R (ledger_of (closing.closes_rest work.fds pid of (locking.unlocks number s)))) (sym e) (closes_rest work.fds (locking.unlocks number s) (turns.unlocks (P Q) (no_turns Q) number s p))
 
   -- the next descriptor, behind one that was closed
   pub closes_on : (work : CloseWork) (s : ClientFiles) → work.of ≡ cause → Q (ledger_of s) → R (ledger_of (closing.closes_on pid work s))
@@ -326,7 +306,7 @@ module _ (pid : ℕ) (cause : ClosingOf) (Q R : Ledger → Type 0) (runs : RunsC
   closes_file : (work : CloseWork) (fd : ℕ) (number : StreamNo) (file : FileId) (s : ClientFiles) → work.of ≡ cause → Q (ledger_of s) → R (ledger_of (closing.closes_file pid work fd number file s))
   closes_file work fd number file s e p =
       let locked : ClientFiles = locking.locks pid number s in
-      let so = locks Q pid number s p in
+      let so = turns.locks (P Q) (no_turns Q) pid number s p in
       on_if R (gets_lock pid number s) _ _
       (closes_last (closed_stream locked.streams pid fd) (closing.without_first work) number file (closing.enters_closed pid work.of (descriptors.drops pid fd locked)) e (enters_closed Q work.of pid (descriptors.drops pid fd locked) so))
       (runs.waits (ledger_of locked) work e so)
@@ -363,7 +343,7 @@ module _ (pid : ℕ) (Q R : Ledger → Type 0) (runs : RunsMove pid Q R) where
   moves_object : (object : Object) (work : MoveWork) (stream : Stream) (s : ClientFiles) → Q (ledger_of s) → R (ledger_of (moving.moves_object_by object pid work stream s))
   moves_object (objects.File file) work stream s p =
       let locked : ClientFiles = locking.locks pid work.stream s in
-      let so = locks Q pid work.stream s p in
+      let so = turns.locks (P Q) (no_turns Q) pid work.stream s p in
       let dropped : ClientFiles = descriptors.drops_each pid work.stream locked in
       on_if R (gets_lock pid work.stream s) _ _ (runs.waits (ledger_of dropped) _ (drops_each Q pid work.stream locked so)) (runs.waits (ledger_of locked) work so)
   moves_object (objects.Device device) work stream s p = runs.ends (ledger_of (descriptors.drops_each pid work.stream s)) stream.place None 1 (drops_each Q pid work.stream s p)

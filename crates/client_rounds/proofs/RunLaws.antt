@@ -1,5 +1,6 @@
 -- What the turns of the files' side leave on its way to a process.
 use Rattle.std.proofs.Common.{arith, ◌≡◌, ℕ, zero, suc, ◌+◌, ◌≤◌, ◌==◌, Bool, true, false, cond, List, [], ◌∷◌, Option, Some, None, refl, ap}
+use Rattle.sprite_ids.specs.Lists.{one_if, total}
 use Rattle.process_machine.specs.declared.Reply.{Reply}
 use Rattle.client_file_tables.specs.declared.client_files.ClientFiles.{ClientFiles}
 use Rattle.client_file_tables.specs.declared.moves.ClosingOf.{ClosingOf}
@@ -11,7 +12,7 @@ use Rattle.client_file_tables.specs.declared.pending.Pending.TheVariants as oper
 use Rattle.client_file_tables.specs.Rows.{first_of, less_of, same_pid}
 use Rattle.kernel_steps.specs.Rows.{is_under}
 use Rattle.client_files.specs.Turns as turning
-use Rattle.client_rounds.specs.Rounds.{end_of, is_work, move_of, moved_of, of_process, one_if, total, work_of}
+use Rattle.client_rounds.specs.Rounds.{end_of, is_work, move_of, moved_of, of_process, work_of}
 use Rattle.client_rounds.proofs.Ledgers.{Ledger, RunsCall, RunsClose, RunsData, RunsMove, RunsSync, closed_more, given_more, kept_more, ledger_of, told_more}
 use Rattle.client_rounds.proofs.OpLaws as running
 use Rattle.client_rounds.proofs.Totals.{total_first, total_less, total_push}

@@ -3,7 +3,7 @@ use Rattle.std.proofs.Common.{arith, ◌≡◌, ℕ, ◌+◌, ◌*◌, ◌≤◌
 use Rattle.std.specs.List.{AllByRecursion, list_all}
 use Rattle.sprite_ids.specs.declared.StreamNo.{StreamNo}
 use Rattle.sprite_ids.specs.declared.TxNo.{TxNo}
-use Rattle.sprite_ids.specs.Lists.{EachOnce}
+use Rattle.sprite_ids.specs.Lists.{EachOnce, one_if, total}
 use Rattle.process_machine.specs.declared.Reply.{Reply}
 use Rattle.migrate_freeze.specs.declared.frozen.MoveStep.{MoveStep}
 use Rattle.migrate_freeze.specs.declared.frozen.MoveStep.TheVariants as steps
@@ -18,7 +18,7 @@ use Rattle.client_homes.specs.declared.process.Proc.{Proc}
 use Rattle.client_facts.specs.FileFacts.{same_wait}
 use Rattle.client_facts.specs.GoingOn.{has_few_fds}
 use Rattle.client_facts.specs.HomeFacts.{is_own}
-use Rattle.client_rounds.specs.Rounds.{IsUnderWay, ask_of, end_of, is_own_ask, move_of, moved_of, of_process, one_if, room_in, total, wait_of, work_of}
+use Rattle.client_rounds.specs.Rounds.{IsUnderWay, ask_of, end_of, is_own_ask, move_of, moved_of, of_process, room_in, wait_of, work_of}
 use Rattle.client_rounds.proofs.RunLaws.{answer_of, one}
 
 pub record Side : Type 0 where
@@ -79,6 +79,10 @@ each row = 1
 -- what the rounds may cost that are left, but for what is ready
 abbrev pub price : Side → ℕ
 price v = 2 * total answer_of v.pending + 2 * total one v.replies + 2 * total own_wait v.waits + 2 * total own_ask v.asked + 17 * total each v.procs + total left_of v.leaving
+
+-- of the reports nothing is asked
+abbrev pub Any : List Report → Type 0
+Any told = Unit {0}
 
 -- with so much in hand it stands within these bounds: something due to the process, the process as one that leaves, a move of it, and so
 -- much of the price; and of the reports is so what is asked

@@ -1,5 +1,6 @@
 -- Steps in which something comes to the files' side.
 use Rattle.std.proofs.Common.{arith, ◌≡◌, ℕ, ◌≤◌, Bool, true, false, cond, List, [], ◌∷◌, Option, Some, None, refl, ap}
+use Rattle.sprite_ids.specs.Lists.{total}
 use Rattle.sprite_ids.specs.declared.BlockNo.{BlockNo}
 use Rattle.sprite_ids.specs.declared.CallKind.{CallKind}
 use Rattle.sprite_ids.specs.declared.CallKind.TheVariants.{Recall, Stop}
@@ -29,7 +30,7 @@ use Rattle.client_procs.specs.Turning as turning
 use Rattle.client_facts.specs.GoingOn.{GoesOn}
 use Rattle.client_facts.proofs.AnswerLaws.{goes_answered, goes_gives_up, steady_due_goes}
 use Rattle.client_facts.proofs.SteadyLaws.{goes_steady, steady_called_back}
-use Rattle.client_rounds.specs.Rounds.{ComesToFiles, IsCallback, MayTurn, due_to, here, leaves, moves_of, of_process, total}
+use Rattle.client_rounds.specs.Rounds.{ComesToFiles, IsCallback, MayTurn, due_to, here, leaves, moves_of, of_process}
 use Rattle.client_rounds.proofs.EnoughLaws.{may_goes_on, rounds_are_enough, rounds_keep_this}
 use Rattle.client_rounds.proofs.HearLaws.{all_within, answer_brings_no_more, end_brings_no_more}
 use Rattle.client_rounds.proofs.Ledgers.{Ledger, ledger_of}
@@ -50,14 +51,14 @@ module _ (Q : Ledger → Type 0) where
   settles_called Recall file dirty list s p = cleans_all dirty file s p
   settles_called Stop file dirty list s p = drops_all list file causes.Stop s p
 
-  called_back : (tx : TxNo) (r : CallbackRequest) (s : ClientFiles) → Q (ledger_of s) → Q (ledger_of (grants.called_back tx r s))
+  pub called_back : (tx : TxNo) (r : CallbackRequest) (s : ClientFiles) → Q (ledger_of s) → Q (ledger_of (grants.called_back tx r s))
   called_back tx r s p = settles_called r.kind r.file (grants.dirty_in r.file s) (grants.held_in r.file s) (grants.notes_mode r.file r.stamp (grants.takes_callback r s)) p
 
   due_by : (o : Option ℕ) (file : FileId) (block : BlockNo) (s : ClientFiles) → Q (ledger_of s) → Q (ledger_of (written.due_by o file block s))
   due_by (Some number) file block s p = p
   due_by None file block s p = p
 
-  due_goes : (file : FileId) (block : BlockNo) (s : ClientFiles) → Q (ledger_of s) → Q (ledger_of (written.due_goes file block s))
+  pub due_goes : (file : FileId) (block : BlockNo) (s : ClientFiles) → Q (ledger_of s) → Q (ledger_of (written.due_goes file block s))
   due_goes file block s p = due_by (dirty_at s.cache.blocks file block.0) file block s p
 
 -- where the files' side brings no more

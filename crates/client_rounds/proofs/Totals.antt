@@ -5,11 +5,10 @@ use Rattle.std.specs.BTreeMap.{is_at}
 use Rattle.std.specs.List.{find}
 use Rattle.std.specs.Map.{lookup, remove_entry, set_value}
 use Rattle.std.specs.Ordering.{nat_cmp}
-use Rattle.sprite_ids.specs.Lists.{less}
+use Rattle.sprite_ids.specs.Lists.{less, one_if, total}
 use Rattle.sprite_ids.proofs.ListLaws.{some_is}
 use Rattle.kernel_steps.specs.Rows.{first_under, is_under}
 use Rattle.client_facts.proofs.PlaceLaws.{at_is}
-use Rattle.client_rounds.specs.Rounds.{one_if, total}
 
 pub total_append : {X : Type 0} (f : X → ℕ) (xs ys : List X) → total f (xs ++ ys) ≡ total f xs + total f ys
 total_append f [] ys = omega arith

@@ -1,6 +1,7 @@
 -- The rounds in which a client's kernel works off what a step set free are enough.
-use Rattle.std.specs.Prelude.{◌≡◌, ℕ, ◌+◌, ◌≤◌, ◌==◌, Bool, true, false, not, if◌then◌else◌, List, [], ◌∷◌, length, Option, Some, None, is_some}
+use Rattle.std.specs.Prelude.{◌≡◌, ℕ, ◌+◌, ◌≤◌, ◌==◌, Bool, true, false, not, if◌then◌else◌, List, length, Option, Some, None, is_some}
 use Rattle.std.specs.List.{AllByRecursion}
+use Rattle.sprite_ids.specs.Lists.{one_if, total}
 use Rattle.sprite_ids.specs.declared.TxNo.{TxNo}
 use Rattle.packet_bodies.specs.declared.Request.{Request}
 use Rattle.packet_bodies.specs.declared.Request.TheVariants as requests
@@ -30,15 +31,6 @@ use Rattle.client_procs.specs.Turning.{goes_on, is_quiet}
 use Rattle.client_facts.specs.FileFacts.{QueuesAreOnce, TurnsAreOnce}
 use Rattle.client_facts.specs.GoingOn.{ClosesAreShort}
 use Rattle.client_facts.specs.HomeFacts.{is_own}
-
--- the sum of a number of each row
-abbrev pub total : {X : Type 0} → (X → ℕ) → List X → ℕ
-total number [] = 0
-total number (row ∷ rows) = number row + total number rows
-
--- one where it is so
-abbrev pub one_if : Bool → ℕ
-one_if b = if b then 1 else 0
 
 -- one for a row of that process
 abbrev pub of_process : {V : Type 0} → ℕ → ℕ × V → ℕ
