@@ -2,6 +2,7 @@
 use Rattle.std.proofs.Common.{◌≡◌, ℕ, ◌==◌, Bool, true, false, cond, List, [], ◌∷◌, ◌++◌, map, Option, Some, None, option_map, refl, sym, ap, ap₂, subst, ◌∙◌, append-nil, append_assoc, filter}
 use Rattle.std.proofs.lemmas.Bool.{and_parts, eqb-true}
 use Rattle.std.proofs.lemmas.List.{map-append}
+use Rattle.std.proofs.lemmas.List.Elements.{filter-append}
 use Rattle.sprite_ids.specs.declared.TxNo.{TxNo}
 use Rattle.sprite_ids.proofs.ListLaws.{some_is}
 use Rattle.link_plan.specs.declared.Fate.{Fate}
@@ -29,12 +30,8 @@ use Rattle.call_journal.specs.Journal.{records_by}
 abbrev pub link_told : ℕ → List Event → List Rec
 link_told kernel told = of_link (records_by kernel told)
 
-filter_on : {X : Type 0} (p : X → Bool) (xs ys : List X) → filter p (xs ++ ys) ≡ filter p xs ++ filter p ys
-filter_on p [] ys = refl
-filter_on {X} p (x ∷ xs) ys = elim (p x) as (λ b. cond {A = List X} b (x ∷ filter p (xs ++ ys)) (filter p (xs ++ ys)) ≡ cond {A = List X} b (x ∷ filter p xs) (filter p xs) ++ filter p ys) [ true ↦ ap (λ zs. x ∷ zs) (filter_on p xs ys) | false ↦ filter_on p xs ys ]
-
 pub link_on : (xs ys : List Rec) → of_link (xs ++ ys) ≡ of_link xs ++ of_link ys
-link_on xs ys = ap (map bare) (filter_on (λ (r : Rec). is_of_link r.event) xs ys) ∙ map-append bare (filter (λ (r : Rec). is_of_link r.event) xs) (filter (λ (r : Rec). is_of_link r.event) ys)
+link_on xs ys = ap (map bare) (filter-append (λ (r : Rec). is_of_link r.event) xs ys) ∙ map-append bare (filter (λ (r : Rec). is_of_link r.event) xs) (filter (λ (r : Rec). is_of_link r.event) ys)
 
 -- one event more
 one_more : (kernel : ℕ) (told : List Event) (e : Event) (b : Bool) → is_of_link e ≡ b → link_told kernel (told ++ e ∷ []) ≡ link_told kernel told ++ map bare (cond {A = List Rec} b (record { kernel = kernel; event = e } ∷ []) [])

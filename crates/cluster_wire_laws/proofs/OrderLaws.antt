@@ -1,6 +1,7 @@
 -- What a kernel tells by itself is nothing of the wire, and of the calls that begin and are answered nothing of the wire is told.
 use Rattle.std.proofs.Common.{◌≡◌, ℕ, Bool, true, false, cond, List, [], ◌∷◌, ◌++◌, Option, Some, None, refl, sym, ap, ap₂, ◌∙◌, append-nil, append_assoc, filter}
 use Rattle.std.proofs.lemmas.List.{map-append}
+use Rattle.std.proofs.lemmas.List.Elements.{filter-append}
 use Rattle.sprite_ids.specs.declared.TxNo.{TxNo}
 use Rattle.link_plan.specs.declared.Fate.{Fate}
 use Rattle.link_plan.specs.declared.Fate.TheVariants.{Once, Lost, Twice, Late}
@@ -26,12 +27,8 @@ use Rattle.cluster_wire_laws.specs.Orders.{is_of_wire, of_wire, told_by}
 abbrev pub wire_told : ℕ → List Event → List Rec
 wire_told kernel told = of_wire (records_by kernel told)
 
-filter_on : {X : Type 0} (p : X → Bool) (xs ys : List X) → filter p (xs ++ ys) ≡ filter p xs ++ filter p ys
-filter_on p [] ys = refl
-filter_on {X} p (x ∷ xs) ys = elim (p x) as (λ b. cond {A = List X} b (x ∷ filter p (xs ++ ys)) (filter p (xs ++ ys)) ≡ cond {A = List X} b (x ∷ filter p xs) (filter p xs) ++ filter p ys) [ true ↦ ap (λ zs. x ∷ zs) (filter_on p xs ys) | false ↦ filter_on p xs ys ]
-
 pub wire_on : (xs ys : List Rec) → of_wire (xs ++ ys) ≡ of_wire xs ++ of_wire ys
-wire_on xs ys = filter_on (λ (r : Rec). is_of_wire r.event) xs ys
+wire_on xs ys = filter-append (λ (r : Rec). is_of_wire r.event) xs ys
 
 -- one event more
 one_more : (kernel : ℕ) (told : List Event) (e : Event) (b : Bool) → is_of_wire e ≡ b → wire_told kernel (told ++ e ∷ []) ≡ wire_told kernel told ++ cond {A = List Rec} b (record { kernel = kernel; event = e } ∷ []) []

@@ -76,8 +76,8 @@ use Rattle.broadcast_laws.proofs.AskLaws.{step_asks}
 use Rattle.broadcast_laws.proofs.Asking.{OperationAsks, RowsAsk, StateAsks}
 use Rattle.cause_entries.specs.Causes.{brings_refused, given_up_from, is_refused_so, unreachable_in}
 use Rattle.cause_entries.specs.Sayings.{SaysSo}
-use Rattle.cause_entries.proofs.Bearing.{is_loud}
-use Rattle.cause_entries.proofs.CauseLaws.{clients_call, not_loud, one_more, servers_call, unreachable_append}
+use Rattle.cause_entries.proofs.CauseLaws.{clients_call, is_loud, not_loud, one_more, unreachable_append}
+use Rattle.cause_entries.proofs.ServerCauses.{servers_call}
 use Rattle.cause_entries.proofs.SaidLaws.{clients_say, quiet_said}
 use Rattle.reached_causes.proofs.RunLaws.{more_begun, out_begun}
 use Rattle.reached_causes.proofs.SayingLaws.{says_later, says_with, says_without, unreachable_without}

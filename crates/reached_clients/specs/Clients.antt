@@ -1,10 +1,13 @@
 -- What is true of each client of a reached cluster.
-use Rattle.std.specs.Prelude.{◌≡◌, ℕ, ◌+◌, List, [], ◌∷◌, Some}
+use Rattle.std.specs.Prelude.{◌≡◌, ℕ, true, List, [], ◌∷◌, Some}
+use Rattle.sprite_ids.specs.declared.TxNo.{TxNo}
 use Rattle.kernel_rpc.specs.declared.PacketCopy.{PacketCopy}
 use Rattle.kernel_rpc.specs.Machine.{arrival}
 use Rattle.kernel_steps.specs.declared.Input.{Input}
 use Rattle.unix_calls.specs.declared.Description.{Description}
 use Rattle.client_homes.specs.declared.ClientProcs.{ClientProcs}
+use Rattle.client_procs.specs.Steps.{begins_step, takes}
+use Rattle.client_procs.specs.Turning.{goes_on, is_quiet}
 use Rattle.cluster_wire.specs.declared.Arrived.TheVariants as arrived
 use Rattle.cluster_wire.specs.Arriving.{Brings, copy_to}
 use Rattle.cluster_kernels.specs.declared.KernelState.{KernelState}
@@ -17,6 +20,8 @@ use Rattle.client_constants.specs.Constants.{KnowsItsCluster}
 use Rattle.client_facts.specs.HomeFacts.{HomeIsOwn}
 use Rattle.client_walks.specs.Hands.{brought}
 use Rattle.client_walks.specs.PlacesOnce.{InHand, PlacesAreOnce}
+use Rattle.client_rounds.specs.OneThing.{OneThingEach}
+use Rattle.sprite_cluster.specs.Everywhere.{OfAll}
 use Rattle.sprite_cluster.specs.Reached.{At, Begins, Change, Chose, Goes, Reached}
 
 -- a fact of a client and of its number, of a kernel that is one
@@ -26,8 +31,7 @@ OfClient P kernel (kernels.Server server) = Unit {0}
 
 -- and of all kernels from that number on
 abbrev pub OfClients : (ℕ → ClientProcs → Type 0) → ℕ → List KernelState → Type 0
-OfClients P kernel [] = Unit {0}
-OfClients P kernel (state ∷ states) = OfClient P kernel state × OfClients P (kernel + 1) states
+OfClients P kernel states = OfAll (OfClient P) kernel states
 
 -- each client of a reached cluster knows its number, the kernels and programs of its cluster, where pages are kept, and that it is the
 -- home of its processes
@@ -66,3 +70,14 @@ GoesNew {L} faults asked c (change ∷ changes) old now = (between : At L) × Go
 abbrev pub PlacesStayOnce : {L : Type 0} → (L → ℕ → ℕ → ℕ) → (L → ℕ → ℕ → ℕ) → Type 0
 PlacesStayOnce {L} faults asked =
     (c : Description) (begun : L) (changes : List Change) (first now : At L) → Begins faults asked c begun first → GoesNew faults asked c changes first now → PlacesAreOnceAtEach now.state
+
+-- one thing at most is on its way to each process of a client, and so the rounds of each step are enough that takes what is new there:
+-- nothing is ready behind them, no reply is to be given and no report to be taken
+pub record StepsEndQuiet (s : ClientProcs) : Type 0 where
+  pub one : OneThingEach s
+  pub quiet : (input : Input) (next : TxNo) (step : ℕ) → InHand (brought input s) s → is_quiet (goes_on (takes input (begins_step next step s))) ≡ true
+
+-- so it is in each client of each cluster that is reached so
+abbrev pub RoundsStayEnough : {L : Type 0} → (L → ℕ → ℕ → ℕ) → (L → ℕ → ℕ → ℕ) → Type 0
+RoundsStayEnough {L} faults asked =
+    (c : Description) (begun : L) (changes : List Change) (first now : At L) → Begins faults asked c begun first → GoesNew faults asked c changes first now → OfClients (λ kernel client. StepsEndQuiet client) 1 now.state.kernels

@@ -1,4 +1,4 @@
-ghost use Rattle.reached_clients.specs.Clients.{ClientsKnowTheirCluster, HomesAreOwn, PlacesStayOnce};
+ghost use Rattle.reached_clients.specs.Clients.{ClientsKnowTheirCluster, HomesAreOwn, PlacesStayOnce, RoundsStayEnough};
 
 use link_plan::Link;
 
@@ -18,4 +18,10 @@ pub fn homes_are_own<L: Link>()
 /// brings is neither there nor leaves.
 pub fn places_stay_once<L: Link>()
     ensures { PlacesStayOnce L.faults L.asked }
+{}
+
+/// A law: so reached, in each client one thing at most is on its way to each process, and the rounds of each step are enough that takes
+/// what is new there: nothing is ready behind them, no reply is to be given and no report to be taken (this project).
+pub fn rounds_stay_enough<L: Link>()
+    ensures { RoundsStayEnough L.faults L.asked }
 {}

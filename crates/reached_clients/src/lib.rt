@@ -3,4 +3,4 @@
 
 mod laws;
 
-pub use laws::{clients_know_their_cluster, homes_are_own, places_stay_once};
+pub use laws::{clients_know_their_cluster, homes_are_own, places_stay_once, rounds_stay_enough};

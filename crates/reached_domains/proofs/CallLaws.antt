@@ -37,7 +37,7 @@ use Rattle.cluster_wire.specs.Calling.{IsBegin}
 use Rattle.cluster_wire.specs.Goings.{Going, broadcast_to, call_to, goes, goes_by, least_of, may_go_to, next_of, other_than, owner_of, packet_to, server_in}
 use Rattle.cluster_wire.specs.Ran.{EachDone}
 use Rattle.cluster_wire.specs.Replying.{IsAnswer, asker, asker_by, goes_back, reply_packet}
-use Rattle.server_answers.specs.Sorts.{fits}
+use Rattle.server_walks.specs.Sorts.{fits}
 use Rattle.redirect_laws.specs.Links.{AnswerLeads}
 use Rattle.broadcast_laws.specs.Broadcasts.{Parts}
 use Rattle.wire_bodies.specs.Bodies.{KeepsBodies, body_at}

@@ -34,7 +34,7 @@ use Rattle.sprite_cluster.specs.Steps.{begun_turn}
 use Rattle.sprite_cluster.proofs.ReachedLaws.{Lasts, lasts_on}
 use Rattle.broadcast_laws.specs.Broadcasts.{Parts, WaitsFor}
 use Rattle.broadcast_laws.proofs.Asking.{OperationAsks, RowsAsk, StateAsks}
-use Rattle.server_answers.specs.Sorts.{fits}
+use Rattle.server_walks.specs.Sorts.{fits}
 use Rattle.server_answers.proofs.Answering.{AllKept}
 use Rattle.server_answers.proofs.RootLaws.{roots_are_served, servers_begin_with_none}
 use Rattle.redirect_laws.specs.Links.{AnswerLeads}
@@ -42,7 +42,9 @@ use Rattle.redirect_laws.proofs.BootLinks.{servers_begin_linked}
 use Rattle.reached_domains.specs.Domains.{AnswersAreOwners, AnswersTellDomains, BroadcastsAskSo, OneServerAnswers, RedirectsAreDomains, ServersAnswersFit, ServersServeTheirs, TellsADomain, asked_prefix, asked_request, prefix_by, prefix_of}
 use Rattle.reached_domains.proofs.CallLaws.{AsksAt, Fine, Told}
 use Rattle.reached_domains.proofs.KernelLaws.{Fits, KeptAt}
-use Rattle.reached_domains.proofs.TurnLaws.{OfAll, Stands, begun_stands, ended, happened, one_at, told_stands}
+use Rattle.sprite_cluster.specs.Everywhere.{OfAll}
+use Rattle.sprite_cluster.proofs.KernelLaws.{one_at}
+use Rattle.reached_domains.proofs.TurnLaws.{Stands, begun_stands, ended, happened, told_stands}
 
 -- ---- the boot
 

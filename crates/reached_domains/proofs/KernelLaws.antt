@@ -37,8 +37,7 @@ use Rattle.broadcast_laws.specs.Broadcasts.{AsksNow, Parts}
 use Rattle.broadcast_laws.proofs.Asking.{Known, RowsAsk, rows_weaken}
 use Rattle.broadcast_laws.proofs.AskLaws.{step_asks}
 use Rattle.server_answers.specs.Servers.{asks_for_server}
-use Rattle.server_answers.proofs.Answering.{AllKept, FreeFor, MayAnswer, MayTake}
-use Rattle.server_answers.proofs.RootLaws.{roots_same}
+use Rattle.server_answers.proofs.Answering.{AllKept, FreeFor, MayAnswer, MayTake, roots_same}
 use Rattle.server_answers.proofs.ServerLaws.{step_answers}
 use Rattle.redirect_laws.specs.Links.{AnswersLead, LinksIn}
 use Rattle.redirect_laws.proofs.ServerLinks.{servers_lead}

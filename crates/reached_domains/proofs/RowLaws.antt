@@ -2,23 +2,15 @@
 use Rattle.std.proofs.Common.{◌≡◌, ℕ, ◌+◌, ◌≤◌, Bool, true, false, cond, List, [], ◌∷◌, ◌++◌, Option, Some, None, is_some, refl, sym, ap, ◌∙◌, subst}
 use Rattle.std.proofs.lemmas.Bool.{eqb-true}
 use Rattle.std.specs.List.{AllByRecursion, list_any}
-use Rattle.sprite_ids.specs.declared.CopyNo.{CopyNo}
 use Rattle.sprite_ids.specs.declared.TxNo.{TxNo}
 use Rattle.sprite_ids.proofs.ListLaws.{each_append, some_is}
-use Rattle.sprite_paths.specs.declared.Path.{Path}
-use Rattle.process_machine.specs.declared.BurstEnd.{BurstEnd}
-use Rattle.process_machine.specs.declared.BurstEnd.TheVariants as burst_ends
-use Rattle.process_machine.specs.declared.Call.{Call as SystemCall}
 use Rattle.process_machine.specs.Machine as processes
 use Rattle.kernel_rpc.specs.declared.call.Arrival.{Arrival}
 use Rattle.kernel_rpc.specs.declared.call.Arrival.TheVariants.{FirstRequest, FirstReply, AskedAgain, Past}
 use Rattle.kernel_rpc.specs.declared.call.Call.{Call}
-use Rattle.kernel_rpc.specs.declared.Expired.{Expired}
-use Rattle.kernel_rpc.specs.declared.Expired.TheVariants as expired
 use Rattle.kernel_rpc.specs.declared.PacketCopy.{PacketCopy}
 use Rattle.kernel_rpc.specs.Bodies.{IsMessage, body_of, reply_of}
 use Rattle.kernel_rpc.specs.Machine.{Machine, arrival, call_of}
-use Rattle.kernel_rpc.specs.Sound.{Wired}
 use Rattle.kernel_rpc.proofs.ArrivalLaws.{first_reply}
 use Rattle.kernel_steps.specs.declared.Input.{Input}
 use Rattle.kernel_steps.specs.declared.Input.TheVariants as inputs
@@ -27,8 +19,6 @@ use Rattle.packet_bodies.specs.declared.Body.{Body}
 use Rattle.packet_bodies.specs.declared.Body.TheVariants as bodies
 use Rattle.packet_bodies.specs.declared.ReplyBody.{ReplyBody}
 use Rattle.unix_calls.specs.declared.Description.{Description}
-use Rattle.unix_calls.specs.declared.Event.TheVariants as events
-use Rattle.unix_calls.specs.declared.KernelLine.{KernelLine}
 use Rattle.wire_format.specs.declared.Packet.{Packet}
 use Rattle.wire_format.specs.Packets.{reading}
 use Rattle.prefix_table.specs.declared.prefixes.Domain.{Domain}
@@ -41,31 +31,18 @@ use Rattle.client_file_tables.specs.declared.states.NameState.TheVariants as sta
 use Rattle.client_file_tables.specs.Rows.{first_call, first_of, same_call, same_pid}
 use Rattle.client_file_tables.specs.Steps.{owns}
 use Rattle.client_names.specs.Answers.{is_for, takes_end}
-use Rattle.client_homes.specs.declared.ClientProcs.{ClientProcs}
 use Rattle.client_procs.specs.Steps.{client_step}
-use Rattle.cluster_wire.specs.Arriving.{Brings, copy_to, reply_in, request_in}
-use Rattle.cluster_wire.specs.Firing.{may_fire}
-use Rattle.cluster_wire.specs.declared.Arrived.{Arrived}
+use Rattle.cluster_wire.specs.Arriving.{Brings, reply_in, request_in}
 use Rattle.cluster_wire.specs.declared.Arrived.TheVariants as arrived
-use Rattle.cluster_wire.specs.declared.Said.{Said}
 use Rattle.cluster_kernels.specs.declared.KernelState.{KernelState}
 use Rattle.cluster_kernels.specs.declared.KernelState.TheVariants as kernels
 use Rattle.cluster_kernels.specs.declared.State.{State}
-use Rattle.cluster_kernels.specs.Booted.{AreKernels, IsKernel}
 use Rattle.cluster_kernels.specs.Kernels.{image_put, kernel_step}
-use Rattle.cluster_kernels.specs.States.{client_at, client_in, count_at, image_put_at, kernel_at, noted_step, put_image, stepped_by}
-use Rattle.cluster_steps.specs.Steps.{TakesSo}
-use Rattle.cluster_choices.specs.declared.Choice.{Choice}
-use Rattle.cluster_choices.specs.declared.Choice.TheVariants as choices
-use Rattle.cluster_choices.specs.Acts.{Comes, Expires, FiredAs, Given, Happens, delivery}
-use Rattle.cluster_bursts.specs.declared.Burst.{Burst}
-use Rattle.cluster_bursts.specs.declared.BurstOutcome.{BurstOutcome}
-use Rattle.cluster_bursts.specs.declared.BurstOutcome.TheVariants as outcome
-use Rattle.cluster_bursts.specs.declared.Job.{Job}
-use Rattle.cluster_bursts.specs.Bursts.{EndsAs, GoesOn, begun_by, came_to, issued, job_at, recorded}
+use Rattle.cluster_kernels.specs.States.{client_at, client_in, kernel_at}
+use Rattle.sprite_cluster.specs.Everywhere.{OfAll}
 use Rattle.sprite_cluster.specs.Reached.{At, Reached}
-use Rattle.sprite_cluster.specs.Steps.{begun_turn}
-use Rattle.sprite_cluster.proofs.ReachedLaws.{Lasts, lasts_on}
+use Rattle.sprite_cluster.proofs.KernelLaws.{BeginsSo, IsOwn, Keeps, kernels_last, one_at}
+use Rattle.sprite_cluster.proofs.ReachedLaws.{lasts_on}
 use Rattle.prefix_laws.specs.Prefixes.{learned_by_call, learned_by_operation, learned_by_process, learned_from, learned_from_answer}
 use Rattle.prefix_laws.proofs.LearnLaws.{clients_answered, clients_begin, clients_learn, images_leave}
 use Rattle.broadcast_laws.specs.Broadcasts.{Parts}
@@ -73,7 +50,7 @@ use Rattle.broadcast_laws.proofs.Asking.{OperationAsks, RowsAsk, StateAsks, foun
 use Rattle.reached_domains.specs.Domains.{RowsAreDomains, is_domain, serves}
 use Rattle.reached_domains.proofs.CallLaws.{AsksAt, Fine}
 use Rattle.reached_domains.proofs.DomainLaws.{all_stand, call_fine, client_is, client_stands, tells_served}
-use Rattle.reached_domains.proofs.TurnLaws.{OfAll, Stands, all_at, message_is, not_again, one_at}
+use Rattle.reached_domains.proofs.TurnLaws.{Stands, message_is, not_again}
 
 abbrev pub AreDomains : Description → List Domain → Type 0
 AreDomains c domains = AllByRecursion (λ (domain : Domain). is_domain c domain ≡ true) domains
@@ -163,140 +140,60 @@ module _ (c : Description) (machine : Machine) (state : State) (stands : Stands 
   packet_teaches AskedAgain copy input is brings s asks = absurd (not_again input _ _ brings.0 brings.1)
   packet_teaches Past copy input is brings s asks = absurd (cc)
 
--- ---- a turn
+-- ---- a kernel
 
 abbrev RowsFit : Description → ℕ → KernelState → Type 0
 RowsFit c kernel (kernels.Client client) = AreDomains c client.files.prefixes
 RowsFit c kernel (kernels.Server server) = Unit {0}
 
-abbrev AllRows : Description → State → Type 0
-AllRows c s = OfAll (RowsFit c) 1 s.kernels
-
 -- what a kernel takes teaches it domains, where it is a client
-abbrev Learns : Description → ℕ → Input → State → Type 0
-Learns c kernel input s = (client : ClientProcs) → kernel_at kernel s ≡ Some (kernels.Client client) → AreDomains c (learned_from input client.files)
+abbrev Learns : Description → Input → KernelState → Type 0
+Learns c input (kernels.Client client) = AreDomains c (learned_from input client.files)
+Learns c input (kernels.Server server) = Unit {0}
 
-module _ (c : Description) (kernel : ℕ) (low : 1 ≤ kernel) where
-  same_rows : (s t : State) → t.kernels ≡ s.kernels → AllRows c s → AllRows c t
-  same_rows s t same h = subst (OfAll (RowsFit c) 1) (sym same) h
+module _ (c : Description) where
+  step_fits : (kernel : ℕ) (state : KernelState) (input : Input) (next : TxNo) (step : ℕ) → Learns c input state → RowsFit c kernel state → RowsFit c kernel (kernel_step state input next step).0
+  step_fits kernel (kernels.Client client) input next step learns h =
+      let grown : (client_step client input next step).0.files.prefixes ≡ client.files.prefixes ++ learned_from input client.files = (clients_learn client input next step).grown ∙ ap (λ (ds : List Domain). client.files.prefixes ++ ds) (clients_answered client input next step) in
+      subst (AreDomains c) (sym grown) (each_append (λ (domain : Domain). is_domain c domain ≡ true) client.files.prefixes (learned_from input client.files) h learns)
+  step_fits kernel (kernels.Server server) input next step learns h = tt
 
-  stepped_rows : (o : Option KernelState) (input : Input) (next : TxNo) (s : State) → kernel_at kernel s ≡ o → Learns c kernel input s → AllRows c s → AllRows c (stepped_by kernel o input next s).0
-  stepped_rows None input next s e learns h = h
-  stepped_rows (Some (kernels.Client client)) input next s e learns h =
-      let made = client_step client input next (count_at s.steps kernel) in
-      let grown : made.0.files.prefixes ≡ client.files.prefixes ++ learned_from input client.files = (clients_learn client input next (count_at s.steps kernel)).grown ∙ ap (λ (ds : List Domain). client.files.prefixes ++ ds) (clients_answered client input next (count_at s.steps kernel)) in
-      let before : AreDomains c client.files.prefixes = one_at (RowsFit c) kernel (kernels.Client client) s.kernels low h e in
-      all_at (RowsFit c) kernel (kernels.Client made.0) s.kernels low h (subst (AreDomains c) (sym grown) (each_append (λ (domain : Domain). is_domain c domain ≡ true) client.files.prefixes (learned_from input client.files) before (learns client e)))
-  stepped_rows (Some (kernels.Server server)) input next s e learns h = all_at (RowsFit c) kernel (kernel_step (kernels.Server server) input next (count_at s.steps kernel)).0 s.kernels low h tt
+  image_fits : (kernel pid : ℕ) (image : processes.Machine) (state : KernelState) → RowsFit c kernel state → RowsFit c kernel (image_put pid image state)
+  image_fits kernel pid image (kernels.Client client) h = subst (AreDomains c) (sym (images_leave client pid image)) h
+  image_fits kernel pid image (kernels.Server server) h = tt
 
-  image_rows : (o : Option KernelState) (pid : ℕ) (image : processes.Machine) (s : State) → kernel_at kernel s ≡ o → AllRows c s → AllRows c (image_put_at kernel pid image o s)
-  image_rows None pid image s e h = h
-  image_rows (Some (kernels.Client client)) pid image s e h =
-      all_at (RowsFit c) kernel (image_put pid image (kernels.Client client)) s.kernels low h (subst (AreDomains c) (sym (images_leave client pid image)) (one_at (RowsFit c) kernel (kernels.Client client) s.kernels low h e))
-  image_rows (Some (kernels.Server server)) pid image s e h = all_at (RowsFit c) kernel (kernels.Server server) s.kernels low h tt
+  -- what doesn't come from another kernel teaches nothing
+  own_teaches : (input : Input) (files : ClientFiles) → IsOwn input → AreDomains c (learned_from input files)
+  own_teaches (inputs.Request tx source body) files own = absurd own
+  own_teaches (inputs.Replied tx source body) files own = absurd own
+  own_teaches input files own = tt
 
-  module _ {L : Type 0} (faults asked : L → ℕ → ℕ → ℕ) where
-    took_rows : (input : Input) (said : Said) (old new : Wired L) (s t : State) → TakesSo faults asked c kernel input said old new s t → Learns c kernel input s → AllRows c s → AllRows c t
-    took_rows input said old new s t so learns h = same_rows (stepped_by kernel (kernel_at kernel s) input said.next s).0 t (ap (λ (u : State). u.kernels) so.state) (stepped_rows (kernel_at kernel s) input said.next s refl learns h)
+  own_learns : (input : Input) (state : KernelState) → IsOwn input → Learns c input state
+  own_learns input (kernels.Client client) own = own_teaches input client.files own
+  own_learns input (kernels.Server server) own = tt
 
-    given_rows : (what : Arrived) (tx : TxNo) (old new : Wired L) (s t : State) → ((input : Input) → what ≡ arrived.Message input → Learns c kernel input s) → Given faults asked c kernel tx what old new s t → AllRows c s → AllRows c t
-    given_rows (arrived.Message input) tx old new s t learns g h = took_rows input g.said old g.between s t g.takes (learns input refl) h
-    given_rows (arrived.Again from to drawn) tx old new s t learns g h = same_rows s t (ap (λ (u : State). u.kernels) g.1) h
-    given_rows arrived.Old tx old new s t learns g h = same_rows s t (ap (λ (u : State). u.kernels) g.1) h
+  rows_kept : Keeps (RowsFit c) (Learns c)
+  rows_kept = record { steps = step_fits; images = image_fits; own = own_learns }
 
-    came_rows : (o : Option PacketCopy) (number : CopyNo) (old new : Wired L) (s t : State) → ((copy : PacketCopy) (input : Input) → Brings (arrival old.machine copy) old.machine copy (arrived.Message input) → Learns c kernel input s) → Comes faults asked c kernel number o old new s t → AllRows c s → AllRows c t
-    came_rows None number old new s t learns g h = same_rows s t (ap (λ (u : State). u.kernels) g.1) h
-    came_rows (Some copy) number old new s t learns g h =
-        let noted : State = noted_step kernel (delivery copy) s in
-        given_rows g.came copy.tx g.between new noted t (λ input e. learns copy input (subst (λ (what : Arrived). Brings (arrival old.machine copy) old.machine copy what) e g.arrives.brings)) g.given (same_rows s noted refl h)
+  rows_begin : BeginsSo c (RowsFit c)
+  rows_begin [] kernel state e = subst (RowsFit c kernel) (sym e) (subst (AreDomains c) (sym (clients_begin c kernel)) tt)
+  rows_begin (path ∷ paths) kernel (kernels.Server made) e = tt
+  rows_begin (path ∷ paths) kernel (kernels.Client made) e = absurd e
 
-    fired_rows : (what : Expired) (tx : TxNo) (old new : Wired L) (s t : State) → FiredAs faults asked c kernel tx what old new s t → AllRows c s → AllRows c t
-    fired_rows (expired.Resent fates) tx old new s t g h = same_rows s t (ap (λ (u : State). u.kernels) g.1) h
-    fired_rows (expired.GivenUp before now) tx old new s t g h =
-        let noted : State = noted_step kernel (events.Expire tx true) s in
-        took_rows (inputs.GaveUp tx) g.said old new noted t g.takes (λ client e. tt) (same_rows s noted refl h)
-
-    expires_rows : (b : Bool) (tx : TxNo) (old new : Wired L) (s t : State) → Expires faults asked c kernel tx b old new s t → AllRows c s → AllRows c t
-    expires_rows false tx old new s t g h = same_rows s t (ap (λ (u : State). u.kernels) g.1) h
-    expires_rows true tx old new s t g h = fired_rows g.what tx g.between new s t g.then_so h
-
-    happened_rows : (choice : Choice) (old new : Wired L) (s t : State) → ((copy : PacketCopy) (input : Input) → Brings (arrival old.machine copy) old.machine copy (arrived.Message input) → Learns c kernel input s) → Happens faults asked c kernel choice old new s t → AllRows c s → AllRows c t
-    happened_rows (choices.Deliver number) old new s t learns g h = came_rows (copy_to kernel old.machine number) number old new s t learns g h
-    happened_rows (choices.Expire tx) old new s t learns g h = expires_rows (may_fire kernel old.machine tx) tx old new s t g h
-    happened_rows (choices.WriteBack file block) old new s t learns g h = took_rows (inputs.Due file block) g.said old new s t g.takes (λ client e. tt) h
-
-    -- bursts
-
-    abbrev TeachesNone : Input → Type 0
-    TeachesNone input = (s : ClientFiles) → learned_from input s ≡ []
-
-    issued_none : (o : Option ℕ) (pid : ℕ) (call : SystemCall) (input : Input) → issued pid call o ≡ Some input → TeachesNone input
-    issued_none None pid call input e s = absurd (cc)
-    issued_none (Some number) pid call input e s = ap (λ (i : Input). learned_from i s) (sym (some_is (inputs.Issued pid (number + 1) call) input e))
-
-    burst_none : (stop : BurstEnd) (b : Burst) (s : State) (input : Input) → came_to kernel b stop s ≡ Some input → TeachesNone input
-    burst_none burst_ends.Call b s input e files = issued_none _ b.pid _ input e files
-    burst_none burst_ends.BadStep b s input e files = issued_none _ b.pid _ input e files
-    burst_none (burst_ends.PageNeeded page) b s input e files = ap (λ (i : Input). learned_from i files) (sym (some_is (inputs.PageNeeded b.pid page) input e))
-    burst_none burst_ends.Limit b s input e files = absurd (cc)
-
-    went_rows : (o : Option Input) (what : BurstOutcome) (old new : Wired L) (s t : State) → ((input : Input) → o ≡ Some input → TeachesNone input) → GoesOn faults asked c kernel o what old new s t → AllRows c s → AllRows c t
-    went_rows (Some input) (outcome.Took said) old new s t none g h = took_rows input said old new s t g (λ client e. subst (AreDomains c) (sym (none input refl client.files)) tt) h
-    went_rows (Some input) outcome.Done old new s t none g h = absurd g
-    went_rows (Some input) outcome.Stale old new s t none g h = absurd g
-    went_rows None outcome.Done old new s t none g h = same_rows s t (ap (λ (u : State). u.kernels) g.1) h
-    went_rows None (outcome.Took said) old new s t none g h = absurd g
-    went_rows None outcome.Stale old new s t none g h = absurd g
-
-    counted_rows : (what : BurstOutcome) (b : Burst) (old new : Wired L) (s t : State) → GoesOn faults asked c kernel (came_to kernel b b.end (recorded kernel b s)) what old new (put_image kernel b.pid b.to (recorded kernel b s)) t → AllRows c s → AllRows c t
-    counted_rows what b old new s t g h =
-        let there : State = recorded kernel b s in
-        went_rows (came_to kernel b b.end there) what old new (put_image kernel b.pid b.to there) t (λ input e. burst_none b.end b there input e) g (image_rows (kernel_at kernel there) b.pid b.to there refl (same_rows s there refl h))
-
-    ended_rows : (what : BurstOutcome) (b : Burst) (old new : Wired L) (s t : State) → EndsAs faults asked c kernel b what old new s t → AllRows c s → AllRows c t
-    ended_rows outcome.Stale b old new s t g h = same_rows s t (ap (λ (u : State). u.kernels) g.2) h
-    ended_rows outcome.Done b old new s t g h = counted_rows outcome.Done b old new s t g.1 h
-    ended_rows (outcome.Took said) b old new s t g h = counted_rows (outcome.Took said) b old new s t g.1 h
-
-begun_rows : (o : Option Job) (c : Description) (kernel : ℕ) (s : State) → AllRows c s → AllRows c (begun_by kernel o s)
-begun_rows None c kernel s h = h
-begun_rows (Some job) c kernel s h = h
-
--- ---- the boot
-
-rows_one : (paths : List Path) (c : Description) (kernel : ℕ) (state : KernelState) → IsKernel c kernel paths state → RowsFit c kernel state
-rows_one [] c kernel state e = subst (RowsFit c kernel) (sym e) (subst (AreDomains c) (sym (clients_begin c kernel)) tt)
-rows_one (path ∷ paths) c kernel (kernels.Server made) e = tt
-rows_one (path ∷ paths) c kernel (kernels.Client made) e = absurd e
-
-rows_booted : (lines : List KernelLine) (states : List KernelState) (c : Description) (kernel : ℕ) → AreKernels c kernel lines states → OfAll (RowsFit c) kernel states
-rows_booted [] [] c kernel e = tt
-rows_booted (line ∷ lines) (state ∷ states) c kernel e = (rows_one line.serves c kernel state e.0, rows_booted lines states c (kernel + 1) e.1)
-rows_booted [] (state ∷ states) c kernel e = absurd e
-rows_booted (line ∷ lines) [] c kernel e = absurd e
-
--- ---- each change
+-- ---- each reached cluster
 
 module _ {L : Type 0} (faults asked : L → ℕ → ℕ → ℕ) (c : Description) (begun : L) where
-  -- what comes to a client of a reached cluster teaches it domains
-  learns : (kernel : ℕ) (old : At L) → 1 ≤ kernel → Reached faults asked c begun old → (copy : PacketCopy) (input : Input) → Brings (arrival old.wire.machine copy) old.wire.machine copy (arrived.Message input) → Learns c kernel input old.state
-  learns kernel old low reached copy input brings client e =
+  -- what comes to a kernel of a reached cluster teaches it domains
+  learns : (kernel : ℕ) (old : At L) → 1 ≤ kernel → Reached faults asked c begun old → (copy : PacketCopy) (input : Input) → Brings (arrival old.wire.machine copy) old.wire.machine copy (arrived.Message input) → (state : KernelState) → kernel_at kernel old.state ≡ Some state → Learns c input state
+  learns kernel old low reached copy input brings (kernels.Client client) e =
       let stands : Stands c old.wire.machine old.state = all_stand faults asked c begun old reached in
       let is : client_at kernel old.state ≡ Some client = ap client_in e in
       packet_teaches c old.wire.machine old.state stands (arrival old.wire.machine copy) copy input refl brings client.files
       (client_stands c old.wire.machine old.state kernel client low stands is).asks
-
-  rows_last : Lasts faults asked c begun (λ (at : At L). AllRows c at.state)
-  rows_last = record {
-    begins = λ first b. rows_booted c.kernels first.state.kernels c 1 b.boots.kernels_are;
-    chose = λ kernel choice old now reached goes h. same_rows c kernel goes.low goes.changes.turn now.state (ap (λ (s : State). s.kernels) goes.changes.stands)
-        (happened_rows c kernel goes.low faults asked choice old.wire now.wire (begun_turn old.state) goes.changes.turn (learns kernel old goes.low reached) goes.changes.happens h);
-    began = λ kernel old now reached goes h. subst (AllRows c) (sym goes.changes.begun) (begun_rows (job_at c kernel old.state) c kernel old.state h);
-    took = λ kernel b old now reached goes h. same_rows c kernel goes.low goes.changes.turn now.state (ap (λ (s : State). s.kernels) goes.changes.stands)
-        (ended_rows c kernel goes.low faults asked goes.changes.ends.what b old.wire now.wire (begun_turn old.state) goes.changes.turn goes.changes.ends.ends h);
-    lost = λ kernel b old now reached goes h. ended_rows c kernel goes.low faults asked goes.changes.ends.what b old.wire now.wire (begun_turn old.state) now.state goes.changes.ends.ends h;
-  }
+  learns kernel old low reached copy input brings (kernels.Server server) e = tt
 
 pub rows_are_domains : {L : Type 0} (faults asked : L → ℕ → ℕ → ℕ) → RowsAreDomains faults asked
 rows_are_domains {L} faults asked c begun now kernel client low reached e =
-    one_at (RowsFit c) kernel (kernels.Client client) now.state.kernels low (lasts_on faults asked c begun (λ (at : At L). AllRows c at.state) now (rows_last faults asked c begun) reached) (client_is (kernel_at kernel now.state) client e)
+    one_at (RowsFit c) kernel (kernels.Client client) now.state.kernels low
+    (lasts_on faults asked c begun (λ (at : At L). OfAll (RowsFit c) 1 at.state.kernels) now (kernels_last faults asked c begun (RowsFit c) (Learns c) (rows_kept c) (rows_begin c) (learns faults asked c begun)) reached)
+    (client_is (kernel_at kernel now.state) client e)

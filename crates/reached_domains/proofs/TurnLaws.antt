@@ -1,14 +1,11 @@
 -- A turn of a kernel, over a wire that goes on: what the kernels wait for and keep, and what the wire's calls ask.
-use Rattle.std.proofs.Common.{arith, ◌≡◌, ℕ, zero, suc, ◌+◌, ◌-◌, ◌≤◌, Bool, true, false, ◌&&◌, List, [], ◌∷◌, slice_get, slice_set, Option, Some, None, refl, sym, ap, ◌∙◌, subst}
+use Rattle.std.proofs.Common.{arith, ◌≡◌, ℕ, ◌+◌, ◌-◌, ◌≤◌, Bool, true, false, ◌&&◌, List, slice_set, Option, Some, None, refl, sym, ap, ◌∙◌, subst}
 use Rattle.std.proofs.lemmas.Bool.{eqb-true}
 use Rattle.std.specs.List.{AllByRecursion}
 use Rattle.sprite_ids.specs.declared.CopyNo.{CopyNo}
 use Rattle.sprite_ids.specs.declared.TxNo.{TxNo}
 use Rattle.sprite_ids.proofs.ListLaws.{some_is}
 use Rattle.link_plan.specs.declared.Fate.{Fate}
-use Rattle.process_machine.specs.declared.BurstEnd.{BurstEnd}
-use Rattle.process_machine.specs.declared.BurstEnd.TheVariants as burst_ends
-use Rattle.process_machine.specs.declared.Call.{Call as SystemCall}
 use Rattle.process_machine.specs.Machine as processes
 use Rattle.kernel_rpc.specs.declared.call.Arrival.{Arrival}
 use Rattle.kernel_rpc.specs.declared.call.Arrival.TheVariants.{FirstRequest, FirstReply, AskedAgain, Past}
@@ -56,46 +53,15 @@ use Rattle.cluster_bursts.specs.declared.Burst.{Burst}
 use Rattle.cluster_bursts.specs.declared.BurstOutcome.{BurstOutcome}
 use Rattle.cluster_bursts.specs.declared.BurstOutcome.TheVariants as outcome
 use Rattle.cluster_bursts.specs.declared.Job.{Job}
-use Rattle.cluster_bursts.specs.Bursts.{EndsAs, GoesOn, begun_by, came_to, issued, recorded}
+use Rattle.cluster_bursts.specs.Bursts.{EndsAs, GoesOn, begun_by, came_to, recorded}
+use Rattle.sprite_cluster.specs.Everywhere.{OfAll}
+use Rattle.sprite_cluster.proofs.KernelLaws.{IsOwn, all_at, all_weaken, one_at, own_came}
 use Rattle.broadcast_laws.specs.Broadcasts.{AsksNow, Parts}
 use Rattle.wire_bodies.specs.Bodies.{KeepsBodies, body_at}
 use Rattle.wire_bodies.proofs.BodyLaws.{after_stays, ordered_run, run_stays, stays_through}
 use Rattle.reached_domains.specs.Domains.{request_in, request_read}
 use Rattle.reached_domains.proofs.CallLaws.{AllFine, AsksAt, IsOther, MayBeTold, answers_fine, asks_on, begins_fine, fine_other, sends_ask}
 use Rattle.reached_domains.proofs.KernelLaws.{ComesAs, Fits, FitsBehind, StepsSo, behind_fits, fits_image, fits_on, kernel_steps}
-
--- ---- all kernels
-
-abbrev pub OfAll : (ℕ → KernelState → Type 0) → ℕ → List KernelState → Type 0
-OfAll F kernel [] = Unit {0}
-OfAll F kernel (state ∷ states) = F kernel state × OfAll F (kernel + 1) states
-
-module _ (F : ℕ → KernelState → Type 0) where
-  pub one_of : (states : List KernelState) (first i : ℕ) (state : KernelState) → OfAll F first states → slice_get states i ≡ Some state → F (first + i) state
-  one_of [] first i state h e = absurd (cc)
-  one_of (found ∷ states) first zero state h e =
-      let same : first ≡ first + 0 = omega arith in
-      subst (λ (n : ℕ). F n state) same (subst (F first) (some_is found state e) h.0)
-  one_of (found ∷ states) first (suc i) state h e =
-      let same : first + 1 + i ≡ first + suc i = omega arith in
-      subst (λ (n : ℕ). F n state) same (one_of states (first + 1) i state h.1 e)
-
-  pub all_with : (states : List KernelState) (first i : ℕ) (state : KernelState) → OfAll F first states → F (first + i) state → OfAll F first (slice_set states i state)
-  all_with [] first i state h k = tt
-  all_with (found ∷ states) first zero state h k = let same : first + 0 ≡ first = omega arith in (subst (λ (n : ℕ). F n state) same k, h.1)
-  all_with (found ∷ states) first (suc i) state h k =
-      let same : first + suc i ≡ first + 1 + i = omega arith in
-      (h.0, all_with states (first + 1) i state h.1 (subst (λ (n : ℕ). F n state) same k))
-
-  pub one_at : (kernel : ℕ) (state : KernelState) (states : List KernelState) → 1 ≤ kernel → OfAll F 1 states → slice_get states (kernel - 1) ≡ Some state → F kernel state
-  one_at kernel state states low h e = let same : 1 + (kernel - 1) ≡ kernel = omega (arith, low) in subst (λ (n : ℕ). F n state) same (one_of states 1 (kernel - 1) state h e)
-
-  pub all_at : (kernel : ℕ) (state : KernelState) (states : List KernelState) → 1 ≤ kernel → OfAll F 1 states → F kernel state → OfAll F 1 (slice_set states (kernel - 1) state)
-  all_at kernel state states low h k = let same : kernel ≡ 1 + (kernel - 1) = omega (arith, low) in all_with states 1 (kernel - 1) state h (subst (λ (n : ℕ). F n state) same k)
-
-pub all_weaken : (F G : ℕ → KernelState → Type 0) → ((kernel : ℕ) (state : KernelState) → F kernel state → G kernel state) → (states : List KernelState) (first : ℕ) → OfAll F first states → OfAll G first states
-all_weaken F G weaken [] first h = tt
-all_weaken F G weaken (state ∷ states) first h = (weaken first state h.0, all_weaken F G weaken states (first + 1) h.1)
 
 -- ---- a cluster
 
@@ -253,15 +219,9 @@ module _ (c : Description) where
 
     -- bursts
 
-    issued_comes : (o : Option ℕ) (pid : ℕ) (call : SystemCall) (input : Input) (machine : Machine) → issued pid call o ≡ Some input → ComesAs machine input
-    issued_comes None pid call input machine e = absurd (cc)
-    issued_comes (Some number) pid call input machine e = subst (ComesAs machine) (some_is (inputs.Issued pid (number + 1) call) input e) tt
-
-    burst_comes : (stop : BurstEnd) (b : Burst) (s : State) (input : Input) (machine : Machine) → came_to kernel b stop s ≡ Some input → ComesAs machine input
-    burst_comes burst_ends.Call b s input machine e = issued_comes _ b.pid _ input machine e
-    burst_comes burst_ends.BadStep b s input machine e = issued_comes _ b.pid _ input machine e
-    burst_comes (burst_ends.PageNeeded page) b s input machine e = subst (ComesAs machine) (some_is (inputs.PageNeeded b.pid page) input e) tt
-    burst_comes burst_ends.Limit b s input machine e = absurd (cc)
+    own_comes : (input : Input) (machine : Machine) → IsOwn input → ComesAs machine input
+    own_comes (inputs.Request tx source body) machine own = absurd own
+    own_comes input machine own = tt
 
     went_on : (o : Option Input) (what : BurstOutcome) (old new : Wired L) (s t : State) → ((input : Input) → o ≡ Some input → ComesAs old.machine input) → GoesOn faults asked c kernel o what old new s t → Stands c old.machine s → Stands c new.machine t
     went_on (Some input) (outcome.Took said) old new s t comes g h = took_so input said old new s t g (comes input refl) h
@@ -274,7 +234,7 @@ module _ (c : Description) where
     counted : (what : BurstOutcome) (b : Burst) (old new : Wired L) (s t : State) → GoesOn faults asked c kernel (came_to kernel b b.end (recorded kernel b s)) what old new (put_image kernel b.pid b.to (recorded kernel b s)) t → Stands c old.machine s → Stands c new.machine t
     counted what b old new s t g h =
         let there : State = recorded kernel b s in
-        went_on (came_to kernel b b.end there) what old new (put_image kernel b.pid b.to there) t (λ input e. burst_comes b.end b there input old.machine e) g
+        went_on (came_to kernel b b.end there) what old new (put_image kernel b.pid b.to there) t (λ input e. own_comes input old.machine (own_came b.end kernel b there input e)) g
         (image_stands (kernel_at kernel there) old.machine kernel b.pid b.to there refl low (told_stands old.machine s there refl h))
 
     pub ended : (what : BurstOutcome) (b : Burst) (old new : Wired L) (s t : State) → EndsAs faults asked c kernel b what old new s t → Stands c old.machine s → Stands c new.machine t

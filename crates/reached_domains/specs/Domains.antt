@@ -25,7 +25,7 @@ use Rattle.client_homes.specs.declared.ClientProcs.{ClientProcs}
 use Rattle.cluster_wire.specs.Goings.{server_in}
 use Rattle.cluster_kernels.specs.declared.KernelState.TheVariants as kernels
 use Rattle.cluster_kernels.specs.States.{client_at, kernel_at}
-use Rattle.server_answers.specs.Sorts.{fits}
+use Rattle.server_walks.specs.Sorts.{fits}
 use Rattle.broadcast_laws.specs.Broadcasts.{Parts, WaitsFor}
 use Rattle.sprite_cluster.specs.Reached.{At, Reached}
 

@@ -1,5 +1,6 @@
 pub mod BootLaws
 pub mod FinishLaws
+pub mod KernelLaws
 pub mod ReachedLaws
 pub mod SendCalls
 pub mod SendClients

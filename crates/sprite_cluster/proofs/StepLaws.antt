@@ -91,27 +91,8 @@ tells_more faults begun before after kernel told old new written more tells a b 
 
 -- each record costs a unit at least
 unit_at_least : (e : Event) → 1 ≤ units_of_event e
-unit_at_least (event.Burst pid count) = omega arith
-unit_at_least (event.Issue pid number call) = omega arith
 unit_at_least (event.Enter entry) = omega arith
-unit_at_least (event.Return pid number reply) = omega arith
-unit_at_least (event.Send tx to about kind) = omega arith
-unit_at_least (event.Fault a b met) = omega arith
-unit_at_least (event.Deliver tx from reply about) = omega arith
-unit_at_least (event.Expire tx last) = omega arith
-unit_at_least (event.Grant file to stamp mode) = omega arith
-unit_at_least (event.Callback file to stamp kind) = omega arith
-unit_at_least (event.Mode file stamp mode) = omega arith
-unit_at_least (event.Filled file block) = omega arith
-unit_at_least (event.Dropped file block cause) = omega arith
-unit_at_least (event.Dirtied file block) = omega arith
-unit_at_least (event.WroteBack file block) = omega arith
-unit_at_least (event.Opened file stream kernel mode) = omega arith
-unit_at_least (event.Closed file stream kernel mode) = omega arith
-unit_at_least (event.Shared file stream) = omega arith
-unit_at_least (event.Learned prefix server) = omega arith
-unit_at_least (event.Freeze pid) = omega arith
-unit_at_least (event.Thaw pid) = omega arith
+unit_at_least e = omega arith
 
 units_long : (trace : List Rec) → length trace ≤ units_of trace
 units_long [] = omega arith

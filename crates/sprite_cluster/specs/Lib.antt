@@ -1,3 +1,4 @@
+pub mod Everywhere
 pub mod Finishing
 pub mod Logs
 pub mod Reached

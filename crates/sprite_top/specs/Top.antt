@@ -1,7 +1,7 @@
 -- What the top call promises for each status.
-use Rattle.std.specs.Prelude.{codes, IsTrue, ◌≡◌, ◌≢◌, ℕ, ◌+◌, ◌<◌, ◌≤◌, Bool, true, false, ◌⊎◌, List, [], ◌∷◌, ◌++◌, Option, Some, None, Result, Ok, Err, length, take}
+use Rattle.std.specs.Prelude.{codes, IsTrue, ◌≡◌, ◌≢◌, ℕ, ◌+◌, ◌<◌, ◌≤◌, Bool, true, false, ◌⊎◌, List, [], ◌∷◌, ◌++◌, Option, Some, None, Result, Ok, Err, length}
 use Rattle.std.specs.List.{list_any}
-use Rattle.std.specs.Io.KnownBytes.{Consumes, Appends, IsAtEnd}
+use Rattle.std.specs.Io.KnownBytes.{Consumes, IsAtEnd}
 use Rattle.sprite_ids.specs.declared.running.Finish.{Finish}
 use Rattle.sprite_ids.specs.declared.running.Finish.TheVariants as finish
 use Rattle.sprite_bytes.specs.Counts.{Rose}
@@ -475,22 +475,6 @@ PacketsCauses told other text closed due = ⊥
 abbrev pub told_answer : FramesAnswer → Answer
 told_answer (Lines lines) = record { status = status.Answered; due = lines; closed = None }
 told_answer (Refused line) = record { status = status.Refused; due = line; closed = None }
-
--- what was due was written behind what the sink held
-pub record Wrote (held held_after : Option (List ℕ)) (Due : List ℕ → Type 0) : Type 0 where
-  pub due : List ℕ
-  pub is_due : Due due
-  pub wrote : Appends held held_after due
-
--- a prefix of what was due was written, for the status that would have come
-pub record Broke (held held_after : Option (List ℕ)) (faults faults_after : ℕ) (Due : Status → List ℕ → Type 0) : Type 0 where
-  pub status : Status
-  pub due : List ℕ
-  pub is_due : Due status due
-  pub count : ℕ
-  pub part : count < length due
-  pub wrote : Appends held held_after (take count due)
-  pub rose : Rose faults faults_after
 
 -- the status of a run that came to its end so
 abbrev pub status_of : Finish → Status

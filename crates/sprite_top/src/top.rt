@@ -1,5 +1,6 @@
 ghost use Rattle.std.specs.Prelude.{codes, ◌≡◌, ◌≤◌, ℕ, List, None, IfOk, length};
 ghost use Rattle.sprite_words.specs.Words.{spelled, IsSpelled};
+ghost use Rattle.sprite_words.specs.Writing.{Broke, Wrote};
 ghost use Rattle.sprite_words.specs.declared.Command.TheVariants.{Audit as AuditWord, Check, File, Frames, Lend};
 ghost use Rattle.sprite_ids.specs.declared.running.Finish.TheVariants.{AllEnded, Budget as Spent, Stalled as Stopped};
 ghost use Rattle.frames_text.specs.Texts.{AreTold};
@@ -7,7 +8,7 @@ ghost use Rattle.lend_text.specs.Bodies.{answer_text};
 ghost use Rattle.restart_text.specs.FileTexts.{file_text};
 ghost use Rattle.report_print.specs.Refused.{refusal_line};
 ghost use Rattle.sprite_top.specs.Judged.{AuditCauses, TextCauses, audit_status, audited_status, judgement_status, numbered_line, verdict_status};
-ghost use Rattle.sprite_top.specs.Top.{AllWereReached, Completes, IsForCauseOf, IsRunOver, KeepsPrefixesOf, RunsOver, TellsFaultsOf, TellsWireOf, AsksFor, LoadCauses, LinesCauses, PacketsCauses, told_answer, RoseForCause, IsEnded, IsChecked, IsAnswered, IsRefuted, IsRefused, IsUsage, IsReadFault, Causes, FileCauses, Wrote, Broke, status_number};
+ghost use Rattle.sprite_top.specs.Top.{AllWereReached, Completes, IsForCauseOf, IsRunOver, KeepsPrefixesOf, RunsOver, TellsFaultsOf, TellsWireOf, AsksFor, LoadCauses, LinesCauses, PacketsCauses, told_answer, RoseForCause, IsEnded, IsChecked, IsAnswered, IsRefuted, IsRefused, IsUsage, IsReadFault, Causes, FileCauses, status_number};
 
 use crate::clusters::answer_cluster;
 use crate::judged::{audited_line, judgement_line, numbered_line};
@@ -16,17 +17,18 @@ use cluster_file::{FileEnd, Refusal, read_description};
 use frames_text::{FramesAnswer, send_text};
 use history_check::{Judgement, judge};
 use kernel_threads::Watch;
-use lend_text::{LendError, lend_text};
+use lend_text::lend_text;
 use link_plan::Link;
 use one_kernel::Verdict;
 use report_print::refusal_line;
-use restart_text::{RestartError, file_text};
+use restart_text::file_text;
 use sprite_bytes::{ReadEnd, Sink, Source, read_all, write_all};
 use sprite_ids::{Bytes, NoMemory};
 use sprite_words::{Command, command_of};
 use std::alloc::Global;
 use std::sync::Wait;
 use std::thread::Threads;
+use text_rows::LineError;
 use trace_audit::{Audit, AuditedText, audit_text};
 use workload_maker::workload;
 
@@ -422,8 +424,8 @@ fn answer_step_lines(alloc: Global, text: &[u8]) -> Result<Answer, NoMemory>
 {
     match file_text(alloc, text) {
         Ok(told) => Ok(answer_lines(told)),
-        Err(RestartError::Line(number)) => refuse_line(alloc, number),
-        Err(RestartError::NoMemory) => Err(NoMemory),
+        Err(LineError::Line(number)) => refuse_line(alloc, number),
+        Err(LineError::NoMemory) => Err(NoMemory),
     }
 }
 
@@ -451,8 +453,8 @@ fn answer_events(alloc: Global, text: &[u8]) -> Result<Answer, NoMemory>
 {
     match lend_text(alloc, text) {
         Ok(told) => Ok(answer_lines(told)),
-        Err(LendError::Line(number)) => refuse_line(alloc, number),
-        Err(LendError::NoMemory) => Err(NoMemory),
+        Err(LineError::Line(number)) => refuse_line(alloc, number),
+        Err(LineError::NoMemory) => Err(NoMemory),
     }
 }
 
