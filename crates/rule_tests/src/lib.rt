@@ -8,6 +8,10 @@ mod places;
 #[cfg(test)]
 mod shared_files;
 #[cfg(test)]
+mod shared_lines;
+#[cfg(test)]
+mod shared_rows;
+#[cfg(test)]
 mod sharing;
 #[cfg(test)]
 mod tests;
