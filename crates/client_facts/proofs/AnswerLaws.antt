@@ -168,7 +168,7 @@ steady_ends_opened (kinds.Open flags stream fd) pid opened s = steady_installs_o
 steady_ends_opened (kinds.Make device stream fd) pid opened s = steady_self s
 steady_ends_opened (kinds.Name op second max) pid opened s = steady_self s
 
-steady_takes_some : (o : Option Grant) (s : ClientFiles) → Steady s (asked.takes_some o s)
+pub steady_takes_some : (o : Option Grant) (s : ClientFiles) → Steady s (asked.takes_some o s)
 steady_takes_some (Some grant) s = steady_takes_grant grant s
 steady_takes_some None s = steady_self s
 

@@ -1,6 +1,6 @@
 -- A process that arrives: where processes are is kept, and who is ready has neither a call nor a flag.
 use Rattle.std.proofs.Common.{◌≡◌, ℕ, ◌==◌, Bool, true, false, not, is_some, cond, List, Option, Some, None, option_map, refl, sym, ap, ◌∙◌, subst}
-use Rattle.std.proofs.lemmas.Bool.{and_parts}
+use Rattle.std.proofs.lemmas.Bool.{and_parts, not-true, and_from, not-false}
 use Rattle.std.specs.BTreeMap.{is_at}
 use Rattle.std.specs.List.{list_any}
 use Rattle.std.specs.Map.{lookup}
@@ -37,8 +37,8 @@ use Rattle.client_procs.specs.Arriving as arriving
 use Rattle.client_procs.specs.Launching.{fresh_image}
 use Rattle.client_facts.specs.ProcFacts.{is_free_in}
 use Rattle.client_facts.specs.Places.{IsNew, KeepsPlaces}
-use Rattle.client_facts.proofs.ComingLaws.{came_in, changed_kept, goes_between, new_same, not_false, returned_with}
-use Rattle.client_facts.proofs.PlaceLaws.{Clean, Kept, and_true, by_bool, kept_if, kept_places, kept_same, never, places_kept, settled_state, settled_with, that}
+use Rattle.client_facts.proofs.ComingLaws.{came_in, changed_kept, goes_between, new_same, returned_with}
+use Rattle.client_facts.proofs.PlaceLaws.{Clean, Kept, by_bool, kept_if, kept_places, kept_same, never, places_kept, settled_state, settled_with, that}
 
 -- a process that comes: outside of its own `migrate` it has neither a call nor a fresh image
 record Comes (pid : ℕ) (moving : Bool) (s : ClientProcs) : Type 0 where
@@ -98,7 +98,7 @@ settled_home pid moving s c =
 
 free_arriving : (tx : TxNo) (moving : Bool) (proc : Proc) → (moving ≡ false → Clean (Some proc)) → is_free_in (states.Arriving tx moving) proc ≡ true
 free_arriving tx true proc clean = refl
-free_arriving tx false proc clean = let so = clean refl in and_true (not proc.fresh) (not (is_some proc.call)) (ap not so.1) (ap not so.0)
+free_arriving tx false proc clean = let so = clean refl in and_from (not proc.fresh) (not (is_some proc.call)) (ap not so.1) (ap not so.0)
 
 settled_told : (pid : ℕ) (moving : Bool) (s : ClientProcs) → Comes pid moving s → Kept never (arriving.tells_home pid moving s)
 settled_told pid moving s c =
@@ -141,18 +141,14 @@ kept_takes_if body tx pid s e new h = h
 is_new_by : (pid : ℕ) (s : ClientProcs) → arriving.is_new pid s ≡ true → IsNew pid s
 is_new_by pid s h =
     let parts = and_parts (not (is_here pid s)) (not (list_any (is_under is_pid pid) s.leaving)) h in
-    record { gone = not_false (is_here pid s) parts.0; stays = not_false (list_any (is_under is_pid pid) s.leaving) parts.1 }
-
-tested : (b : Bool) → not b ≡ false → b ≡ true
-tested true h = refl
-tested false h = absurd (cc)
+    record { gone = not-true (is_here pid s) parts.0; stays = not-true (list_any (is_under is_pid pid) s.leaving) parts.1 }
 
 kept_arrives : (o : Option ℕ) (body : Request) (tx : TxNo) (s : ClientProcs) → arriving.brought body ≡ o → Kept never s → Kept never (arriving.arrives_if tx o body s)
 kept_arrives None body tx s e h = h
 kept_arrives (Some pid) body tx s e h =
     by_bool (λ (t : ClientProcs). t) (Kept never) (not (arriving.is_new pid s)) _ _
     (λ _. h)
-    (λ new. kept_takes_if body tx pid s e (is_new_by pid s (tested (arriving.is_new pid s) new)) h)
+    (λ new. kept_takes_if body tx pid s e (is_new_by pid s (not-false (arriving.is_new pid s) new)) h)
 
 pub arrivals_keep_places : (body : Request) (tx : TxNo) (s : ClientProcs) → KeepsPlaces s → KeepsPlaces (arriving.arrives tx body s)
 arrivals_keep_places body tx s h = places_kept (arriving.arrives tx body s) (kept_arrives (arriving.brought body) body tx s refl (kept_places s h))

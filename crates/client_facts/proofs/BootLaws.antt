@@ -1,6 +1,6 @@
 -- The processes with which a client's kernel begins.
 use Rattle.std.proofs.Common.{arith, ◌≡◌, ℕ, zero, suc, ◌+◌, ◌-◌, ◌*◌, ◌<◌, ◌≤◌, ◌==◌, nat_lt, Bool, true, false, ◌&&◌, ◌||◌, not, cond, List, [], ◌∷◌, ◌++◌, length, Option, Some, None, option_map, slice_get, refl, sym, ap, ◌∙◌, subst}
-use Rattle.std.proofs.lemmas.Bool.{eqb-true, ltb-true}
+use Rattle.std.proofs.lemmas.Bool.{eqb-true, ltb-true, and_from, cond_both}
 use Rattle.std.specs.List.{AllByRecursion, list_all, list_any}
 use Rattle.std.specs.BTreeMap.{insert_entry}
 use Rattle.std.specs.Ordering.{match_ordering, nat_cmp}
@@ -25,13 +25,9 @@ use Rattle.client_procs.specs.Launching.{fresh_image}
 use Rattle.client_facts.specs.FileFacts.{same_process}
 use Rattle.client_facts.specs.ProcFacts as facts
 use Rattle.client_facts.specs.HomeFacts as homes
-use Rattle.client_facts.proofs.CostLaws.{eq_turned}
+use Rattle.stream_table.proofs.OwnerLaws.{eq_turned}
 
 -- Cases
-
-by_bool : {B : Type 0} (P : B → Type 0) (t : Bool) (x y : B) → (t ≡ true → P x) → (t ≡ false → P y) → P (cond t x y)
-by_bool P true x y h k = h refl
-by_bool P false x y h k = k refl
 
 by_option : {A B : Type 0} (f : Option A → B) (P : B → Type 0) (o : Option A) → P (f None) → ((a : A) → P (f (Some a))) → P (f o)
 by_option f P None h k = h
@@ -105,7 +101,7 @@ put_once k v (e ∷ es) none h =
     let parts = or_false (e.0 == k) (list_any (λ (row : ℕ × Proc). row.0 == k) es) none in
     once_by k v e es (insert_entry nat_cmp es k v) (nat_cmp k e.0) none h (put_none e.0 k v es (eq_turned k e.0 ∙ parts.0) h.0) (put_once k v es parts.1 h.1)
 
-apart_by : (a b : ℕ) (t : Bool) → (a == b) ≡ t → (a ≡ b → ⊥) → t ≡ false
+pub apart_by : (a b : ℕ) (t : Bool) → (a == b) ≡ t → (a ≡ b → ⊥) → t ≡ false
 apart_by a b true e h = absurd (h (eqb-true a b e))
 apart_by a b false e h = refl
 
@@ -142,10 +138,10 @@ module _ (d : Description) (kernel : ℕ) where
   rightly_boots =
       by_list (starts_all d.programs) (λ b. Rightly (begins_with b d kernel)) (λ b h. h)
       (λ line rest b go h. go (starts_line d.programs line b)
-      (by_bool (λ c. Rightly (begins_with c d kernel)) (not (line.host == b.home.home)) b (bears_if (fresh_image d.programs line.program line.arg) b)
+      (cond_both (not (line.host == b.home.home)) b (bears_if (fresh_image d.programs line.program line.arg) b) (λ c. Rightly (begins_with c d kernel))
       (λ _. h)
       (λ _. by_option (λ o. bears_if o b) (λ c. Rightly (begins_with c d kernel)) (fresh_image d.programs line.program line.arg) h
-      (λ image. by_bool (λ c. Rightly (begins_with c d kernel)) (nat_lt (length b.home.births) 200) (puts_first (1000 * b.home.home + length b.home.births + 1) image (record b { home = born b.home None })) b
+      (λ image. cond_both (nat_lt (length b.home.births) 200) (puts_first (1000 * b.home.home + length b.home.births + 1) image (record b { home = born b.home None })) b (λ c. Rightly (begins_with c d kernel))
       (λ room. rightly_put (begins_with b d kernel) (begins_with (puts_first (1000 * b.home.home + length b.home.births + 1) image (record b { home = born b.home None })) d kernel) image h room refl refl refl)
       (λ _. h)))))
       d.starts (nothing_begun kernel)
@@ -153,12 +149,9 @@ module _ (d : Description) (kernel : ℕ) where
 
 -- The facts
 
-and_true : (a b : Bool) → a ≡ true → b ≡ true → (a && b) ≡ true
-and_true a b h k = ap (λ c. c && b) h ∙ k
-
 all_rows : (table : Table) (p : ℕ × Proc → Bool) (rows : List (ℕ × Proc)) → ((row : ℕ × Proc) → IsBorn table row → p row ≡ true) → AllByRecursion (IsBorn table) rows → list_all p rows ≡ true
 all_rows table p [] each h = refl
-all_rows table p (row ∷ rows) each h = and_true (p row) (list_all p rows) (each row h.0) (all_rows table p rows each h.1)
+all_rows table p (row ∷ rows) each h = and_from (p row) (list_all p rows) (each row h.0) (all_rows table p rows each h.1)
 
 all_children : (table : Table) (p : ℕ × Proc → Bool) (rows : List (ℕ × Proc)) → ((pid : ℕ) (image : Machine) → p (pid, child_of image) ≡ true) → AllByRecursion (IsBorn table) rows → list_all p rows ≡ true
 all_children table p rows each h = all_rows table p rows (λ row born. ap (λ (proc : Proc). p (row.0, proc)) born.is ∙ each row.0 born.image) h
@@ -210,7 +203,7 @@ none_pending (birth ∷ births) (suc at) h = none_pending births at h.1
 all_found : (at : ℕ) (births : List Birth) (s : ClientProcs) → AllByRecursion IsNew births → homes.are_found_from at births s ≡ true
 all_found at [] s h = refl
 all_found at (birth ∷ births) s h =
-    and_true (homes.is_found_at (pid_at s.home.home at) birth s) (homes.are_found_from (at + 1) births s)
+    and_from (homes.is_found_at (pid_at s.home.home at) birth s) (homes.are_found_from (at + 1) births s)
     (ap (λ (life : Life). homes.is_found_at (pid_at s.home.home at) (record birth { life = life }) s) h.0)
     (all_found (at + 1) births s h.1)
 

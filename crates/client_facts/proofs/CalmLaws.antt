@@ -5,6 +5,7 @@ use Rattle.sprite_ids.specs.declared.FileId.{FileId}
 use Rattle.sprite_ids.specs.declared.BlockNo.{BlockNo}
 use Rattle.sprite_ids.specs.declared.StreamNo.{StreamNo}
 use Rattle.std.specs.List.{find}
+use mathlib.Core.Bool.{or-true}
 use Rattle.sprite_ids.specs.Lists.{put, without, EachOnce}
 use Rattle.block_cache.specs.declared.BlockKey.{BlockKey}
 use Rattle.block_cache.specs.declared.Block.{Block}
@@ -98,10 +99,6 @@ below_self : (o : Option Stream) → Below o o
 below_self None = tt
 below_self (Some stream) = λ h. h
 
-or_true : (a : Bool) → (a || true) ≡ true
-or_true true = refl
-or_true false = refl
-
 or_false : (a : Bool) → (a || false) ≡ true → a ≡ true
 or_false true h = refl
 or_false false h = h
@@ -110,11 +107,11 @@ asks_below : (o p : Option Stream) (cached : Bool) → Below o p → asks_by o c
 asks_below None p cached h e = absurd (cc)
 asks_below (Some new) None cached h e = absurd h
 asks_below (Some new) (Some old) true h e = ap (λ b. b || false) (h (or_false (is_shared new.place) e))
-asks_below (Some new) (Some old) false h e = or_true (is_shared old.place)
+asks_below (Some new) (Some old) false h e = or-true (is_shared old.place)
 
 asks_cached : (o : Option Stream) (old new : Bool) → (old ≡ true → new ≡ true) → asks_by o new ≡ true → asks_by o old ≡ true
 asks_cached None old new h e = absurd (cc)
-asks_cached (Some stream) false new h e = or_true (is_shared stream.place)
+asks_cached (Some stream) false new h e = or-true (is_shared stream.place)
 asks_cached (Some stream) true new h e = sym (ap (λ b. is_shared stream.place || not b) (h refl)) ∙ e
 
 -- where each stream is below what it was

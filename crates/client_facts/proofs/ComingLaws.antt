@@ -1,6 +1,6 @@
 -- Kills, evictions and births keep where processes are, and leave who is ready without a call or a flag.
 use Rattle.std.proofs.Common.{◌≡◌, ℕ, ◌==◌, Bool, true, false, ◌&&◌, ◌||◌, not, cond, List, [], ◌∷◌, Option, Some, None, option_map, is_some, refl, sym, ap, ◌∙◌, subst}
-use Rattle.std.proofs.lemmas.Bool.{and_parts, eq-eqb}
+use Rattle.std.proofs.lemmas.Bool.{and_parts, eq-eqb, not-true, and_from}
 use Rattle.std.specs.List.{list_all, list_any}
 use Rattle.std.specs.BTreeMap.{insert_entry, is_at}
 use Rattle.std.specs.Map.{lookup, set_value}
@@ -36,8 +36,8 @@ use Rattle.client_moves.specs.Returning as returning
 use Rattle.client_facts.specs.ProcFacts.{is_free_if_ready, is_free_in, is_free_proc, is_gone}
 use Rattle.client_facts.specs.Places.{IsNew, KeepsPlaces}
 use Rattle.client_facts.proofs.BootLaws.{put_none, put_once}
-use Rattle.client_facts.proofs.CostLaws.{eq_turned}
-use Rattle.client_facts.proofs.PlaceLaws.{Clean, Kept, Returned, and_true, at_is, excused, found_set, free_of, kept_between, kept_dies, kept_if, kept_more, kept_places, kept_replies, kept_same, kept_set, listed_here, never, places_kept, returned_more, settled, that}
+use Rattle.client_facts.proofs.PlaceLaws.{Clean, Kept, Returned, at_is, excused, found_set, free_of, kept_between, kept_dies, kept_if, kept_more, kept_places, kept_replies, kept_same, kept_set, listed_here, never, places_kept, returned_more, settled, that}
+use Rattle.stream_table.proofs.OwnerLaws.{eq_turned}
 
 -- A process that is flagged or changed, whose call and fresh image stay
 
@@ -65,15 +65,11 @@ free_found p (row ∷ rows) proc h e =
     let parts = and_parts (is_free_if_ready row) (list_all is_free_if_ready rows) h in
     free_by row (lookup p rows) proc (p row.0) parts.0 (free_found p rows proc parts.1) e
 
-pub not_false : (b : Bool) → not b ≡ true → b ≡ false
-not_false true h = absurd (cc)
-not_false false h = refl
-
 clean_free : (proc : Proc) → is_free_proc proc ≡ true → Clean (Some proc)
 clean_free proc h =
     let call = and_parts (not proc.killed && not proc.evict && not proc.fresh) (not (is_some proc.call)) h in
     let fresh = and_parts (not proc.killed && not proc.evict) (not proc.fresh) call.0 in
-    (not_false (is_some proc.call) call.1, not_false proc.fresh fresh.1)
+    (not-true (is_some proc.call) call.1, not-true proc.fresh fresh.1)
 
 -- a flag more changes nothing of who isn't ready
 evict_free : (state : ProcState) (proc : Proc) → evicting.is_ready_in state ≡ false → is_free_in state proc ≡ true → is_free_in state (record proc { evict = true }) ≡ true
@@ -169,12 +165,12 @@ found_put k v [] = ap (λ b. cond b (Some v) None) (at_is k k ∙ eq-eqb k k ref
 found_put k v (e ∷ es) = found_put_by k v e es (insert_entry nat_cmp es k v) (nat_cmp k e.0) refl (found_put k v es)
 
 free_put_by : (k : ℕ) (v : Proc) (e : ℕ × Proc) (es more : List (ℕ × Proc)) (o : Ordering) → nat_cmp k e.0 ≡ o → list_all (excused (that k)) (e ∷ es) ≡ true → list_all (excused (that k)) more ≡ true → list_all (excused (that k)) (match_ordering o ((k, v) ∷ e ∷ es) ((e.0, v) ∷ es) (e ∷ more)) ≡ true
-free_put_by k v e es more Less h all rest = and_true (excused (that k) (k, v)) (list_all (excused (that k)) (e ∷ es)) (ap (λ b. b || is_free_if_ready (k, v)) (eq-eqb k k refl)) all
-free_put_by k v e es more Equal h all rest = and_true (excused (that k) (e.0, v)) (list_all (excused (that k)) es) (ap (λ b. b || is_free_if_ready (e.0, v)) (sym (at_is k e.0) ∙ ap is_eq h)) (and_parts (excused (that k) e) (list_all (excused (that k)) es) all).1
-free_put_by k v e es more Greater h all rest = and_true (excused (that k) e) (list_all (excused (that k)) more) (and_parts (excused (that k) e) (list_all (excused (that k)) es) all).0 rest
+free_put_by k v e es more Less h all rest = and_from (excused (that k) (k, v)) (list_all (excused (that k)) (e ∷ es)) (ap (λ b. b || is_free_if_ready (k, v)) (eq-eqb k k refl)) all
+free_put_by k v e es more Equal h all rest = and_from (excused (that k) (e.0, v)) (list_all (excused (that k)) es) (ap (λ b. b || is_free_if_ready (e.0, v)) (sym (at_is k e.0) ∙ ap is_eq h)) (and_parts (excused (that k) e) (list_all (excused (that k)) es) all).1
+free_put_by k v e es more Greater h all rest = and_from (excused (that k) e) (list_all (excused (that k)) more) (and_parts (excused (that k) e) (list_all (excused (that k)) es) all).0 rest
 
 free_put : (k : ℕ) (v : Proc) (rows : List (ℕ × Proc)) → list_all (excused (that k)) rows ≡ true → list_all (excused (that k)) (insert_entry nat_cmp rows k v) ≡ true
-free_put k v [] h = and_true (excused (that k) (k, v)) true (ap (λ b. b || is_free_if_ready (k, v)) (eq-eqb k k refl)) refl
+free_put k v [] h = and_from (excused (that k) (k, v)) true (ap (λ b. b || is_free_if_ready (k, v)) (eq-eqb k k refl)) refl
 free_put k v (e ∷ es) h = free_put_by k v e es (insert_entry nat_cmp es k v) (nat_cmp k e.0) refl h (free_put k v es (and_parts (excused (that k) e) (list_all (excused (that k)) es) h).1)
 
 gone_put : (k : ℕ) (v : Proc) (s : ClientProcs) (rows : List (ℕ × Leaving)) → list_any (is_under is_pid k) rows ≡ false → list_all (is_gone s) rows ≡ true → list_all (is_gone (births.puts_proc k v s)) rows ≡ true
@@ -182,9 +178,9 @@ gone_put k v s [] none h = refl
 gone_put k v s (row ∷ rows) none h =
     let apart = or_false (row.0 == k) (list_any (is_under is_pid k) rows) none in
     let parts = and_parts (is_gone s row) (list_all (is_gone s) rows) h in
-    let before = sym (listed_here row.0 s.procs) ∙ not_false (is_here row.0 s) parts.0 in
+    let before = sym (listed_here row.0 s.procs) ∙ not-true (is_here row.0 s) parts.0 in
     let away : is_here row.0 (births.puts_proc k v s) ≡ false = listed_here row.0 (insert_entry nat_cmp s.procs k v) ∙ put_none row.0 k v s.procs (eq_turned k row.0 ∙ apart.0) before in
-    and_true (is_gone (births.puts_proc k v s) row) (list_all (is_gone (births.puts_proc k v s)) rows) (ap not away) (gone_put k v s rows apart.1 parts.1)
+    and_from (is_gone (births.puts_proc k v s) row) (list_all (is_gone (births.puts_proc k v s)) rows) (ap not away) (gone_put k v s rows apart.1 parts.1)
 
 -- it is here then, and all others are as before
 pub came_in : (pid : ℕ) (proc : Proc) (s : ClientProcs) → IsNew pid s → Kept never s → Kept (that pid) (births.puts_proc pid proc s) × (proc_at pid (births.puts_proc pid proc s) ≡ Some proc)

@@ -1,7 +1,6 @@
 -- How much a step may still run: a bound that each turn lowers.
-use Rattle.std.proofs.Common.{rules, tests, arith, ◌≡◌, ℕ, suc, ◌+◌, ◌*◌, ◌≤◌, ◌==◌, Bool, true, false, cond, List, [], ◌∷◌, ◌++◌, length, Option, Some, None, refl, sym, ap, ◌∙◌, ap₂, ◌&&◌, ◌||◌, option_map, subst, append-nil}
+use Rattle.std.proofs.Common.{arith, ◌≡◌, ℕ, suc, ◌+◌, ◌*◌, ◌≤◌, ◌==◌, Bool, true, false, cond, List, [], ◌∷◌, ◌++◌, length, Option, Some, None, refl, sym, ap, ◌∙◌, ap₂, ◌&&◌, ◌||◌, option_map, subst, append-nil}
 use Rattle.std.proofs.lemmas.Bool.{and_parts, eqb-true}
-use Rattle.std.proofs.lemmas.Bool.Decides.{eqb_tells}
 use Rattle.std.specs.List.{find, list_any}
 use Rattle.sprite_ids.specs.declared.StreamNo.{StreamNo}
 use Rattle.sprite_ids.specs.declared.FileId.{FileId}
@@ -12,6 +11,7 @@ use Rattle.kernel_steps.specs.Rows.{is_under}
 use Rattle.block_cache.specs.Files.{Files, known}
 use Rattle.stream_table.specs.Entries.{Entry, stream_of}
 use Rattle.stream_table.proofs.EntryLaws.{number_turned, one_number}
+use Rattle.stream_table.proofs.OwnerLaws.{eq_turned}
 use Rattle.client_file_tables.specs.declared.client_files.ClientFiles.{ClientFiles}
 use Rattle.client_file_tables.specs.declared.pending.Pending.{Pending}
 use Rattle.client_file_tables.specs.declared.pending.Pending.TheVariants as operations
@@ -23,9 +23,6 @@ use Rattle.client_facts.specs.GoingOn.{few_fds}
 use Rattle.client_facts.proofs.CalmLaws.{Calm, asks_at, asks_by}
 
 -- Processes
-
-pub eq_turned : (a b : ℕ) → (a == b) ≡ (b == a)
-eq_turned a b = search (rules, tests, eqb_tells a b, eqb_tells b a)
 
 -- rows of one process, as a sameness
 pub processes_same : {V : Type 0} → IsSameness (same_process {V = V})

@@ -15,3 +15,5 @@ pub mod ArrivalLaws
 pub mod QuietLaws
 pub mod CacheLaws
 pub mod LockLaws
+pub mod BirthLaws
+pub mod BlockLaws

@@ -1,8 +1,9 @@
--- Locks of streams and turns to fill go round beside each fact that sees neither.
-use Rattle.std.proofs.Common.{ℕ, Bool, true, false, cond, List, [], ◌∷◌, Option, Some, None}
+-- Locks of streams, turns to fill and descriptors that are given up go round beside each fact that sees none of them.
+use Rattle.std.proofs.Common.{ℕ, zero, suc, Bool, true, false, cond, List, [], ◌∷◌, Option, Some, None}
 use Rattle.std.specs.List.{list_any}
 use Rattle.sprite_ids.specs.declared.StreamNo.{StreamNo}
 use Rattle.stream_table.specs.declared.Streams.{Streams}
+use Rattle.stream_table.specs.Owners.{descriptor}
 use Rattle.client_file_tables.specs.declared.client_files.ClientFiles.{ClientFiles}
 use Rattle.client_file_tables.specs.Fillers as fillers
 use Rattle.client_file_tables.specs.Fillers.{drops_filler, is_filling}
@@ -10,6 +11,7 @@ use Rattle.client_file_tables.specs.Locks as locking
 use Rattle.client_file_tables.specs.Locks.{frees, gets_lock, takes_lock}
 use Rattle.client_file_tables.specs.Rows.{first_stream, is_pid, less_stream}
 use Rattle.client_file_tables.specs.Steps.{wakes}
+use Rattle.client_streams.specs.Descriptors as descriptors
 
 -- a fact of the files' side that sees no stream, no process that waits for a lock, no turn to fill, and none that is woken
 pub record SeesNoTurns (P : ClientFiles → Type 0) : Type 0 where
@@ -51,3 +53,16 @@ module _ (P : ClientFiles → Type 0) (sees : SeesNoTurns P) where
   leaves_filling pid s p =
       let dropped : P (drops_filler pid s) = sees.fillers s _ p in
       on_if (is_filling pid s) _ (drops_filler pid s) (wakes_first (drops_filler pid s).fillers (drops_filler pid s) dropped) dropped
+
+  drops_by : (o : Option StreamNo) (pid fd : ℕ) (stream : StreamNo) (s : ClientFiles) → P s → P (descriptors.drops_by pid fd stream o s)
+  drops_by (Some other) pid fd stream s p = on_if _ _ s (sees.streams s _ p) p
+  drops_by None pid fd stream s p = p
+
+  drops_under : (fd pid : ℕ) (stream : StreamNo) (s : ClientFiles) → P s → P (descriptors.drops_under fd pid stream s)
+  drops_under zero pid stream s p = p
+  drops_under (suc fd) pid stream s p =
+      let before : ClientFiles = descriptors.drops_under fd pid stream s in
+      drops_by (descriptor before.streams.owners pid fd) pid fd stream before (drops_under fd pid stream s p)
+
+  pub drops_each : (pid : ℕ) (stream : StreamNo) (s : ClientFiles) → P s → P (descriptors.drops_each pid stream s)
+  drops_each pid stream s p = drops_under descriptors.descriptor_count pid stream s p

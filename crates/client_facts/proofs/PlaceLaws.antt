@@ -1,11 +1,12 @@
 -- The rounds of a step keep where processes are, and leave who is ready without a call or a flag.
 use Rattle.std.proofs.Common.{arith, ◌≡◌, ℕ, zero, suc, ◌+◌, ◌==◌, nat_lt, Bool, true, false, ◌&&◌, ◌||◌, not, cond, List, [], ◌∷◌, ◌++◌, length, Option, Some, None, option_map, is_some, refl, sym, ap, ◌∙◌, subst}
-use Rattle.std.proofs.lemmas.Bool.{and_parts, eqb-true, ltb-true}
+use Rattle.std.proofs.lemmas.Bool.{and_parts, eqb-true, ltb-true, and_from}
 use Rattle.std.specs.List.{find, list_all, list_any}
 use Rattle.std.specs.BTreeMap.{is_at}
 use Rattle.std.specs.Map.{lookup, remove_entry, set_value}
 use Rattle.std.specs.Ordering.{is_eq, nat_cmp}
 use Rattle.std.specs.declared.cmp.Ordering.TheVariants.{Less, Equal, Greater}
+use mathlib.Core.Bool.{or-true}
 use Rattle.sprite_ids.specs.declared.Ending.{Ending}
 use Rattle.sprite_ids.specs.declared.Ending.TheVariants.{Killed}
 use Rattle.sprite_ids.specs.declared.Grant.{Grant}
@@ -20,6 +21,7 @@ use Rattle.pseudo_device.specs.declared.ask.Ask.{Ask}
 use Rattle.pseudo_device.specs.Device.{Asks}
 use Rattle.stream_table.specs.declared.Carried.{Carried}
 use Rattle.stream_table.specs.declared.Place.{Place}
+use Rattle.stream_table.proofs.OwnerLaws.{eq_turned}
 use Rattle.migrate_freeze.specs.declared.frozen.MoveStep.{MoveStep}
 use Rattle.migrate_freeze.specs.declared.frozen.MoveStep.TheVariants as steps
 use Rattle.migrate_freeze.specs.Packing.{can_move}
@@ -57,17 +59,10 @@ use Rattle.client_procs.specs.Turning as turning
 use Rattle.client_facts.specs.FileFacts.{same_process}
 use Rattle.client_facts.specs.ProcFacts.{is_free_if_ready, is_free_in, is_gone}
 use Rattle.client_facts.specs.Places.{KeepsPlaces}
-use Rattle.client_facts.proofs.CostLaws.{eq_turned, less_once, none_left, processes_same}
+use Rattle.client_facts.proofs.CostLaws.{less_once, none_left, processes_same}
 use Rattle.client_facts.proofs.RowLaws.{all_less}
 
 -- Rows of processes
-
-pub and_true : (a b : Bool) → a ≡ true → b ≡ true → (a && b) ≡ true
-and_true a b h k = ap (λ c. c && b) h ∙ k
-
-pub or_true : (a : Bool) → (a || true) ≡ true
-or_true true = refl
-or_true false = refl
 
 -- the key that a look-up finds is the one that it looks for
 at_by : (a b : ℕ) (lower same : Bool) → nat_lt a b ≡ lower → (b == a) ≡ same → (a == b) ≡ same → is_eq (cond lower Less (cond (a == b) Equal Greater)) ≡ (b == a)
@@ -143,7 +138,7 @@ gone_same : (s t : ClientProcs) (rows : List (ℕ × Leaving)) → ((pid : ℕ) 
 gone_same s t [] here h = refl
 gone_same s t (row ∷ rows) here h =
     let parts = and_parts (is_gone s row) (list_all (is_gone s) rows) h in
-    and_true (is_gone t row) (list_all (is_gone t) rows) (ap not (here row.0) ∙ parts.0) (gone_same s t rows here parts.1)
+    and_from (is_gone t row) (list_all (is_gone t) rows) (ap not (here row.0) ∙ parts.0) (gone_same s t rows here parts.1)
 
 pub kept_same : (skip : ℕ → Bool) (s t : ClientProcs) → t.procs ≡ s.procs → t.leaving ≡ s.leaving → Kept skip s → Kept skip t
 kept_same skip s t procs leaving h = record {
@@ -160,8 +155,8 @@ kept_if skip false s t h k = k
 -- One process changed
 
 free_by : (skip : ℕ → Bool) (e : ℕ × Proc) (w : Proc) (es more : List (ℕ × Proc)) (b : Bool) → (b ≡ true → excused skip (e.0, w) ≡ true) → list_all (excused skip) (e ∷ es) ≡ true → list_all (excused skip) more ≡ true → list_all (excused skip) (cond b ((e.0, w) ∷ es) (e ∷ more)) ≡ true
-free_by skip e w es more true new h k = and_true (excused skip (e.0, w)) (list_all (excused skip) es) (new refl) (and_parts (excused skip e) (list_all (excused skip) es) h).1
-free_by skip e w es more false new h k = and_true (excused skip e) (list_all (excused skip) more) (and_parts (excused skip e) (list_all (excused skip) es) h).0 k
+free_by skip e w es more true new h k = and_from (excused skip (e.0, w)) (list_all (excused skip) es) (new refl) (and_parts (excused skip e) (list_all (excused skip) es) h).1
+free_by skip e w es more false new h k = and_from (excused skip e) (list_all (excused skip) more) (and_parts (excused skip e) (list_all (excused skip) es) h).0 k
 
 free_set : (skip p : ℕ → Bool) (rows : List (ℕ × Proc)) (w : Proc) → ((key : ℕ) → p key ≡ true → excused skip (key, w) ≡ true) → list_all (excused skip) rows ≡ true → list_all (excused skip) (set_value p rows w) ≡ true
 free_set skip p [] w new h = refl
@@ -178,7 +173,7 @@ kept_set skip pid w s new h = record {
 -- in a state other than ready it is free
 pub kept_with : (skip : ℕ → Bool) (pid : ℕ) (o : Option Proc) (f : Proc → Proc) (s : ClientProcs) → ((proc : Proc) → is_free_in (f proc).state (f proc) ≡ true) → Kept skip s → Kept skip (procs.with_proc pid (option_map f o) s)
 kept_with skip pid None f s free h = h
-kept_with skip pid (Some proc) f s free h = kept_set skip pid (f proc) s (λ key at. ap (λ b. skip key || b) (free proc) ∙ or_true (skip key)) h
+kept_with skip pid (Some proc) f s free h = kept_set skip pid (f proc) s (λ key at. ap (λ b. skip key || b) (free proc) ∙ or-true (skip key)) h
 
 kept_state : (skip : ℕ → Bool) (pid : ℕ) (state : ProcState) (s : ClientProcs) → ((proc : Proc) → is_free_in state proc ≡ true) → Kept skip s → Kept skip (procs.in_state pid state s)
 kept_state skip pid state s free h = kept_with skip pid (proc_at pid s) (λ proc. record proc { state = state }) s (λ proc. free (record proc { state = state })) h
@@ -199,15 +194,15 @@ free_rest pid [] none h = refl
 free_rest pid (e ∷ es) none h =
     let apart = or_false (e.0 == pid) (list_any (λ (row : ℕ × Proc). row.0 == pid) es) none in
     let parts = and_parts (excused (that pid) e) (list_all (excused (that pid)) es) h in
-    and_true (is_free_if_ready e) (list_all is_free_if_ready es) (sym (ap (λ b. b || is_free_if_ready e) apart.0) ∙ parts.0) (free_rest pid es apart.1 parts.1)
+    and_from (is_free_if_ready e) (list_all is_free_if_ready es) (sym (ap (λ b. b || is_free_if_ready e) apart.0) ∙ parts.0) (free_rest pid es apart.1 parts.1)
 
 settle_by : (pid : ℕ) (e : ℕ × Proc) (es : List (ℕ × Proc)) (o : Option Proc) (b : Bool) → (e.0 == pid) ≡ b → EachOnce same_process (e ∷ es) → list_all (excused (that pid)) (e ∷ es) ≡ true → free_of (cond b (Some e.1) o) ≡ true → (free_of o ≡ true → list_all is_free_if_ready es ≡ true) → list_all is_free_if_ready (e ∷ es) ≡ true
 settle_by pid e es o true k once h free later =
     let none = subst (λ (key : ℕ). list_any (λ (row : ℕ × Proc). row.0 == key) es ≡ false) (eqb-true e.0 pid k) once.0 in
-    and_true (is_free_if_ready e) (list_all is_free_if_ready es) free (free_rest pid es none (and_parts (excused (that pid) e) (list_all (excused (that pid)) es) h).1)
+    and_from (is_free_if_ready e) (list_all is_free_if_ready es) free (free_rest pid es none (and_parts (excused (that pid) e) (list_all (excused (that pid)) es) h).1)
 settle_by pid e es o false k once h free later =
     let parts = and_parts (excused (that pid) e) (list_all (excused (that pid)) es) h in
-    and_true (is_free_if_ready e) (list_all is_free_if_ready es) (sym (ap (λ b. b || is_free_if_ready e) k) ∙ parts.0) (later free)
+    and_from (is_free_if_ready e) (list_all is_free_if_ready es) (sym (ap (λ b. b || is_free_if_ready e) k) ∙ parts.0) (later free)
 
 settle_rows : (pid : ℕ) (rows : List (ℕ × Proc)) → EachOnce same_process rows → list_all (excused (that pid)) rows ≡ true → free_of (lookup (is_at (nat_cmp pid)) rows) ≡ true → list_all is_free_if_ready rows ≡ true
 settle_rows pid [] once h free = refl
@@ -222,7 +217,7 @@ settled_with pid None f s e free h = settled pid s h (ap free_of e)
 settled_with pid (Some proc) f s e free h =
     let t : ClientProcs = record s { procs = set_value (is_at (nat_cmp pid)) s.procs (f proc) } in
     let new = free proc e in
-    settled pid t (kept_set (that pid) pid (f proc) s (λ key at. ap (λ b. that pid key || b) new ∙ or_true (that pid key)) h) (ap free_of (found_set (is_at (nat_cmp pid)) s.procs proc (f proc) e) ∙ new)
+    settled pid t (kept_set (that pid) pid (f proc) s (λ key at. ap (λ b. that pid key || b) new ∙ or-true (that pid key)) h) (ap free_of (found_set (is_at (nat_cmp pid)) s.procs proc (f proc) e) ∙ new)
 
 pub settled_state : (pid : ℕ) (state : ProcState) (s : ClientProcs) → ((proc : Proc) → is_free_in state proc ≡ true) → Kept (that pid) s → Kept never (procs.in_state pid state s)
 settled_state pid state s free h = settled_with pid (proc_at pid s) (λ proc. record proc { state = state }) s refl (λ proc e. free (record proc { state = state })) h
@@ -325,8 +320,8 @@ gone_found pid (row ∷ rows) l s h e =
     gone_by pid row (find (is_under is_pid pid) rows) l s (row.0 == pid) refl parts.0 (gone_found pid rows l s parts.1) e
 
 all_pushed : {X : Type 0} (p : X → Bool) (xs : List X) (x : X) → list_all p xs ≡ true → p x ≡ true → list_all p (xs ++ x ∷ []) ≡ true
-all_pushed p [] x h k = and_true (p x) true k refl
-all_pushed p (y ∷ ys) x h k = let parts = and_parts (p y) (list_all p ys) h in and_true (p y) (list_all p (ys ++ x ∷ [])) parts.0 (all_pushed p ys x parts.1 k)
+all_pushed p [] x h k = and_from (p x) true k refl
+all_pushed p (y ∷ ys) x h k = let parts = and_parts (p y) (list_all p ys) h in and_from (p y) (list_all p (ys ++ x ∷ [])) parts.0 (all_pushed p ys x parts.1 k)
 
 kept_leaving : (pid : ℕ) (step : MoveStep) (about : Option About) (s : ClientProcs) → is_here pid s ≡ false → list_any (is_under is_pid pid) s.leaving ≡ false → Kept never s → Kept never (leaving.keeps_leaving pid step about s)
 kept_leaving pid step about s gone none h = record {
@@ -391,7 +386,7 @@ remove_once p (e ∷ es) h = remove_once_by e es (remove_entry p es) (p e.0) h (
 
 remove_free_by : (e : ℕ × Proc) (es more : List (ℕ × Proc)) (b : Bool) → list_all is_free_if_ready (e ∷ es) ≡ true → list_all is_free_if_ready more ≡ true → list_all is_free_if_ready (cond b es (e ∷ more)) ≡ true
 remove_free_by e es more true h k = (and_parts (is_free_if_ready e) (list_all is_free_if_ready es) h).1
-remove_free_by e es more false h k = and_true (is_free_if_ready e) (list_all is_free_if_ready more) (and_parts (is_free_if_ready e) (list_all is_free_if_ready es) h).0 k
+remove_free_by e es more false h k = and_from (is_free_if_ready e) (list_all is_free_if_ready more) (and_parts (is_free_if_ready e) (list_all is_free_if_ready es) h).0 k
 
 remove_free : (p : ℕ → Bool) (rows : List (ℕ × Proc)) → list_all is_free_if_ready rows ≡ true → list_all is_free_if_ready (remove_entry p rows) ≡ true
 remove_free p [] h = refl
@@ -422,7 +417,7 @@ gone_less : (s t : ClientProcs) (rows : List (ℕ × Leaving)) → ((pid : ℕ) 
 gone_less s t [] fewer h = refl
 gone_less s t (row ∷ rows) fewer h =
     let parts = and_parts (is_gone s row) (list_all (is_gone s) rows) h in
-    and_true (is_gone t row) (list_all (is_gone t) rows) (ap not (fewer row.0 (not_true (is_here row.0 s) parts.0))) (gone_less s t rows fewer parts.1)
+    and_from (is_gone t row) (list_all (is_gone t) rows) (ap not (fewer row.0 (not_true (is_here row.0 s) parts.0))) (gone_less s t rows fewer parts.1)
   where
     not_true : (b : Bool) → not b ≡ true → b ≡ false
     not_true true h = absurd (cc)
@@ -494,9 +489,9 @@ free_clean : (state : ProcState) (proc : Proc) → proc.killed ≡ false → pro
 free_clean states.Ready proc killed evict clean =
     let call = ap not clean.0 in
     let fresh = ap not clean.1 in
-    and_true (not proc.killed && not proc.evict && not proc.fresh) (not (is_some proc.call)) (and_true (not proc.killed && not proc.evict) (not proc.fresh) (and_true (not proc.killed) (not proc.evict) (ap not killed) (ap not evict)) fresh) call
-free_clean (states.PageWait tx page) proc killed evict clean = and_true (not proc.fresh) (not (is_some proc.call)) (ap not clean.1) (ap not clean.0)
-free_clean (states.Arriving tx moving) proc killed evict clean = ap (λ b. moving || b) (and_true (not proc.fresh) (not (is_some proc.call)) (ap not clean.1) (ap not clean.0)) ∙ or_true moving
+    and_from (not proc.killed && not proc.evict && not proc.fresh) (not (is_some proc.call)) (and_from (not proc.killed && not proc.evict) (not proc.fresh) (and_from (not proc.killed) (not proc.evict) (ap not killed) (ap not evict)) fresh) call
+free_clean (states.PageWait tx page) proc killed evict clean = and_from (not proc.fresh) (not (is_some proc.call)) (ap not clean.1) (ap not clean.0)
+free_clean (states.Arriving tx moving) proc killed evict clean = ap (λ b. moving || b) (and_from (not proc.fresh) (not (is_some proc.call)) (ap not clean.1) (ap not clean.0)) ∙ or-true moving
 free_clean state proc killed evict clean = refl
 
 pub by_bool : {B C : Type 0} (f : B → C) (P : C → Type 0) (t : Bool) (x y : B) → (t ≡ true → P (f x)) → (t ≡ false → P (f y)) → P (f (cond t x y))
@@ -529,7 +524,7 @@ kept_more pid s h = record { once = h.once; leaving_once = h.leaving_once; apart
     more [] h = refl
     more (e ∷ es) h =
         let parts = and_parts (is_free_if_ready e) (list_all is_free_if_ready es) h in
-        and_true (excused (that pid) e) (list_all (excused (that pid)) es) (ap (λ b. that pid e.0 || b) parts.0 ∙ or_true (that pid e.0)) (more es parts.1)
+        and_from (excused (that pid) e) (list_all (excused (that pid)) es) (ap (λ b. that pid e.0 || b) parts.0 ∙ or-true (that pid e.0)) (more es parts.1)
 
 returned_by : (o : Option Proc) (pid : ℕ) (reply : Reply) (s : ClientProcs) → proc_at pid s ≡ o → Kept never s → Returned pid (record s { procs = returning.returned_with pid (option_map {T = Proc} (returning.returned s.programs reply) o) s.procs })
 returned_by None pid reply s e h = record { kept = kept_more pid s h; clean = subst Clean (sym e) tt }

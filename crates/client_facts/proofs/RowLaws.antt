@@ -1,6 +1,6 @@
 -- What all operations pass, when one is taken out and one comes.
-use Rattle.std.proofs.Common.{◌≡◌, ℕ, ◌==◌, Bool, true, false, ◌&&◌, cond, List, [], ◌∷◌, ◌++◌, Option, Some, None, option_map, refl, sym, ap, ◌∙◌, subst, append-nil}
-use Rattle.std.proofs.lemmas.Bool.{and_parts}
+use Rattle.std.proofs.Common.{◌≡◌, ℕ, ◌==◌, Bool, true, false, cond, List, [], ◌∷◌, ◌++◌, Option, Some, None, option_map, refl, sym, ap, ◌∙◌, subst, append-nil}
+use Rattle.std.proofs.lemmas.Bool.{and_parts, and_from}
 use Rattle.std.specs.List.{find, list_all}
 use Rattle.sprite_ids.specs.Lists.{less}
 use Rattle.sprite_ids.proofs.ListLaws.{some_is}
@@ -10,17 +10,14 @@ use Rattle.client_file_tables.specs.Rows.{first_of, same_pid}
 use Rattle.client_facts.specs.GoingOn.{few_fds, has_few_fds}
 use Rattle.client_facts.proofs.CostLaws.{few_of, row_of}
 
-and_true : (a b : Bool) → a ≡ true → b ≡ true → (a && b) ≡ true
-and_true a b h k = ap (λ c. c && b) h ∙ k
-
 -- all of two lists pass together
 pub all_append : {X : Type 0} (p : X → Bool) (xs ys : List X) → list_all p xs ≡ true → list_all p ys ≡ true → list_all p (xs ++ ys) ≡ true
 all_append p [] ys h k = k
-all_append p (x ∷ xs) ys h k = let parts = and_parts (p x) (list_all p xs) h in and_true (p x) (list_all p (xs ++ ys)) parts.0 (all_append p xs ys parts.1 k)
+all_append p (x ∷ xs) ys h k = let parts = and_parts (p x) (list_all p xs) h in and_from (p x) (list_all p (xs ++ ys)) parts.0 (all_append p xs ys parts.1 k)
 
 less_by : {X : Type 0} (p : X → Bool) (x : X) (xs ys : List X) (b : Bool) → list_all p (x ∷ xs) ≡ true → list_all p ys ≡ true → list_all p (cond b xs (x ∷ ys)) ≡ true
 less_by p x xs ys true h k = (and_parts (p x) (list_all p xs) h).1
-less_by p x xs ys false h k = and_true (p x) (list_all p ys) (and_parts (p x) (list_all p xs) h).0 k
+less_by p x xs ys false h k = and_from (p x) (list_all p ys) (and_parts (p x) (list_all p xs) h).0 k
 
 -- and those that are left of them
 pub all_less : {X : Type 0} (p q : X → Bool) (xs : List X) → list_all p xs ≡ true → list_all p (less q xs) ≡ true
@@ -41,4 +38,4 @@ found_few pid (row ∷ rows) operation h e =
 -- and one more that may come
 pub all_kept : (pid : ℕ) (o : Option Pending) (rows : List (ℕ × Pending)) → list_all has_few_fds rows ≡ true → few_of o ≡ true → list_all has_few_fds (rows ++ row_of pid o) ≡ true
 all_kept pid None rows h few = subst (λ (all : List (ℕ × Pending)). list_all has_few_fds all ≡ true) (sym (append-nil rows)) h
-all_kept pid (Some operation) rows h few = all_append has_few_fds rows ((pid, operation) ∷ []) h (and_true (few_fds operation) true few refl)
+all_kept pid (Some operation) rows h few = all_append has_few_fds rows ((pid, operation) ∷ []) h (and_from (few_fds operation) true few refl)

@@ -68,6 +68,7 @@ use Rattle.client_rounds.specs.Rounds.{IsUnderWay, MovesFit, ask_of, move_of, of
 use Rattle.client_rounds.proofs.RunLaws.{answer_of, one}
 use Rattle.client_rounds.proofs.Sides.{Stands, each, left_of, own_ask, own_wait, room_of, side_of, stands_less}
 use Rattle.client_rounds.proofs.Totals.{less_none, removed_none, total_first, total_found, total_push, total_removed, total_set}
+use Rattle.client_walks.proofs.RowLaws.{each_less}
 
 -- The room that a frozen process has
 
@@ -176,14 +177,6 @@ each_by P false first row o h later e = later e
 each_found : {V : Type 0} (P : ℕ × V → Type 0) (p : ℕ × V → Bool) (rows : List (ℕ × V)) (row : ℕ × V) → AllByRecursion P rows → find p rows ≡ Some row → P row
 each_found P p [] row h e = absurd (cc)
 each_found {V} P p (first ∷ rows) row h e = each_by P (p first) first row (find p rows) h.0 (each_found P p rows row h.1) e
-
-less_by : {X : Type 0} (P : X → Type 0) (b : Bool) (first : X) (rows more : List X) → AllByRecursion P (first ∷ rows) → AllByRecursion P more → AllByRecursion P (cond b rows (first ∷ more))
-less_by P true first rows more h k = h.1
-less_by P false first rows more h k = (h.0, k)
-
-pub each_less : {X : Type 0} (P : X → Type 0) (p : X → Bool) (rows : List X) → AllByRecursion P rows → AllByRecursion P (less p rows)
-each_less P p [] h = tt
-each_less P p (first ∷ rows) h = less_by P (p first) first rows (less p rows) h (each_less P p rows h.1)
 
 abbrev pub Way : ℕ × Leaving → Type 0
 Way row = IsUnderWay row.1.step

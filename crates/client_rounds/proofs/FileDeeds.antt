@@ -1,11 +1,10 @@
 -- What the files' side does to what is on its way to processes, where a call begins, something comes to it, or a process arrives with its streams.
-use Rattle.std.proofs.Common.{arith, ◌≡◌, ℕ, ◌+◌, ◌≤◌, ◌==◌, Bool, true, false, cond, List, [], ◌∷◌, Option, Some, None, refl}
+use Rattle.std.proofs.Common.{arith, ◌≡◌, ℕ, ◌+◌, ◌≤◌, ◌==◌, Bool, true, false, cond, List, [], ◌∷◌, Option, refl}
 use Rattle.std.proofs.lemmas.Bool.{eq-eqb}
 use Rattle.std.specs.List.{list_any}
 use Rattle.sprite_ids.specs.declared.BlockNo.{BlockNo}
 use Rattle.sprite_ids.specs.declared.DeviceId.{DeviceId}
 use Rattle.sprite_ids.specs.declared.FileId.{FileId}
-use Rattle.sprite_ids.specs.declared.Grant.{Grant}
 use Rattle.sprite_ids.specs.declared.TxNo.{TxNo}
 use Rattle.sprite_ids.specs.Lists.{one_if, total}
 use Rattle.process_machine.specs.declared.Call.{Call}
@@ -32,9 +31,9 @@ use Rattle.client_homes.specs.Procs as procs_of
 use Rattle.client_procs.specs.Issues as issuing_calls
 use Rattle.client_facts.specs.GoingOn.{GoesOn}
 use Rattle.client_facts.specs.ProcFacts.{is_moving_in}
-use Rattle.client_facts.proofs.AnswerLaws.{goes_answered, goes_gives_up, steady_due_goes}
+use Rattle.client_facts.proofs.AnswerLaws.{goes_answered, goes_gives_up, steady_due_goes, steady_takes_some}
 use Rattle.client_facts.proofs.IssueLaws.{runs_issues}
-use Rattle.client_facts.proofs.SteadyLaws.{Steady, goes_runs, goes_steady, steady_called_back, steady_if, steady_join, steady_same, steady_takes_grant}
+use Rattle.client_facts.proofs.SteadyLaws.{Steady, goes_runs, goes_steady, steady_called_back, steady_if, steady_join, steady_same}
 use Rattle.client_rounds.specs.OneThing.{moving_of}
 use Rattle.client_rounds.specs.Rounds.{MayTurn, of_process}
 use Rattle.client_rounds.proofs.CallLaws as calling
@@ -89,13 +88,9 @@ module _ (Q : Ledger → Type 0) where
       let so : Q (ledger_of there) = on_if (list_any (is_under same_pid pid) taken.cwds) _ _ (carried list s p) (carried list s p) in
       on_if (arrivals.can_arrive pid items there) _ there so so
 
-steady_some : (o : Option Grant) (s : ClientFiles) → Steady s (asked.takes_some o s)
-steady_some (Some grant) s = steady_takes_grant grant s
-steady_some None s = steady_same s s refl refl refl
-
 steady_carried : (list : List CarriedStream) (s : ClientFiles) → Steady s (arrivals.takes_carried list s)
 steady_carried [] s = steady_same s s refl refl refl
-steady_carried (stream ∷ list) s = steady_join s (asked.takes_some stream.grant s) _ (steady_some stream.grant s) (steady_carried list (asked.takes_some stream.grant s))
+steady_carried (stream ∷ list) s = steady_join s (asked.takes_some stream.grant s) _ (steady_takes_some stream.grant s) (steady_carried list (asked.takes_some stream.grant s))
 
 steady_arrives : (pid : ℕ) (cwd : List (List ℕ)) (list : List CarriedStream) (items : List Carried) (s : ClientFiles) → Steady s (arrivals.arrives pid cwd list items s)
 steady_arrives pid cwd list items s =

@@ -35,8 +35,6 @@ use Rattle.client_file_tables.specs.Rows.{first_call, first_of, less_call, less_
 use Rattle.client_file_tables.specs.Says as says
 use Rattle.client_file_tables.specs.Steps as steps
 use Rattle.client_file_tables.specs.Streams.{stream_at}
-use Rattle.client_file_tables.specs.WriteBacks as backs
-use Rattle.client_file_tables.specs.WriteBacks.{current_write_back}
 use Rattle.client_data.specs.Finishes as finishing
 use Rattle.client_data.specs.Grants as grants
 use Rattle.client_data.specs.Replies as replied
@@ -53,6 +51,7 @@ use Rattle.sprite_ids.specs.declared.DeviceId.{DeviceId}
 use Rattle.client_rounds.specs.Rounds.{move_of, work_of}
 use Rattle.client_rounds.proofs.Ledgers.{Ledger, RunsData, ledger_of}
 use Rattle.client_rounds.proofs.CallLaws as calling
+use Rattle.client_facts.proofs.BlockLaws as block_laws
 use Rattle.client_facts.proofs.LockLaws as turns
 use Rattle.client_rounds.proofs.OpLaws as running
 use Rattle.client_rounds.proofs.RunLaws.{Held, answer_of, answers_in, call_runs, close_answer, close_runs, data_runs, due_in, move_runs, moves_in, sync_runs}
@@ -85,7 +84,7 @@ module _ (pid : ℕ) (Q R : Ledger → Type 0) (runs : RunsData pid Q R) where
   served body call s p = runs.waits (ledger_of s) call p
 
   takes_block : (body : ReplyBody) (file : FileId) (block : BlockNo) (s : ClientFiles) → Q (ledger_of s) → Q (ledger_of (replied.takes_block file block body s))
-  takes_block (bodies.Block stamp bytes) file block s p = running.fills Q file stamp block bytes s p
+  takes_block (bodies.Block stamp bytes) file block s p = block_laws.fills (running.P Q) (running.no_blocks Q) file stamp block bytes s p
   takes_block (bodies.Again grant) file block s p = calling.takes_grant Q grant s p
   takes_block body file block s p = p
 
@@ -106,12 +105,8 @@ module _ (Q : Ledger → Type 0) where
   settles_back (bodies.Again grant) back s p = calling.takes_grant Q grant s p
   settles_back body back s p = cleans_back back s p
 
-  lists_by : (o : Option TxNo) (file : FileId) (block : BlockNo) (s : ClientFiles) → Q (ledger_of s) → Q (ledger_of (backs.lists_by o file block s))
-  lists_by (Some tx) file block s p = p
-  lists_by None file block s p = p
-
   lists_again : (o : Option ℕ) (file : FileId) (block : BlockNo) (s : ClientFiles) → Q (ledger_of s) → Q (ledger_of (written.lists_by o file block s))
-  lists_again (Some number) file block s p = running.on_if Q (listed s.delay file block) s _ p (lists_by (current_write_back file block s) file block s p)
+  lists_again (Some number) file block s p = running.on_if Q (listed s.delay file block) s _ p (block_laws.lists_free (running.P Q) (running.no_blocks Q) file block s p)
   lists_again None file block s p = p
 
 module _ (q D M W pid : ℕ) where

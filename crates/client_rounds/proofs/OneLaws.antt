@@ -1,6 +1,6 @@
 -- Each step of a client's kernel keeps that each process waits for one thing at most, and its rounds are enough.
 use Rattle.std.proofs.Common.{arith, ◌≡◌, ℕ, zero, suc, ◌+◌, ◌*◌, ◌≤◌, ◌<◌, ◌==◌, ◌/◌, Bool, true, false, ◌&&◌, ◌||◌, not, cond, List, [], ◌∷◌, length, Option, Some, None, option_map, is_some, refl, sym, ap, subst}
-use Rattle.std.proofs.lemmas.Bool.{and_parts, eq-eqb, eqb-true}
+use Rattle.std.proofs.lemmas.Bool.{and_parts, eq-eqb, eqb-true, not-true}
 use Rattle.std.specs.List.{find, list_any}
 use Rattle.std.specs.Map.{lookup}
 use Rattle.sprite_ids.specs.declared.Ending.TheVariants.{Killed}
@@ -116,11 +116,6 @@ none_new s pid gone stays =
   where
     standing_none : (pid : ℕ) (rows : List (ℕ × Proc)) → lookup (is_at_pid pid) rows ≡ None → total (of_process pid) rows ≤ 0
     standing_none pid rows e = absent pid pid rows e (eq-eqb pid pid refl)
-
-is_new_parts : (a b : Bool) → (not a && not b) ≡ true → (a ≡ false) × (b ≡ false)
-is_new_parts true b e = absurd (cc)
-is_new_parts false true e = absurd (cc)
-is_new_parts false false e = (refl, refl)
 
 -- A step begins
 
@@ -303,7 +298,7 @@ replied_by false tx source body s hand places one =
 taken : (input : Input) (s : ClientProcs) → InHand (brought input s) s → PlacesAreOnce s → OneThingEach s → Then (stepping.takes input s)
 taken (inputs.Issued pid number call) s hand places one = issued_by (issuing_calls.is_next (about_of pid number) s) pid number call s refl places one
 taken (inputs.Request tx source body) s hand places one =
-    served (places_of s) true s.home.home (length s.home.births) body tx s (λ pid e. (let parts = is_new_parts (kills.is_here pid s) (list_any (is_under is_pid pid) s.leaving) e in none_new s pid parts.0 parts.1)) (starts s one)
+    served (places_of s) true s.home.home (length s.home.births) body tx s (λ pid e. (let parts = and_parts (not (kills.is_here pid s)) (not (list_any (is_under is_pid pid) s.leaving)) e in none_new s pid (not-true (kills.is_here pid s) parts.0) (not-true (list_any (is_under is_pid pid) s.leaving) parts.1))) (starts s one)
 taken (inputs.Replied tx source body) s hand places one = replied_by (owns tx s.files) tx source body s hand places one
 taken (inputs.GaveUp tx) s hand places one = coming.after (places_of s) true s.home.home (length s.home.births) (stepping.takes (inputs.GaveUp tx) s) (filing.given_up (places_of s) true s.home.home (length s.home.births) tx s (starts s one))
 taken (inputs.Due file block) s hand places one = coming.after (places_of s) true s.home.home (length s.home.births) (stepping.takes (inputs.Due file block) s) (filing.due_goes (places_of s) true s.home.home (length s.home.births) file block s (starts s one))

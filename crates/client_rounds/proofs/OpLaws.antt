@@ -1,5 +1,5 @@
 -- Runs of operations of the files' side: what each of them says to the processes' side.
-use Rattle.std.proofs.Common.{◌≡◌, ℕ, zero, suc, ◌+◌, Bool, true, false, cond, List, [], ◌∷◌, Option, Some, None, refl, sym, subst, slice_get}
+use Rattle.std.proofs.Common.{◌≡◌, ℕ, zero, ◌+◌, Bool, true, false, cond, List, [], ◌∷◌, Option, Some, None, refl, sym, subst, slice_get}
 use Rattle.sprite_ids.specs.declared.BlockNo.{BlockNo}
 use Rattle.sprite_ids.specs.declared.DeviceId.{DeviceId}
 use Rattle.sprite_ids.specs.declared.FileId.{FileId}
@@ -8,12 +8,8 @@ use Rattle.sprite_ids.specs.declared.Object.TheVariants as objects
 use Rattle.sprite_ids.specs.declared.StreamNo.{StreamNo}
 use Rattle.sprite_ids.specs.declared.TxNo.{TxNo}
 use Rattle.process_machine.specs.declared.Reply.{Reply}
-use Rattle.block_cache.specs.declared.Filled.{Filled}
-use Rattle.block_cache.specs.declared.Filled.TheVariants as fillings
 use Rattle.block_cache.specs.Blocks.{dirty_at}
-use Rattle.block_cache.specs.Held as held
-use Rattle.block_cache.specs.Held.{is_full, write_back_next}
-use Rattle.block_cache.specs.Ranges.{block_count, first_block}
+use Rattle.block_cache.specs.Held.{write_back_next}
 use Rattle.stream_table.specs.declared.Place.TheVariants.{Local}
 use Rattle.stream_table.specs.declared.Stream.{Stream}
 use Rattle.stream_table.specs.Entries.{may_be_at}
@@ -31,12 +27,8 @@ use Rattle.client_file_tables.specs.declared.states.CloseState.TheVariants as cl
 use Rattle.client_file_tables.specs.declared.states.MoveState.{MoveState}
 use Rattle.client_file_tables.specs.declared.states.MoveState.TheVariants as move_states
 use Rattle.client_file_tables.specs.declared.works.DataCall.{DataCall}
-use Rattle.client_file_tables.specs.declared.works.DataKind.{DataKind}
-use Rattle.client_file_tables.specs.declared.works.DataKind.TheVariants as kinds
 use Rattle.client_file_tables.specs.declared.works.SyncCall.{SyncCall}
 use Rattle.client_file_tables.specs.Blocks as blocks
-use Rattle.client_file_tables.specs.Blocks.{state_in, with_cache}
-use Rattle.client_file_tables.specs.Extents.{is_within}
 use Rattle.client_file_tables.specs.Fillers as fillers
 use Rattle.client_file_tables.specs.Fillers.{is_filling}
 use Rattle.client_file_tables.specs.Locks as locking
@@ -62,9 +54,9 @@ use Rattle.client_streams.specs.Closing as closing
 use Rattle.client_streams.specs.Descriptors as descriptors
 use Rattle.client_streams.specs.Moving as moving
 use Rattle.client_file_tables.specs.Calls.{data_call}
-use Rattle.unix_calls.specs.declared.Event.TheVariants as events
 use Rattle.block_cache.specs.declared.Block.{Block}
-use Rattle.block_cache.specs.declared.BlockKey.{BlockKey}
+use Rattle.client_facts.proofs.BlockLaws as block_laws
+use Rattle.client_facts.proofs.BlockLaws.{SeesNoBlocks}
 use Rattle.client_facts.proofs.LockLaws as turns
 use Rattle.client_facts.proofs.LockLaws.{SeesNoTurns}
 use Rattle.client_rounds.proofs.Ledgers.{Ledger, RunsClose, RunsData, RunsMove, RunsSync, closed_more, ledger_of}
@@ -82,102 +74,18 @@ module _ (Q : Ledger → Type 0) where
   pub no_turns : SeesNoTurns P
   no_turns = record { streams = λ s streams p. p; waits = λ s rows p. p; fillers = λ s pids p. p; woken = λ s pid p. p }
 
+  pub no_blocks : SeesNoBlocks P
+  no_blocks = record { caches = λ s cache p. p; lists = λ s file block p. p; filled = λ s file block p. p; dirtied = λ s file block p. p; dropped = λ s file block p. p }
+
   pub moves_offset : (stream : StreamNo) (offset : ℕ) (s : ClientFiles) → P s → P (streams.moves_offset stream offset s)
   moves_offset stream offset s p = on_if (may_be_at (Local offset) (stream_at stream s)) _ s p p
-
-  fills_as : (filled : Filled) (file : FileId) (block : BlockNo) (s : ClientFiles) → P s → P (blocks.fills_as filled file block s)
-  fills_as fillings.Filled file block s p = p
-  fills_as fillings.Kept file block s p = p
-  fills_as fillings.Old file block s p = p
-  fills_as fillings.Full file block s p = p
-
-  pub fills : (file : FileId) (stamp : ℕ) (block : BlockNo) (bytes : List ℕ) (s : ClientFiles) → P s → P (blocks.fills file stamp block bytes s)
-  fills file stamp block bytes s p =
-      let answer = held.fill_answer s.cache file stamp block.0 in
-      on_if (blocks.may_fill file block bytes s) _ s (fills_as answer file block (with_cache (held.after_fill s.cache file block bytes answer) s) p) p
-
-  reads_found : (o : Option BlockNo) (file : FileId) (extent : Extent) (s : ClientFiles) → P s → P (blocks.reads_found o file extent s)
-  reads_found None file extent s p = p
-  reads_found (Some block) file extent s p = p
-
-  reads : (file : FileId) (extent : Extent) (s : ClientFiles) → P s → P (blocks.reads file extent s)
-  reads file extent s p = on_if (blocks.may_use file extent s) _ s (reads_found (held.missing s.cache file extent.from extent.length) file extent s p) p
-
-  writes_found : (o : Option BlockNo) (file : FileId) (start : ℕ) (bytes : List ℕ) (s : ClientFiles) → P s → P (blocks.writes_found o file start bytes s)
-  writes_found None file start bytes s p = p
-  writes_found (Some block) file start bytes s p = p
-
-  writes : (file : FileId) (start : ℕ) (bytes : List ℕ) (s : ClientFiles) → P s → P (blocks.writes file start bytes s)
-  writes file start bytes s p = on_if (blocks.may_write file start bytes s) _ s (writes_found _ file start bytes s p) p
-
-  writes_by : (kind : DataKind) (file : FileId) (start : ℕ) (s : ClientFiles) → P s → P (cached.writes_by kind file start s)
-  writes_by (kinds.Write bytes) file start s p = writes file start bytes s p
-  writes_by (kinds.Read many) file start s p = p
-  writes_by (kinds.Seek to) file start s p = p
-  writes_by kinds.Size file start s p = p
-
-  notes_full : (o : Option (BlockKey × Block)) (s : ClientFiles) → P s → P (blocks.notes_full o s)
-  notes_full (Some entry) s p = p
-  notes_full None s p = p
-
-  drops_full : (file : FileId) (extent : Extent) (s : ClientFiles) → P s → P (blocks.drops_full file extent s)
-  drops_full file extent s p = on_if (is_within extent) _ s (notes_full (blocks.clean_outside file extent s) (with_cache (held.after_drop s.cache file _ _) s) p) p
-
-  lists_by : (o : Option TxNo) (file : FileId) (block : BlockNo) (s : ClientFiles) → P s → P (backs.lists_by o file block s)
-  lists_by (Some tx) file block s p = p
-  lists_by None file block s p = p
-
-  dirties : (file : FileId) (block : BlockNo) (s : ClientFiles) → P s → P (backs.dirties file block s)
-  dirties file block s p = let told : ClientFiles = says.notes (events.Dirtied file block) s in lists_by (current_write_back file block told) file block told p
-
-  dirties_from : (file : FileId) (first count : ℕ) (s : ClientFiles) → P s → P (backs.dirties_from file first count s)
-  dirties_from file first zero s p = p
-  dirties_from file first (suc count) s p = dirties file (record { 0 = first + count }) (backs.dirties_from file first count s) (dirties_from file first count s p)
-
-  dirties_all : (file : FileId) (extent : Extent) (s : ClientFiles) → P s → P (backs.dirties_all file extent s)
-  dirties_all file extent s p = on_if (is_within extent) _ s (dirties_from file (first_block extent.from) (block_count extent.from extent.length) s p) p
 
   pub finishes : (pid : ℕ) (stream : StreamNo) (s : ClientFiles) → P s → P (finishing.finishes pid stream s)
   finishes pid stream s p = turns.unlocks P no_turns stream (fillers.leaves_filling pid s) (turns.leaves_filling P no_turns pid s p)
 
-  makes_room : (file : FileId) (extent : Extent) (s : ClientFiles) → P s → P (filling.makes_room file extent s)
-  makes_room file extent s p = on_if (is_full s.cache) _ s (drops_full file extent s p) p
-
-  zeros_within : (file : FileId) (extent : Extent) (block : BlockNo) (s : ClientFiles) → P s → P (filling.zeros_within file extent block s)
-  zeros_within file extent block s p =
-      let roomy : ClientFiles = filling.makes_room file extent s in
-      on_if (filling.gets_room file extent s) _ roomy (fills file (state_in file roomy).stamp block [] roomy (makes_room file extent s p)) (makes_room file extent s p)
-
-  zeros_first : (o : Option BlockNo) (file : FileId) (extent : Extent) (s : ClientFiles) → P s → P (filling.zeros_first o file extent s)
-  zeros_first (Some block) file extent s p = on_if (filling.is_past_end file block s) _ s (zeros_within file extent block s p) p
-  zeros_first None file extent s p = p
-
-  zero_turns : (count : ℕ) (file : FileId) (extent : Extent) (s : ClientFiles) → P s → P (filling.zero_turns count file extent s)
-  zero_turns zero file extent s p = p
-  zero_turns (suc count) file extent s p =
-      let before : ClientFiles = filling.zero_turns count file extent s in
-      zeros_first (blocks.missing_in file extent before) file extent before (zero_turns count file extent s p)
-
-  fills_zeros : (file : FileId) (extent : Extent) (s : ClientFiles) → P s → P (filling.fills_zeros file extent s)
-  unfolding filling.fills_zeros
-  fills_zeros file extent s p = zero_turns 5 file extent s p
-
   enters_closed : (cause : ClosingOf) (pid : ℕ) (s : ClientFiles) → P s → P (closing.enters_closed pid cause s)
   enters_closed (closings.Call number fd) pid s p = p
   enters_closed (closings.End about) pid s p = p
-
-  drops_by : (o : Option StreamNo) (pid fd : ℕ) (stream : StreamNo) (s : ClientFiles) → P s → P (descriptors.drops_by pid fd stream o s)
-  drops_by (Some other) pid fd stream s p = on_if _ _ s p p
-  drops_by None pid fd stream s p = p
-
-  drops_under : (fd pid : ℕ) (stream : StreamNo) (s : ClientFiles) → P s → P (descriptors.drops_under fd pid stream s)
-  drops_under zero pid stream s p = p
-  drops_under (suc fd) pid stream s p =
-      let before : ClientFiles = descriptors.drops_under fd pid stream s in
-      drops_by (descriptor before.streams.owners pid fd) pid fd stream before (drops_under fd pid stream s p)
-
-  drops_each : (pid : ℕ) (stream : StreamNo) (s : ClientFiles) → P s → P (descriptors.drops_each pid stream s)
-  drops_each pid stream s p = drops_under descriptors.descriptor_count pid stream s p
 
 -- Operations on files' data
 
@@ -197,14 +105,14 @@ module _ (pid : ℕ) (Q R : Ledger → Type 0) (runs : RunsData pid Q R) where
   reads_cached : (call : DataCall) (extent : Extent) (s : ClientFiles) → Before s → Behind (cached.reads_cached pid call extent s)
   reads_cached call extent s p =
       let used : ClientFiles = blocks.reads call.file extent s in
-      ends_here call _ (streams.moves_offset call.stream (extent.from + extent.length) used) (moves_offset Q call.stream (extent.from + extent.length) used (reads Q call.file extent s p))
+      ends_here call _ (streams.moves_offset call.stream (extent.from + extent.length) used) (moves_offset Q call.stream (extent.from + extent.length) used (block_laws.reads (P Q) (no_blocks Q) call.file extent s p))
 
   writes_cached : (call : DataCall) (extent : Extent) (s : ClientFiles) → Before s → Behind (cached.writes_cached pid call extent s)
   writes_cached call extent s p =
       let put : ClientFiles = cached.writes_bytes call extent.from s in
       let dirty : ClientFiles = backs.dirties_all call.file extent put in
       ends_here call _ (streams.moves_offset call.stream (extent.from + extent.length) dirty)
-      (moves_offset Q call.stream (extent.from + extent.length) dirty (dirties_all Q call.file extent put (writes_by Q call.kind call.file extent.from s p)))
+      (moves_offset Q call.stream (extent.from + extent.length) dirty (block_laws.dirties_all (P Q) (no_blocks Q) call.file extent put (block_laws.writes_by (P Q) (no_blocks Q) call.kind call.file extent.from s p)))
 
   does_cached : (call : DataCall) (extent : Extent) (s : ClientFiles) → Before s → Behind (cached.does_cached pid call extent s)
   does_cached call extent s p = on_if R (cached.is_write call.kind) _ _ (writes_cached call extent s p) (reads_cached call extent s p)
@@ -223,14 +131,14 @@ module _ (pid : ℕ) (Q R : Ledger → Type 0) (runs : RunsData pid Q R) where
   needs_first : (o : Option BlockNo) (call : DataCall) (extent : Extent) (s : ClientFiles) → Before s → Behind (filling.needs_first o pid call extent s)
   needs_first (Some block) call extent s p =
       let roomy : ClientFiles = filling.makes_room call.file extent s in
-      let so = makes_room Q call.file extent s p in
+      let so = block_laws.makes_room (P Q) (no_blocks Q) call.file extent s p in
       on_if R (filling.gets_room call.file extent s) _ _ (fetches call block roomy so) (waits_oldest (write_back_next roomy.cache None) call roomy so)
   needs_first None call extent s p = does_cached call extent s p
 
   fills_own : (call : DataCall) (extent : Extent) (s : ClientFiles) → Before s → Behind (filling.fills_own pid call extent s)
   fills_own call extent s p =
       let filled : ClientFiles = filling.fills_zeros call.file extent s in
-      needs_first (cached.missing_of call extent filled) call extent filled (fills_zeros Q call.file extent s p)
+      needs_first (cached.missing_of call extent filled) call extent filled (block_laws.fills_zeros (P Q) (no_blocks Q) call.file extent s p)
 
   fills_first : (call : DataCall) (extent : Extent) (s : ClientFiles) → Before s → Behind (filling.fills_first pid call extent s)
   fills_first call extent s p =
@@ -345,9 +253,9 @@ module _ (pid : ℕ) (Q R : Ledger → Type 0) (runs : RunsMove pid Q R) where
       let locked : ClientFiles = locking.locks pid work.stream s in
       let so = turns.locks (P Q) (no_turns Q) pid work.stream s p in
       let dropped : ClientFiles = descriptors.drops_each pid work.stream locked in
-      on_if R (gets_lock pid work.stream s) _ _ (runs.waits (ledger_of dropped) _ (drops_each Q pid work.stream locked so)) (runs.waits (ledger_of locked) work so)
-  moves_object (objects.Device device) work stream s p = runs.ends (ledger_of (descriptors.drops_each pid work.stream s)) stream.place None 1 (drops_each Q pid work.stream s p)
-  moves_object (objects.Master device) work stream s p = runs.ends (ledger_of (descriptors.drops_each pid work.stream s)) stream.place None 1 (drops_each Q pid work.stream s p)
+      on_if R (gets_lock pid work.stream s) _ _ (runs.waits (ledger_of dropped) _ (turns.drops_each (P Q) (no_turns Q) pid work.stream locked so)) (runs.waits (ledger_of locked) work so)
+  moves_object (objects.Device device) work stream s p = runs.ends (ledger_of (descriptors.drops_each pid work.stream s)) stream.place None 1 (turns.drops_each (P Q) (no_turns Q) pid work.stream s p)
+  moves_object (objects.Master device) work stream s p = runs.ends (ledger_of (descriptors.drops_each pid work.stream s)) stream.place None 1 (turns.drops_each (P Q) (no_turns Q) pid work.stream s p)
 
   moves_on_by : (o : Option Stream) (work : MoveWork) (s : ClientFiles) → Q (ledger_of s) → R (ledger_of (moving.moves_on_by o pid work s))
   moves_on_by (Some stream) work s p = moves_object stream.object work stream s p

@@ -1,5 +1,5 @@
 -- What the deeds of a client's kernel do to what is on its way to a process, and to the state in which it waits.
-use Rattle.std.proofs.Common.{arith, ◌≡◌, ℕ, ◌+◌, ◌≤◌, ◌==◌, Bool, true, false, ◌&&◌, ◌||◌, not, cond, List, [], ◌∷◌, length, Option, Some, None, option_map, is_some, refl, sym, ap, ◌∙◌, subst, length-set}
+use Rattle.std.proofs.Common.{arith, ◌≡◌, ℕ, ◌+◌, ◌≤◌, ◌==◌, Bool, true, false, ◌&&◌, ◌||◌, not, cond, List, [], ◌∷◌, length, Option, Some, None, option_map, is_some, refl, sym, ap, ◌∙◌, subst}
 use Rattle.std.proofs.lemmas.Bool.{and_parts, eq-eqb, eqb-true, le-leb}
 use Rattle.std.specs.List.{find, list_any, position}
 use Rattle.std.specs.Map.{lookup, set_value}
@@ -56,11 +56,9 @@ use Rattle.client_moves.specs.Freezing as freezing
 use Rattle.client_moves.specs.Leaving as leaving_of
 use Rattle.client_moves.specs.Returning as returning
 use Rattle.client_facts.specs.GoingOn.{has_few_fds}
+use Rattle.client_facts.proofs.BirthLaws.{length_ending, length_killing, length_put, length_waiting}
 use Rattle.client_facts.proofs.PlaceLaws.{by_bool}
 use Rattle.client_facts.proofs.RowLaws.{all_append}
-use Rattle.home_table.specs.declared.birth.Birth.{Birth}
-use Rattle.home_table.specs.declared.birth.Life.{Life}
-use Rattle.home_table.specs.declared.birth.Life.TheVariants as lives
 use Rattle.home_table.specs.Home as home_tables
 use Rattle.home_table.specs.Home.{Table}
 use Rattle.sprite_ids.specs.declared.Ending.{Ending}
@@ -73,40 +71,10 @@ use Rattle.client_moves.specs.Evicting as evicting
 use Rattle.client_facts.specs.ProcFacts.{gets_from, is_moving_in}
 use Rattle.client_rounds.specs.OneThing.{busy_of, call_of, getter_of, getting_of, is_busy, moving_of, waits_for}
 use Rattle.client_rounds.specs.Rounds.{IsUnderWay, ask_of, is_work, move_of, moved_of, of_process, wait_of, work_of}
-use Rattle.client_rounds.proofs.DeedLaws.{Way, each_less, fds_few, found_last, goes_frozen, goes_on_from, none_there, self_one, way_found}
+use Rattle.client_rounds.proofs.DeedLaws.{Way, fds_few, found_last, goes_frozen, goes_on_from, none_there, self_one, way_found}
 use Rattle.client_rounds.proofs.Standing.{Bal, busy_apart, cond_most, idle_apart, is_at_pid, moves_now, none_here, one_most, total_at, total_gone, total_there, whole_of}
 use Rattle.client_rounds.proofs.Totals.{less_none, removed_none, total_first, total_found, total_less, total_push, total_set}
-
--- Births that a home knows
-
-length_put : (o : Option Birth) (births : List Birth) (at : ℕ) → length (home_tables.put births at o) ≡ length births
-length_put (Some birth) births at = length-set births at birth
-length_put None births at = refl
-
-length_life : (births : List Birth) (at : ℕ) (life : Life) → length (home_tables.with_life births at life) ≡ length births
-length_life births at life = length_put _ births at
-
-length_ending : (o : Option Life) (births : List Birth) (at : ℕ) (how : Ending) → length (home_tables.ending births at how o) ≡ length births
-length_ending (Some (lives.Living pending)) births at how = length_life births at (lives.Ended how)
-length_ending (Some (lives.Ended before)) births at how = refl
-length_ending (Some (lives.Waited before)) births at how = refl
-length_ending None births at how = refl
-
-length_killing : (o : Option Life) (births : List Birth) (at : ℕ) → length (home_tables.killing births at o) ≡ length births
-length_killing (Some (lives.Living pending)) births at = length_life births at (lives.Living true)
-length_killing (Some (lives.Ended before)) births at = refl
-length_killing (Some (lives.Waited before)) births at = refl
-length_killing None births at = refl
-
-length_telling : (o : Option Life) (births : List Birth) (at : ℕ) → length (home_tables.telling births at o) ≡ length births
-length_telling (Some (lives.Ended how)) births at = length_life births at (lives.Waited how)
-length_telling (Some (lives.Living pending)) births at = refl
-length_telling (Some (lives.Waited how)) births at = refl
-length_telling None births at = refl
-
-length_waiting : (o : Option ℕ) (births : List Birth) → length (home_tables.waiting births o) ≡ length births
-length_waiting (Some at) births = length_telling _ births at
-length_waiting None births = refl
+use Rattle.client_walks.proofs.RowLaws.{each_less}
 
 cond_zero : (b : Bool) (n : ℕ) → n ≡ 0 → cond b 0 n ≡ 0
 cond_zero true n h = refl

@@ -1,5 +1,5 @@
 -- Each process stands in at most one place when the cluster begins, and when a process did instructions.
-use Rattle.std.proofs.Common.{arith, ◌≡◌, ℕ, ◌+◌, ◌*◌, ◌<◌, ◌≤◌, Bool, true, false, ◌&&◌, ◌||◌, not, cond, List, [], ◌∷◌, length, Option, Some, None, option_map, slice_get, refl}
+use Rattle.std.proofs.Common.{arith, ◌≡◌, ℕ, ◌+◌, ◌*◌, ◌<◌, ◌≤◌, Bool, true, false, ◌||◌, not, cond, List, [], ◌∷◌, length, Option, Some, None, option_map, slice_get, refl, subst}
 use Rattle.std.proofs.lemmas.Bool.{and_parts, eq-eqb}
 use Rattle.std.proofs.lemmas.Nat.{div-add-mod'}
 use Rattle.std.specs.List.{list_all}
@@ -36,23 +36,16 @@ known test s pid h e =
     let parts = div-add-mod' pid 1000 in
     omega arith
 
-and_so : (a b : Bool) → (a && b) ≡ true → b ≡ true
-and_so a b h = (and_parts a b h).1
-
 if_so : (a b : Bool) → cond a b false ≡ true → b ≡ true
 if_so true b h = h
 if_so false b h = absurd (cc)
 
-or_so : (a b : Bool) → a ≡ true → (not a || b) ≡ true → b ≡ true
-or_so true b e h = h
-or_so false b e h = absurd (cc)
-
 alive_by : (state : ProcState) (s : ClientProcs) (pid : ℕ) → lives_or_ends pid state s ≡ true → home_of pid ≡ s.home.home → pid ≤ 1000 * s.home.home + length s.home.births
-alive_by states.Ending s pid h e = known (λ life. not (is_living life)) s pid (and_so (is_native pid s) _ h) e
+alive_by states.Ending s pid h e = known (λ life. not (is_living life)) s pid (and_parts (is_native pid s) _ h).1 e
 alive_by state s pid h e = known is_living s pid (if_so (is_native pid s) _ h) e
 
 alive_born : (s : ClientProcs) (row : ℕ × Proc) → is_alive_here s row ≡ true → IsBornAt s.home row.0
-alive_born s row h e = alive_by row.1.state s row.0 (or_so (is_native row.0 s) (lives_or_ends row.0 row.1.state s) (eq-eqb (home_of row.0) s.home.home e) h) e
+alive_born s row h e = alive_by row.1.state s row.0 (subst (λ (t : Bool). (not t || (lives_or_ends row.0 row.1.state s)) ≡ true) (eq-eqb (home_of row.0) s.home.home e) h) e
 
 all_born : (s : ClientProcs) (rows : List (ℕ × Proc)) → list_all (is_alive_here s) rows ≡ true → AreBornAt s.home rows
 all_born s [] h = tt

@@ -1,6 +1,6 @@
 -- The files' side of a client's kernel, but for names: its operations wait in no broadcast, its requests ask for no prefix, and nothing is
 -- learned or told of one.
-use Rattle.std.proofs.Common.{◌≡◌, ℕ, zero, suc, ◌+◌, Bool, true, false, cond, List, [], ◌∷◌, ◌++◌, Option, Some, None, is_some, refl}
+use Rattle.std.proofs.Common.{◌≡◌, ℕ, zero, ◌+◌, Bool, true, false, cond, List, [], ◌∷◌, ◌++◌, Option, Some, None, is_some, refl}
 use Rattle.std.specs.List.{list_any}
 use Rattle.sprite_ids.specs.declared.BlockNo.{BlockNo}
 use Rattle.sprite_ids.specs.declared.CallKind.{CallKind}
@@ -29,14 +29,11 @@ use Rattle.unix_calls.specs.declared.Event.TheVariants as events
 use Rattle.unix_calls.specs.declared.SendKind.{SendKind}
 use Rattle.unix_calls.specs.declared.SendKind.TheVariants as sendings
 use Rattle.block_cache.specs.declared.Block.{Block}
-use Rattle.block_cache.specs.declared.BlockKey.{BlockKey}
 use Rattle.block_cache.specs.declared.Filled.{Filled}
-use Rattle.block_cache.specs.declared.Filled.TheVariants as fillings
 use Rattle.block_cache.specs.Blocks.{dirty_at}
 use Rattle.block_cache.specs.Files as cached_files
 use Rattle.block_cache.specs.Held as held
-use Rattle.block_cache.specs.Held.{is_full, is_newer, is_written_back, write_back_next}
-use Rattle.block_cache.specs.Ranges.{block_count, first_block}
+use Rattle.block_cache.specs.Held.{is_newer, is_written_back, write_back_next}
 use Rattle.stream_table.specs.declared.Place.{Place}
 use Rattle.stream_table.specs.declared.Place.TheVariants.{Local, Shared}
 use Rattle.stream_table.specs.declared.Stream.{Stream}
@@ -65,7 +62,6 @@ use Rattle.client_file_tables.specs.declared.works.SyncCall.{SyncCall}
 use Rattle.client_file_tables.specs.declared.works.WriteBackOut.{WriteBackOut}
 use Rattle.client_file_tables.specs.Blocks as blocks
 use Rattle.client_file_tables.specs.Blocks.{state_in, with_cache}
-use Rattle.client_file_tables.specs.Extents.{is_within}
 use Rattle.client_file_tables.specs.Fillers as fillers
 use Rattle.client_file_tables.specs.Fillers.{is_filling}
 use Rattle.client_file_tables.specs.Locks as locking
@@ -96,6 +92,8 @@ use Rattle.client_streams.specs.Descriptors as descriptors
 use Rattle.client_streams.specs.Moving as moving
 use Rattle.kernel_steps.specs.declared.Sending.{Sending}
 use Rattle.call_journal.specs.Unreachable.{is_unreachable_entry}
+use Rattle.client_facts.proofs.BlockLaws as block_laws
+use Rattle.client_facts.proofs.BlockLaws.{SeesNoBlocks}
 use Rattle.client_facts.proofs.LockLaws as turns
 use Rattle.client_facts.proofs.LockLaws.{SeesNoTurns}
 use Rattle.client_walks.proofs.Bearing.{BearsTelling, Seen, asks_none, is_quiet, seen_of}
@@ -149,6 +147,17 @@ module _ (came : Input) (Q : Seen → Type 0) (bears : BearsTelling came Q) wher
   no_turns : SeesNoTurns P
   no_turns = record { streams = λ s streams p. p; waits = λ s rows p. p; fillers = λ s pids p. p; woken = λ s pid p. p }
 
+  -- Nor are blocks, of which nothing is told that a prefix or a cause needs
+
+  no_blocks : SeesNoBlocks P
+  no_blocks = record {
+    caches = λ s cache p. p;
+    lists = λ s file block p. p;
+    filled = λ s file block p. noted (events.Filled file block) s refl p;
+    dirtied = λ s file block p. noted (events.Dirtied file block) s refl p;
+    dropped = λ s file block p. noted (events.Dropped file block causes.Full) s refl p;
+  }
+
   -- Streams
 
   pub moves_place : (stream : StreamNo) (place : Place) (s : ClientFiles) → P s → P (streams.moves_place stream place s)
@@ -162,56 +171,7 @@ module _ (came : Input) (Q : Seen → Type 0) (bears : BearsTelling came Q) wher
 
   -- Blocks
 
-  fills_as : (filled : Filled) (file : FileId) (block : BlockNo) (s : ClientFiles) → P s → P (blocks.fills_as filled file block s)
-  fills_as fillings.Filled file block s p = noted (events.Filled file block) s refl p
-  fills_as fillings.Kept file block s p = p
-  fills_as fillings.Old file block s p = p
-  fills_as fillings.Full file block s p = p
-
-  fills : (file : FileId) (stamp : ℕ) (block : BlockNo) (bytes : List ℕ) (s : ClientFiles) → P s → P (blocks.fills file stamp block bytes s)
-  fills file stamp block bytes s p =
-      let answer = held.fill_answer s.cache file stamp block.0 in
-      on_if (blocks.may_fill file block bytes s) _ s (fills_as answer file block (with_cache (held.after_fill s.cache file block bytes answer) s) p) p
-
-  reads_found : (o : Option BlockNo) (file : FileId) (extent : Extent) (s : ClientFiles) → P s → P (blocks.reads_found o file extent s)
-  reads_found None file extent s p = p
-  reads_found (Some block) file extent s p = p
-
-  reads : (file : FileId) (extent : Extent) (s : ClientFiles) → P s → P (blocks.reads file extent s)
-  reads file extent s p = on_if (blocks.may_use file extent s) _ s (reads_found (held.missing s.cache file extent.from extent.length) file extent s p) p
-
-  writes_found : (o : Option BlockNo) (file : FileId) (start : ℕ) (bytes : List ℕ) (s : ClientFiles) → P s → P (blocks.writes_found o file start bytes s)
-  writes_found None file start bytes s p = p
-  writes_found (Some block) file start bytes s p = p
-
-  writes : (file : FileId) (start : ℕ) (bytes : List ℕ) (s : ClientFiles) → P s → P (blocks.writes file start bytes s)
-  writes file start bytes s p = on_if (blocks.may_write file start bytes s) _ s (writes_found _ file start bytes s p) p
-
-  notes_full : (o : Option (BlockKey × Block)) (s : ClientFiles) → P s → P (blocks.notes_full o s)
-  notes_full (Some entry) s p = noted (events.Dropped entry.0.file entry.0.block causes.Full) s refl p
-  notes_full None s p = p
-
-  drops_full : (file : FileId) (extent : Extent) (s : ClientFiles) → P s → P (blocks.drops_full file extent s)
-  drops_full file extent s p = on_if (is_within extent) _ s (notes_full (blocks.clean_outside file extent s) (with_cache (held.after_drop s.cache file _ _) s) p) p
-
   -- Blocks that are listed
-
-  lists_by : (o : Option TxNo) (file : FileId) (block : BlockNo) (s : ClientFiles) → P s → P (backs.lists_by o file block s)
-  lists_by (Some tx) file block s p = p
-  lists_by None file block s p = p
-
-  lists_free : (file : FileId) (block : BlockNo) (s : ClientFiles) → P s → P (backs.lists_free file block s)
-  lists_free file block s p = lists_by (current_write_back file block s) file block s p
-
-  dirties : (file : FileId) (block : BlockNo) (s : ClientFiles) → P s → P (backs.dirties file block s)
-  dirties file block s p = lists_free file block (says.notes (events.Dirtied file block) s) (noted (events.Dirtied file block) s refl p)
-
-  dirties_from : (file : FileId) (first count : ℕ) (s : ClientFiles) → P s → P (backs.dirties_from file first count s)
-  dirties_from file first zero s p = p
-  dirties_from file first (suc count) s p = dirties file (record { 0 = first + count }) (backs.dirties_from file first count s) (dirties_from file first count s p)
-
-  dirties_all : (file : FileId) (extent : Extent) (s : ClientFiles) → P s → P (backs.dirties_all file extent s)
-  dirties_all file extent s p = on_if (is_within extent) _ s (dirties_from file (first_block extent.from) (block_count extent.from extent.length) s p) p
 
   -- Grants and callbacks
 
@@ -261,47 +221,19 @@ module _ (came : Input) (Q : Seen → Type 0) (bears : BearsTelling came Q) wher
   reads_cached : (pid : ℕ) (call : DataCall) (extent : Extent) (s : ClientFiles) → P s → P (cached.reads_cached pid call extent s)
   reads_cached pid call extent s p =
       let used : ClientFiles = blocks.reads call.file extent s in
-      ends_here pid call _ (streams.moves_offset call.stream (extent.from + extent.length) used) refl (moves_offset call.stream (extent.from + extent.length) used (reads call.file extent s p))
-
-  writes_by : (kind : DataKind) (file : FileId) (start : ℕ) (s : ClientFiles) → P s → P (cached.writes_by kind file start s)
-  writes_by (kinds.Write bytes) file start s p = writes file start bytes s p
-  writes_by (kinds.Read many) file start s p = p
-  writes_by (kinds.Seek to) file start s p = p
-  writes_by kinds.Size file start s p = p
+      ends_here pid call _ (streams.moves_offset call.stream (extent.from + extent.length) used) refl (moves_offset call.stream (extent.from + extent.length) used (block_laws.reads P no_blocks call.file extent s p))
 
   writes_cached : (pid : ℕ) (call : DataCall) (extent : Extent) (s : ClientFiles) → P s → P (cached.writes_cached pid call extent s)
   writes_cached pid call extent s p =
       let put : ClientFiles = cached.writes_bytes call extent.from s in
       let dirty : ClientFiles = backs.dirties_all call.file extent put in
       ends_here pid call _ (streams.moves_offset call.stream (extent.from + extent.length) dirty) refl
-      (moves_offset call.stream (extent.from + extent.length) dirty (dirties_all call.file extent put (writes_by call.kind call.file extent.from s p)))
+      (moves_offset call.stream (extent.from + extent.length) dirty (block_laws.dirties_all P no_blocks call.file extent put (block_laws.writes_by P no_blocks call.kind call.file extent.from s p)))
 
   does_cached : (pid : ℕ) (call : DataCall) (extent : Extent) (s : ClientFiles) → P s → P (cached.does_cached pid call extent s)
   does_cached pid call extent s p = on_if (cached.is_write call.kind) _ _ (writes_cached pid call extent s p) (reads_cached pid call extent s p)
 
   -- Blocks that are needed
-
-  makes_room : (file : FileId) (extent : Extent) (s : ClientFiles) → P s → P (filling.makes_room file extent s)
-  makes_room file extent s p = on_if (is_full s.cache) _ s (drops_full file extent s p) p
-
-  zeros_within : (file : FileId) (extent : Extent) (block : BlockNo) (s : ClientFiles) → P s → P (filling.zeros_within file extent block s)
-  zeros_within file extent block s p =
-      let roomy : ClientFiles = filling.makes_room file extent s in
-      on_if (filling.gets_room file extent s) _ roomy (fills file (state_in file roomy).stamp block [] roomy (makes_room file extent s p)) (makes_room file extent s p)
-
-  zeros_first : (o : Option BlockNo) (file : FileId) (extent : Extent) (s : ClientFiles) → P s → P (filling.zeros_first o file extent s)
-  zeros_first (Some block) file extent s p = on_if (filling.is_past_end file block s) _ s (zeros_within file extent block s p) p
-  zeros_first None file extent s p = p
-
-  zero_turns : (count : ℕ) (file : FileId) (extent : Extent) (s : ClientFiles) → P s → P (filling.zero_turns count file extent s)
-  zero_turns zero file extent s p = p
-  zero_turns (suc count) file extent s p =
-      let before : ClientFiles = filling.zero_turns count file extent s in
-      zeros_first (blocks.missing_in file extent before) file extent before (zero_turns count file extent s p)
-
-  fills_zeros : (file : FileId) (extent : Extent) (s : ClientFiles) → P s → P (filling.fills_zeros file extent s)
-  unfolding filling.fills_zeros
-  fills_zeros file extent s p = zero_turns 5 file extent s p
 
   pub sends_back : (file : FileId) (block : BlockNo) (number : ℕ) (about : Option About) (s : ClientFiles) → P s → P (written.sends_back file block number about s)
   sends_back file block number about s p = sent (written.write_back_sending file block about s) (sendings.WriteBack file block) s refl p
@@ -320,14 +252,14 @@ module _ (came : Input) (Q : Seen → Type 0) (bears : BearsTelling came Q) wher
   needs_first : (o : Option BlockNo) (pid : ℕ) (call : DataCall) (extent : Extent) (s : ClientFiles) → P s → P (filling.needs_first o pid call extent s)
   needs_first (Some block) pid call extent s p =
       let roomy : ClientFiles = filling.makes_room call.file extent s in
-      let so = makes_room call.file extent s p in
+      let so = block_laws.makes_room P no_blocks call.file extent s p in
       on_if (filling.gets_room call.file extent s) _ _ (fetches pid call block roomy so) (waits_oldest (write_back_next roomy.cache None) pid call roomy so)
   needs_first None pid call extent s p = does_cached pid call extent s p
 
   fills_own : (pid : ℕ) (call : DataCall) (extent : Extent) (s : ClientFiles) → P s → P (filling.fills_own pid call extent s)
   fills_own pid call extent s p =
       let filled : ClientFiles = filling.fills_zeros call.file extent s in
-      needs_first (cached.missing_of call extent filled) pid call extent filled (fills_zeros call.file extent s p)
+      needs_first (cached.missing_of call extent filled) pid call extent filled (block_laws.fills_zeros P no_blocks call.file extent s p)
 
   fills_first : (pid : ℕ) (call : DataCall) (extent : Extent) (s : ClientFiles) → P s → P (filling.fills_first pid call extent s)
   fills_first pid call extent s p =
@@ -381,7 +313,7 @@ module _ (came : Input) (Q : Seen → Type 0) (bears : BearsTelling came Q) wher
   served body pid call s p = kept_data pid _ s p
 
   takes_block : (body : ReplyBody) (file : FileId) (block : BlockNo) (s : ClientFiles) → P s → P (replied.takes_block file block body s)
-  takes_block (bodies.Block stamp bytes) file block s p = fills file stamp block bytes s p
+  takes_block (bodies.Block stamp bytes) file block s p = block_laws.fills P no_blocks file stamp block bytes s p
   takes_block (bodies.Again grant) file block s p = takes_grant grant s p
   takes_block body file block s p = p
 
@@ -449,7 +381,7 @@ module _ (came : Input) (Q : Seen → Type 0) (bears : BearsTelling came Q) wher
   settles_back body back s p = cleans_back back s p
 
   lists_again : (o : Option ℕ) (file : FileId) (block : BlockNo) (s : ClientFiles) → P s → P (written.lists_by o file block s)
-  lists_again (Some number) file block s p = on_if (listed s.delay file block) s _ p (lists_free file block s p)
+  lists_again (Some number) file block s p = on_if (listed s.delay file block) s _ p (block_laws.lists_free P no_blocks file block s p)
   lists_again None file block s p = p
 
   done_first : (o : Option WriteBackOut) (tx : TxNo) (body : ReplyBody) (s : ClientFiles) → P s → P (written.done_first tx body o s)
@@ -524,28 +456,15 @@ module _ (came : Input) (Q : Seen → Type 0) (bears : BearsTelling came Q) wher
 
   -- Moves
 
-  drops_by : (o : Option StreamNo) (pid fd : ℕ) (stream : StreamNo) (s : ClientFiles) → P s → P (descriptors.drops_by pid fd stream o s)
-  drops_by (Some other) pid fd stream s p = on_if _ _ s p p
-  drops_by None pid fd stream s p = p
-
-  drops_under : (fd pid : ℕ) (stream : StreamNo) (s : ClientFiles) → P s → P (descriptors.drops_under fd pid stream s)
-  drops_under zero pid stream s p = p
-  drops_under (suc fd) pid stream s p =
-      let before : ClientFiles = descriptors.drops_under fd pid stream s in
-      drops_by (descriptor before.streams.owners pid fd) pid fd stream before (drops_under fd pid stream s p)
-
-  drops_each : (pid : ℕ) (stream : StreamNo) (s : ClientFiles) → P s → P (descriptors.drops_each pid stream s)
-  drops_each pid stream s p = drops_under descriptors.descriptor_count pid stream s p
-
   moves_object : (object : Object) (pid : ℕ) (work : MoveWork) (stream : Stream) (s : ClientFiles) → P s → P (moving.moves_object_by object pid work stream s)
   moves_object (objects.File file) pid work stream s p =
       let locked : ClientFiles = locking.locks pid work.stream s in
       let so = turns.locks P no_turns pid work.stream s p in
       let dropped : ClientFiles = descriptors.drops_each pid work.stream locked in
       let request : Sending = moving.move_to work stream file (is_some (stream_at work.stream dropped)) in
-      on_if (gets_lock pid work.stream s) _ _ (kept_move pid _ (says.sends_for pid request sendings.Other dropped) (sent request sendings.Other dropped refl (drops_each pid work.stream locked so))) (kept_move pid _ locked so)
-  moves_object (objects.Device device) pid work stream s p = drops_each pid work.stream s p
-  moves_object (objects.Master device) pid work stream s p = drops_each pid work.stream s p
+      on_if (gets_lock pid work.stream s) _ _ (kept_move pid _ (says.sends_for pid request sendings.Other dropped) (sent request sendings.Other dropped refl (turns.drops_each P no_turns pid work.stream locked so))) (kept_move pid _ locked so)
+  moves_object (objects.Device device) pid work stream s p = turns.drops_each P no_turns pid work.stream s p
+  moves_object (objects.Master device) pid work stream s p = turns.drops_each P no_turns pid work.stream s p
 
   moves_on_by : (o : Option Stream) (pid : ℕ) (work : MoveWork) (s : ClientFiles) → P s → P (moving.moves_on_by o pid work s)
   moves_on_by (Some stream) pid work s p = moves_object stream.object pid work stream s p

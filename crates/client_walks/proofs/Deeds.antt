@@ -59,6 +59,7 @@ use Rattle.client_homes.specs.Says.{value}
 use Rattle.client_homes.specs.Waits as waiting
 use Rattle.client_homes.specs.Words as words
 use Rattle.client_devices.specs.Asking as asking
+use Rattle.client_devices.specs.Asks.{carried_ask}
 use Rattle.client_devices.specs.Getting as getting
 use Rattle.client_devices.specs.Making as making
 use Rattle.client_devices.specs.Masters as masters
@@ -155,10 +156,10 @@ pub record KeepsKills (F P : ClientProcs → Hand → Type 0) : Type 0 where
   pub hears_gone : (s : ClientProcs) (h : Hand) (tx : TxNo) (pid : ℕ) → kills.is_here pid s ≡ false → F s (holds Nothing h) → P s (holds Nothing h) → P (says.answers tx Gone (kills.notes_early pid s)) (holds Nothing h)
   pub tells_place : (s : ClientProcs) (h : Hand) (tx : TxNo) (pid kernel : ℕ) → F s (holds Nothing h) → P s (holds Nothing h) → P (says.answers tx Done (homes.moves_to pid kernel s)) (holds Nothing h)
 
--- pseudo-devices
-pub record KeepsDevices (F P : ClientProcs → Hand → Type 0) : Type 0 where
+-- pseudo-devices, where that input came
+pub record KeepsDevices (came : Input) (F P : ClientProcs → Hand → Type 0) : Type 0 where
   pub asks_here : (s : ClientProcs) (h : Hand) (pid : ℕ) (ask : Ask) → F s (holds Nothing h) → P s (holds Nothing h) → P (asking.notes_ask ask None (procs_of.in_state pid (states.InAsk None) s)) (holds Nothing h)
-  pub asks_for : (s : ClientProcs) (h : Hand) (tx : TxNo) (ask : Ask) → F s (holds Nothing h) → P s (holds Nothing h) → P (asking.notes_ask ask (Some tx) s) (holds Nothing h)
+  pub asks_for : (s : ClientProcs) (h : Hand) (tx : TxNo) (source : ℕ) (request : AskRequest) → came ≡ inputs.Request tx source (requests.Ask request) → F s (holds Nothing h) → P s (holds Nothing h) → P (asking.notes_ask (carried_ask request) (Some tx) s) (holds Nothing h)
   pub waits_at : (s : ClientProcs) (h : Hand) (device : ℕ) (ask : Ask) → tables.is_alive_at device s ≡ true → F s (holds Nothing h) → P s (holds Nothing h) → P (tables.waits_at device ask s) (holds Nothing h)
   pub ends_ask : (s : ClientProcs) (h : Hand) (ask : Ask) (reply : Reply) → F s (holds Nothing h) → P s (holds Nothing h) → P (asking.ends_ask ask reply s) (holds Nothing h)
   pub serves_getter : (s : ClientProcs) (h : Hand) (device pid : ℕ) → getting.first_getter device s ≡ Some pid → F s (holds Nothing h) → P s (holds Nothing h) → P (getting.serves_getter device pid s) (holds Nothing h)
@@ -206,7 +207,7 @@ pub record KeepsWithin (came : Input) (F P : ClientProcs → Hand → Type 0) : 
   pub calls : KeepsCalls came F P
   pub homes : KeepsHomes F P
   pub kills : KeepsKills F P
-  pub devices : KeepsDevices F P
+  pub devices : KeepsDevices came F P
   pub moves : KeepsMoves F P
   pub comings : KeepsComings F P
 
@@ -238,7 +239,7 @@ pub record WalkWithin (P : ClientProcs → Hand → Type 0) (came : Input) : Typ
   pub files : KeepsFiles came Always P
   pub calls : KeepsCalls came Always P
   pub home : KeepsAtHome P came
-  pub devices : KeepsDevices Always P
+  pub devices : KeepsDevices came Always P
   pub moves : KeepsMoves Always P
   pub comings : KeepsComings Always P
 

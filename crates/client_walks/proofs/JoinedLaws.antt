@@ -72,10 +72,10 @@ joined_kills F P f p = record {
   tells_place = λ s h tx pid kernel u k. (f.tells_place s h tx pid kernel u k.0, p.tells_place s h tx pid kernel k.0 k.1);
 }
 
-joined_devices : (F P : ClientProcs → Hand → Type 0) → KeepsDevices Always F → KeepsDevices F P → KeepsDevices Always (Both F P)
-joined_devices F P f p = record {
+joined_devices : (came : Input) (F P : ClientProcs → Hand → Type 0) → KeepsDevices came Always F → KeepsDevices came F P → KeepsDevices came Always (Both F P)
+joined_devices came F P f p = record {
   asks_here = λ s h pid ask u k. (f.asks_here s h pid ask u k.0, p.asks_here s h pid ask k.0 k.1);
-  asks_for = λ s h tx ask u k. (f.asks_for s h tx ask u k.0, p.asks_for s h tx ask k.0 k.1);
+  asks_for = λ s h tx source request e0 u k. (f.asks_for s h tx source request e0 u k.0, p.asks_for s h tx source request e0 k.0 k.1);
   waits_at = λ s h device ask e0 u k. (f.waits_at s h device ask e0 u k.0, p.waits_at s h device ask e0 k.0 k.1);
   ends_ask = λ s h ask reply u k. (f.ends_ask s h ask reply u k.0, p.ends_ask s h ask reply k.0 k.1);
   serves_getter = λ s h device pid e0 u k. (f.serves_getter s h device pid e0 u k.0, p.serves_getter s h device pid e0 k.0 k.1);
@@ -125,7 +125,7 @@ joined_within came F P f p = record {
   calls = joined_calls came F P f.calls p.calls;
   homes = joined_homes F P f.homes p.homes;
   kills = joined_kills F P f.kills p.kills;
-  devices = joined_devices F P f.devices p.devices;
+  devices = joined_devices came F P f.devices p.devices;
   moves = joined_moves F P f.moves p.moves;
   comings = joined_comings F P f.comings p.comings;
 }

@@ -1,6 +1,6 @@
 -- Each process stands in at most one place of a client's kernel.
 use Rattle.std.proofs.Common.{arith, ◌≡◌, ℕ, ◌+◌, ◌*◌, ◌<◌, ◌≤◌, ◌==◌, Bool, true, false, ◌||◌, not, List, [], ◌∷◌, length, Some, is_some, refl, sym, ap, ◌∙◌, length-append}
-use Rattle.std.proofs.lemmas.Bool.{eqb-true, ltb-true}
+use Rattle.std.proofs.lemmas.Bool.{eqb-true, ltb-true, and_from}
 use Rattle.std.proofs.lemmas.Nat.{div-mul-add}
 use Rattle.std.specs.BTreeMap.{is_at}
 use Rattle.std.specs.List.{list_all, list_any}
@@ -21,7 +21,7 @@ use Rattle.client_procs.specs.Steps.{client_step}
 use Rattle.client_facts.specs.FileFacts.{same_process}
 use Rattle.client_facts.proofs.BootLaws.{put_once}
 use Rattle.client_facts.proofs.CostLaws.{less_once, none_left, processes_same}
-use Rattle.client_facts.proofs.PlaceLaws.{and_true, listed_here, remove_once, set_once}
+use Rattle.client_facts.proofs.PlaceLaws.{listed_here, remove_once, set_once}
 use Rattle.client_facts.proofs.RowLaws.{all_append, all_less}
 use Rattle.client_walks.specs.Hands.{Held, Nothing, Coming, Holding, brought}
 use Rattle.client_walks.specs.PlacesOnce.{AreBornAt, InHand, IsBornAt, PlacesAreOnce}
@@ -139,7 +139,7 @@ placed_once = record {
     leaving_once = less_once same_process (is_under is_pid pid) v.leaving p.leaving_once;
     apart = all_less (is_out v.procs) (is_under is_pid pid) v.leaving p.apart;
     born = p.born;
-    leaving_born = each_less (IsBornAt v.home) (is_under is_pid pid) v.leaving p.leaving_born;
+    leaving_born = each_less (λ (row : ℕ × Leaving). IsBornAt v.home row.0) (is_under is_pid pid) v.leaving p.leaving_born;
     fits = record {
       gone = found_leaving (λ key. is_in key v.procs ≡ false) pid v.leaving found (each_out v.procs v.leaving p.apart) e;
       stays = none_left pid v.leaving p.leaving_once;
@@ -149,7 +149,7 @@ placed_once = record {
   stays = λ v pid row p. record {
     once = p.once;
     leaving_once = pushed_once same_process processes_same (pid, row) v.leaving p.fits.stays p.leaving_once;
-    apart = all_append (is_out v.procs) v.leaving ((pid, row) ∷ []) p.apart (and_true (is_out v.procs (pid, row)) true (ap not p.fits.gone) refl);
+    apart = all_append (is_out v.procs) v.leaving ((pid, row) ∷ []) p.apart (and_from (is_out v.procs (pid, row)) true (ap not p.fits.gone) refl);
     born = p.born;
     leaving_born = each_push _ v.leaving (pid, row) p.leaving_born p.fits.born;
     fits = tt;

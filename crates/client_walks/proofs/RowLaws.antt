@@ -1,6 +1,6 @@
 -- Rows of processes: what is so of each, when one is set, put in or taken out.
-use Rattle.std.proofs.Common.{◌≡◌, ℕ, ◌==◌, Bool, true, false, ◌||◌, not, cond, List, [], ◌∷◌, Option, Some, None, option_map, is_some, refl, sym, ap, ◌∙◌, subst}
-use Rattle.std.proofs.lemmas.Bool.{and_parts, eqb-true}
+use Rattle.std.proofs.Common.{◌≡◌, ◌++◌, ℕ, ◌==◌, Bool, true, false, ◌||◌, not, cond, List, [], ◌∷◌, Option, Some, None, option_map, is_some, refl, sym, ap, ◌∙◌, subst, zero, suc, slice_get}
+use Rattle.std.proofs.lemmas.Bool.{and_parts, eqb-true, not-true, and_from}
 use Rattle.std.specs.BTreeMap.{insert_entry, is_at}
 use Rattle.std.specs.List.{AllByRecursion, find, list_all, list_any}
 use Rattle.std.specs.Map.{lookup, remove_entry, set_value}
@@ -14,10 +14,9 @@ use Rattle.client_homes.specs.declared.client.Leaving.{Leaving}
 use Rattle.client_homes.specs.declared.process.Proc.{Proc}
 use Rattle.client_homes.specs.Procs.{is_pid}
 use Rattle.client_facts.specs.FileFacts.{same_process}
-use Rattle.client_facts.proofs.BootLaws.{put_none}
-use Rattle.client_facts.proofs.ComingLaws.{not_false}
-use Rattle.client_facts.proofs.CostLaws.{eq_turned}
-use Rattle.client_facts.proofs.PlaceLaws.{and_true, at_is, listed_here, remove_none, removed_none, same_any}
+use Rattle.client_facts.proofs.BootLaws.{put_none, apart_by}
+use Rattle.client_facts.proofs.PlaceLaws.{at_is, listed_here, remove_none, removed_none, same_any}
+use Rattle.stream_table.proofs.OwnerLaws.{eq_turned}
 
 -- whether the process is among those that are here
 abbrev pub is_in : ℕ → List (ℕ × Proc) → Bool
@@ -85,13 +84,15 @@ pub less_same : (pid : ℕ) (rows : List (ℕ × Leaving)) → first_under is_pi
 less_same pid [] h = refl
 less_same pid (e ∷ es) h = less_same_by e es (less (is_under is_pid pid) es) (find (is_under is_pid pid) es) (e.0 == pid) (less_same pid es) h
 
-each_less_by : (B : ℕ → Type 0) (e : ℕ × Leaving) (es more : List (ℕ × Leaving)) (b : Bool) → AllByRecursion (λ (row : ℕ × Leaving). B row.0) (e ∷ es) → AllByRecursion (λ (row : ℕ × Leaving). B row.0) more → AllByRecursion (λ (row : ℕ × Leaving). B row.0) (cond b es (e ∷ more))
-each_less_by B e es more true h k = h.1
-each_less_by B e es more false h k = (h.0, k)
+pub each_less : {X : Type 0} (F : X → Type 0) (p : X → Bool) (xs : List X) → AllByRecursion F xs → AllByRecursion F (less p xs)
+each_less F p [] h = tt
+each_less F p (x ∷ xs) h = elim (p x) as (λ b. AllByRecursion F (cond b xs (x ∷ less p xs))) [ true ↦ h.1 | false ↦ (h.0, each_less F p xs h.1) ]
 
-pub each_less : (B : ℕ → Type 0) (p : ℕ × Leaving → Bool) (rows : List (ℕ × Leaving)) → AllByRecursion (λ (row : ℕ × Leaving). B row.0) rows → AllByRecursion (λ (row : ℕ × Leaving). B row.0) (less p rows)
-each_less B p [] h = tt
-each_less B p (e ∷ es) h = each_less_by B e es (less p es) (p e) h (each_less B p es h.1)
+-- what is there stays where more comes behind
+pub got_before : {X : Type 0} (xs ys : List X) (i : ℕ) (x : X) → slice_get xs i ≡ Some x → slice_get (xs ++ ys) i ≡ Some x
+got_before [] ys i x e = absurd (cc)
+got_before (y ∷ xs) ys zero x e = e
+got_before (y ∷ xs) ys (suc i) x e = got_before xs ys i x e
 
 -- Found
 
@@ -115,13 +116,13 @@ found_leaving B pid (row ∷ rows) found h e = found_leaving_by B pid row (find 
 
 pub each_out : (procs : List (ℕ × Proc)) (rows : List (ℕ × Leaving)) → list_all (is_out procs) rows ≡ true → AllByRecursion (λ (row : ℕ × Leaving). is_in row.0 procs ≡ false) rows
 each_out procs [] h = tt
-each_out procs (row ∷ rows) h = let parts = and_parts (is_out procs row) (list_all (is_out procs) rows) h in (not_false (is_in row.0 procs) parts.0, each_out procs rows parts.1)
+each_out procs (row ∷ rows) h = let parts = and_parts (is_out procs row) (list_all (is_out procs) rows) h in (not-true (is_in row.0 procs) parts.0, each_out procs rows parts.1)
 
 pub apart_fewer : (procs more : List (ℕ × Proc)) (rows : List (ℕ × Leaving)) → ((pid : ℕ) → is_in pid procs ≡ false → is_in pid more ≡ false) → list_all (is_out procs) rows ≡ true → list_all (is_out more) rows ≡ true
 apart_fewer procs more [] fewer h = refl
 apart_fewer procs more (row ∷ rows) fewer h =
     let parts = and_parts (is_out procs row) (list_all (is_out procs) rows) h in
-    and_true (is_out more row) (list_all (is_out more) rows) (ap not (fewer row.0 (not_false (is_in row.0 procs) parts.0))) (apart_fewer procs more rows fewer parts.1)
+    and_from (is_out more row) (list_all (is_out more) rows) (ap not (fewer row.0 (not-true (is_in row.0 procs) parts.0))) (apart_fewer procs more rows fewer parts.1)
 
 pub apart_put : (k : ℕ) (v : Proc) (procs : List (ℕ × Proc)) (rows : List (ℕ × Leaving)) → list_any (is_under is_pid k) rows ≡ false → list_all (is_out procs) rows ≡ true → list_all (is_out (insert_entry nat_cmp procs k v)) rows ≡ true
 apart_put k v procs [] none h = refl
@@ -129,13 +130,9 @@ apart_put k v procs (row ∷ rows) none h =
     let more = insert_entry nat_cmp procs k v in
     let apart = or_false (row.0 == k) (list_any (is_under is_pid k) rows) none in
     let parts = and_parts (is_out procs row) (list_all (is_out procs) rows) h in
-    let before = sym (listed_here row.0 procs) ∙ not_false (is_in row.0 procs) parts.0 in
+    let before = sym (listed_here row.0 procs) ∙ not-true (is_in row.0 procs) parts.0 in
     let away : is_in row.0 more ≡ false = listed_here row.0 more ∙ put_none row.0 k v procs (eq_turned k row.0 ∙ apart.0) before in
-    and_true (is_out more row) (list_all (is_out more) rows) (ap not away) (apart_put k v procs rows apart.1 parts.1)
-
-apart_by : (a b : ℕ) (t : Bool) → (a == b) ≡ t → (a ≡ b → ⊥) → t ≡ false
-apart_by a b true e h = absurd (h (eqb-true a b e))
-apart_by a b false e h = refl
+    and_from (is_out more row) (list_all (is_out more) rows) (ap not away) (apart_put k v procs rows apart.1 parts.1)
 
 -- who is here doesn't leave
 pub none_leaves : (pid : ℕ) (procs : List (ℕ × Proc)) (rows : List (ℕ × Leaving)) → is_in pid procs ≡ true → list_all (is_out procs) rows ≡ true → list_any (is_under is_pid pid) rows ≡ false

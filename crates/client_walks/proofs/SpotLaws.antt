@@ -1,6 +1,6 @@
 -- Facts of where processes are: what they bear, each deed keeps.
-use Rattle.std.proofs.Common.{◌≡◌, refl, sym, subst, ℕ, ◌+◌, ◌*◌, ◌==◌, nat_lt, Bool, true, false, not, cond, List, [], ◌∷◌, length, Option, Some, None, option_map, length-set}
-use Rattle.std.proofs.lemmas.Bool.{and_parts}
+use Rattle.std.proofs.Common.{◌≡◌, refl, sym, subst, ℕ, ◌+◌, ◌*◌, ◌==◌, nat_lt, Bool, true, false, not, cond, List, [], ◌∷◌, length, Option, Some, None, option_map}
+use Rattle.std.proofs.lemmas.Bool.{and_parts, not-true}
 use Rattle.std.specs.BTreeMap.{is_at}
 use Rattle.std.specs.List.{list_any, position}
 use Rattle.std.specs.Ordering.{nat_cmp}
@@ -23,9 +23,6 @@ use Rattle.pseudo_device.specs.declared.ask.Ask.{Ask}
 use Rattle.pseudo_device.specs.declared.TakeEnd.{TakeEnd}
 use Rattle.pseudo_device.specs.declared.TakeEnd.TheVariants as takes
 use Rattle.pseudo_device.specs.Device.{Asks, take_refusal, told}
-use Rattle.home_table.specs.declared.birth.Birth.{Birth}
-use Rattle.home_table.specs.declared.birth.Life.{Life}
-use Rattle.home_table.specs.declared.birth.Life.TheVariants as lives
 use Rattle.home_table.specs.Home as home_tables
 use Rattle.home_table.specs.Home.{Table}
 use Rattle.unix_calls.specs.declared.About.{About}
@@ -59,42 +56,11 @@ use Rattle.client_moves.specs.Returning as returning
 use Rattle.client_procs.specs.Arriving as arriving
 use Rattle.client_procs.specs.Issues as issuing_calls
 use Rattle.client_procs.specs.Launching as launching
-use Rattle.client_facts.proofs.ComingLaws.{not_false}
+use Rattle.client_facts.proofs.BirthLaws.{length_ending, length_killing, length_put, length_waiting}
 use Rattle.client_walks.specs.Hands.{Held, Nothing, Holding, hand_of}
 use Rattle.client_walks.proofs.Deeds.{Hand, Keeps, KeepsCalls, KeepsComings, KeepsDevices, KeepsFiles, KeepsHomes, KeepsKills, KeepsMoves, KeepsSteps}
 use Rattle.client_walks.proofs.RowLaws.{less_same, removed_same}
 use Rattle.client_walks.proofs.Spots.{KeepsSpots, Spots, spots_of}
-
--- Births that a home knows
-
-length_put : (o : Option Birth) (births : List Birth) (at : ℕ) → length (home_tables.put births at o) ≡ length births
-length_put (Some birth) births at = length-set births at birth
-length_put None births at = refl
-
-length_life : (births : List Birth) (at : ℕ) (life : Life) → length (home_tables.with_life births at life) ≡ length births
-length_life births at life = length_put _ births at
-
-length_ending : (o : Option Life) (births : List Birth) (at : ℕ) (how : Ending) → length (home_tables.ending births at how o) ≡ length births
-length_ending (Some (lives.Living pending)) births at how = length_life births at (lives.Ended how)
-length_ending (Some (lives.Ended before)) births at how = refl
-length_ending (Some (lives.Waited before)) births at how = refl
-length_ending None births at how = refl
-
-length_killing : (o : Option Life) (births : List Birth) (at : ℕ) → length (home_tables.killing births at o) ≡ length births
-length_killing (Some (lives.Living pending)) births at = length_life births at (lives.Living true)
-length_killing (Some (lives.Ended before)) births at = refl
-length_killing (Some (lives.Waited before)) births at = refl
-length_killing None births at = refl
-
-length_telling : (o : Option Life) (births : List Birth) (at : ℕ) → length (home_tables.telling births at o) ≡ length births
-length_telling (Some (lives.Ended how)) births at = length_life births at (lives.Waited how)
-length_telling (Some (lives.Living pending)) births at = refl
-length_telling (Some (lives.Waited how)) births at = refl
-length_telling None births at = refl
-
-length_waiting : (o : Option ℕ) (births : List Birth) → length (home_tables.waiting births o) ≡ length births
-length_waiting (Some at) births = length_telling _ births at
-length_waiting None births = refl
 
 module _ (F : ClientProcs → Hand → Type 0) (Q : Spots → Held → Type 0) (bears : KeepsSpots Q) where
   abbrev P : ClientProcs → Held → Type 0
@@ -323,10 +289,10 @@ module _ (F : ClientProcs → Hand → Type 0) (Q : Spots → Held → Type 0) (
     tells_place = λ s h tx pid kernel f p. moves_kept Nothing pid kernel s p;
   }
 
-  devices : KeepsDevices F Holds
-  devices = record {
+  devices : (came : Input) → KeepsDevices came F Holds
+  devices came = record {
     asks_here = λ s h pid ask f p. state_kept Nothing pid (states.InAsk None) s p;
-    asks_for = λ s h tx ask f p. p;
+    asks_for = λ s h tx source request e f p. p;
     waits_at = λ s h device ask e f p. device_kept _ device s p;
     ends_ask = λ s h ask reply f p. ask_kept ask reply s p;
     serves_getter = λ s h device pid e f p. getter_kept (tables.asks_in device s) device pid (getting.max_of pid s) (tables.takes_at device (getting.max_of pid s) s) (device_kept _ device s p);
@@ -357,7 +323,7 @@ module _ (F : ClientProcs → Hand → Type 0) (Q : Spots → Held → Type 0) (
   comings = record {
     brings = λ s h pid e f p.
         let parts = and_parts (not (kills.is_here pid s)) (not (list_any (is_under procs_of.is_pid pid) s.leaving)) e in
-        bears.brings (spots_of s) pid (not_false (kills.is_here pid s) parts.0) (not_false (list_any (is_under procs_of.is_pid pid) s.leaving) parts.1) p;
+        bears.brings (spots_of s) pid (not-true (kills.is_here pid s) parts.0) (not-true (list_any (is_under procs_of.is_pid pid) s.leaving) parts.1) p;
     refuses = λ s h pid e f p. bears.refuses (spots_of s) pid p;
     answers_done = λ s h tx pid f p. p;
     has_streams = λ s h process streams f p. p;
@@ -374,5 +340,5 @@ module _ (F : ClientProcs → Hand → Type 0) (Q : Spots → Held → Type 0) (
   pub by_spots : Keeps F Holds
   by_spots = record {
     steps = steps;
-    within = λ came. record { files = files came; calls = calls came; homes = homes_kept; kills = kills_kept; devices = devices; moves = moves; comings = comings };
+    within = λ came. record { files = files came; calls = calls came; homes = homes_kept; kills = kills_kept; devices = devices came; moves = moves; comings = comings };
   }

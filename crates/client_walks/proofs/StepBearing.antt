@@ -239,10 +239,10 @@ module _ (came : Input) (R : HomeSide → Seen → Type 0) (bears : (own : HomeS
     takes_call = λ s h tx u p. p;
   }
 
-  devices : KeepsDevices Always Holds
+  devices : KeepsDevices came Always Holds
   devices = record {
     asks_here = λ s h pid ask u p. entered _ (procs_of.in_state pid (states.InAsk None) s) (NotSo refl) (in_state pid (states.InAsk None) s p);
-    asks_for = λ s h tx ask u p. entered _ s (NotSo refl) p;
+    asks_for = λ s h tx source request e u p. entered _ s (NotSo refl) p;
     waits_at = λ s h device ask e u p. with_device _ device s p;
     ends_ask = λ s h ask reply u p. ends_ask ask reply s p;
     serves_getter = λ s h device pid e u p. serves_getter (tables.asks_in device s) device pid (getting.max_of pid s) (tables.takes_at device (getting.max_of pid s) s) (with_device _ device s p);

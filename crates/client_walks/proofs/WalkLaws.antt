@@ -115,15 +115,15 @@ module _ (P : ClientProcs → Hand → Type 0) (came : Input) (walk : WalkWithin
   getters_served : (device : ℕ) (s : ClientProcs) → At s → At (getting.serves_getters device s)
   getters_served device s p = getters_turns (length s.getters) device s p
 
-  entered_by : (device : ℕ) (ask : Ask) (s : ClientProcs) → At s → At (asking.enters_by device ask s)
+  pub entered_by : (device : ℕ) (ask : Ask) (s : ClientProcs) → At s → At (asking.enters_by device ask s)
   entered_by device ask s p = by_alive (tables.is_alive_at device s) refl
     where
       by_alive : (b : Bool) → tables.is_alive_at device s ≡ b → At (cond (not b) (asking.ends_ask ask (Error errnos.NoServer) s) (getting.serves_getters device (tables.waits_at device ask s)))
       by_alive true e = getters_served device (tables.waits_at device ask s) (walk.devices.waits_at s h device ask e tt p)
       by_alive false e = walk.devices.ends_ask s h ask (Error errnos.NoServer) tt p
 
-  ask_served : (tx : TxNo) (request : AskRequest) (s : ClientProcs) → At s → At (asking.serves_ask tx request s)
-  ask_served tx request s p = entered_by request.device.number (carried_ask request) (asking.notes_ask (carried_ask request) (Some tx) s) (walk.devices.asks_for s h tx (carried_ask request) tt p)
+  ask_served : (tx : TxNo) (source : ℕ) (request : AskRequest) (s : ClientProcs) → came ≡ inputs.Request tx source (requests.Ask request) → At s → At (asking.serves_ask tx request s)
+  ask_served tx source request s e p = entered_by request.device.number (carried_ask request) (asking.notes_ask (carried_ask request) (Some tx) s) (walk.devices.asks_for s h tx source request e tt p)
 
   sent_if : (o : Option AskRequest) (pid : ℕ) (s : ClientProcs) → At s → At (asking.sends_if pid o s)
   sent_if (Some request) pid s p = walk.devices.sends_ask s h pid request tt p
@@ -308,12 +308,12 @@ module _ (P : ClientProcs → Hand → Type 0) (came : Input) (walk : WalkWithin
   was_settled pid moved s p =
       on_if (holds Nothing h) (homes.is_native pid s) (arriving.comes_home pid moved s) (arriving.tells_home pid moved s) (λ e. came_home pid moved s e p) (λ e. walk.comings.tells_home s h pid moved e tt p)
 
-  installed : (process : Process) (fresh : Bool) (streams : List CarriedStream) (s : ClientProcs) → P s (holds (Holding process.pid) h) → At (arriving.installs (record { process = process; fresh = fresh }) streams s)
+  pub installed : (process : Process) (fresh : Bool) (streams : List CarriedStream) (s : ClientProcs) → P s (holds (Holding process.pid) h) → At (arriving.installs (record { process = process; fresh = fresh }) streams s)
   installed process fresh streams s p =
       let opened : ClientProcs = arriving.has_streams process streams s in
       was_settled process.pid process.moving (births.puts_proc process.pid (arriving.arrived_proc process fresh) opened) (walk.comings.puts_in opened h process fresh tt (walk.comings.has_streams s h process streams tt p))
 
-  launched : (o : Option Machine) (arrival : Arrival) (program : ℕ) (streams : List CarriedStream) (s : ClientProcs) → P s (holds (Holding arrival.pid) h) → At (arriving.installs_if (arriving.launched_with arrival program o) streams s)
+  pub launched : (o : Option Machine) (arrival : Arrival) (program : ℕ) (streams : List CarriedStream) (s : ClientProcs) → P s (holds (Holding arrival.pid) h) → At (arriving.installs_if (arriving.launched_with arrival program o) streams s)
   launched None arrival program streams s p = walk.home.lets_go s h arrival.pid p
   launched (Some image) arrival program streams s p =
       by_bool (λ come. arriving.installs_if come streams s) At (not (image.number == program)) _ _ (λ _. walk.home.lets_go s h arrival.pid p) (λ _. installed (process_with arrival image) true streams s p)
@@ -448,7 +448,7 @@ module _ (P : ClientProcs → Hand → Type 0) (came : Input) (walk : WalkWithin
   served (requests.Launch request) tx source s e p = arrived (requests.Launch request) tx s p
   served (requests.Place pid kernel) tx source s e p = walk.home.tells_place s h tx pid kernel p
   served (requests.Killed pid) tx source s e p = walk.home.hears_kill s h tx pid p
-  served (requests.Ask request) tx source s e p = ask_served tx request s p
+  served (requests.Ask request) tx source s e p = ask_served tx source request s e p
   served body tx source s e p = p
 
   heard_for : (call : Unfinished) (tx : TxNo) (body : ReplyBody) (s : ClientProcs) → P s (holds (heard (Some call) body s) h) → At (hearing.hears_for tx call body s)
@@ -525,11 +525,11 @@ module _ (P : ClientProcs → Hand → Type 0) (came : Input) (walk : WalkWithin
   rounds (suc count) s p = turned (turning.turns count s) (rounds count s p)
 
   -- what each part of the walk keeps, all rounds keep
-  walk_rounds : (s : ClientProcs) → At s → At (turning.goes_on s)
+  pub walk_rounds : (s : ClientProcs) → At s → At (turning.goes_on s)
   walk_rounds s p = rounds (turning.rounds_for s) s p
 
   -- and all that is done within a step, with what came in hand at first
-  walk_within : (s : ClientProcs) → P s (holds (brought came s) h) → At (turning.goes_on (stepping.takes came s))
+  pub walk_within : (s : ClientProcs) → P s (holds (brought came s) h) → At (turning.goes_on (stepping.takes came s))
   walk_within s p = walk_rounds (stepping.takes came s) (taken came s refl p)
 
 -- what each deed keeps, an answer to a remote call of the processes' side keeps
