@@ -8,6 +8,7 @@ ghost use Rattle.sprite_cluster.specs.Logs.{Holds};
 
 use crate::chance::run_by_chance;
 use crate::files::case_file;
+use crate::known::is_known;
 use cause_judge::are_for_cause;
 use cluster_file::read_description;
 use kernel_threads::Stepped;
@@ -17,7 +18,6 @@ use sprite_cluster::Cluster;
 use sprite_ids::{Finish, NoMemory};
 use std::alloc::Global;
 use std::io;
-use trace_rules::prefixes_are_broadcast_until_learned;
 use unix_calls::Description;
 
 /// The clusters: moves, evictions, kills, devices, shared and appended files, and a parallel make.
@@ -165,7 +165,7 @@ fn judged<L: Link + Drop>(alloc: Global, cluster: Cluster<L>) -> Result<Way, NoM
     let mut cluster = cluster;
     let finish = Stepped::finish(&mut cluster, alloc);
     let (closed, _link) = cluster.close(finish);
-    if !prefixes_are_broadcast_until_learned(alloc, &closed.description, closed.trace.records())? {
+    if !is_known(alloc, &closed.description, closed.trace.records())? {
         return Ok(Way::Broken);
     }
     if !are_for_cause(&closed.description, closed.trace.records()) {

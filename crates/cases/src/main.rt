@@ -11,6 +11,7 @@ mod clusters;
 mod documents;
 mod files;
 mod histories;
+mod known;
 mod meetings;
 mod runs;
 mod seeds;

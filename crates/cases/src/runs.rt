@@ -3,6 +3,7 @@
 //! design of the cluster (this project).
 
 use crate::files::case_file;
+use crate::known::is_known;
 use call_journal::Trace;
 use cause_judge::are_for_cause;
 use cluster_file::read_description;
@@ -14,7 +15,6 @@ use sprite_ids::{Copying, Errno, Finish, Kernel, NoMemory, TxNo};
 use sprite_paths::Path;
 use std::alloc::Global;
 use std::io;
-use trace_rules::prefixes_are_broadcast_until_learned;
 use trace_text::read_trace;
 use unix_calls::{About, Entry, Event, Part, Rec, SendKind};
 
@@ -258,8 +258,8 @@ fn judged_trace(
     let Ok(description) = read_description(alloc, cluster) else {
         return Ok(String::from_str(alloc, "no cluster\n")?);
     };
-    if !prefixes_are_broadcast_until_learned(alloc, &description, trace.records())? {
-        return Ok(String::from_str(alloc, "broadcasts\n")?);
+    if !is_known(alloc, &description, trace.records())? {
+        return Ok(String::from_str(alloc, "no run's trace\n")?);
     }
     if !are_for_cause(&description, trace.records()) {
         return Ok(String::from_str(alloc, "unreachable without cause\n")?);

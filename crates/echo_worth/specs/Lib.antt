@@ -1,4 +1,5 @@
 pub mod Parts
+pub mod Known
 pub mod Kept
 pub mod Echoes
 pub mod Told

@@ -1,5 +1,6 @@
-ghost use Rattle.std.specs.Prelude.{◌≡◌, ◌&&◌, IfOk};
+ghost use Rattle.std.specs.Prelude.{◌≡◌, ◌&&◌, IfOk, IsTrue, true};
 ghost use Rattle.unix_calls.specs.Lawful.{Lawful};
+ghost use Rattle.record_worth.specs.Parts.{prefixes_are_learned_once};
 ghost use Rattle.record_worth.specs.Whole.{records_are_made};
 
 use crate::blocks::blocks_come_and_go;
@@ -14,9 +15,16 @@ use unix_calls::{Description, Rec};
 
 /// Whether each record of the trace is made of what is there: blocks come and go in turn, stamps rise, callbacks and fetches are of
 /// opened files, streams are opened before they are shared or closed, prefixes are learned once and as the cluster serves them, and
-/// processes are frozen and thawed in turn (this project). The one error is want of memory.
-pub fn records_are_made(alloc: Global, c: &Description, trace: &[Rec]) -> Result<bool, NoMemory>
-    requires { Lawful c.now }
+/// processes are frozen and thawed in turn (this project). `known` tells that it is known of the trace that prefixes are learned once, so
+/// that it isn't asked. The one error is want of memory.
+pub fn records_are_made(
+    alloc: Global,
+    c: &Description,
+    trace: &[Rec],
+    known: bool,
+) -> Result<bool, NoMemory>
+    requires lawful { Lawful c.now }
+    requires known { IsTrue known → prefixes_are_learned_once c.now trace.now ≡ true }
     ensures { IfOk result (λ made. made ≡ records_are_made c.now trace.now) }
 {
     let blocks = blocks_come_and_go(alloc, c, trace)?;
@@ -24,9 +32,25 @@ pub fn records_are_made(alloc: Global, c: &Description, trace: &[Rec]) -> Result
     let callbacks = callbacks_are_first(alloc, c, trace)?;
     let streams = streams_are_opened(alloc, c, trace)?;
     let served = prefixes_are_served(c, trace);
-    let learned = prefixes_are_learned_once(alloc, c, trace)?;
+    let learned = are_learned_once(alloc, c, trace, known)?;
     let moves = moves_begin_and_end(alloc, c, trace)?;
     Ok(are_all(blocks, stamps, callbacks, streams, served, learned, moves))
+}
+
+// Whether each kernel learns a prefix once.
+fn are_learned_once(
+    alloc: Global,
+    c: &Description,
+    trace: &[Rec],
+    known: bool,
+) -> Result<bool, NoMemory>
+    requires { IsTrue known → prefixes_are_learned_once c.now trace.now ≡ true }
+    ensures { IfOk result (λ once. once ≡ prefixes_are_learned_once c.now trace.now) }
+{
+    if known {
+        return Ok(true);
+    }
+    prefixes_are_learned_once(alloc, c, trace)
 }
 
 // Whether each part is kept.

@@ -2,8 +2,8 @@ ghost use Rattle.std.specs.Prelude.{◌≡◌, ◌≤◌, IfOk, true};
 ghost use Rattle.unix_calls.specs.Lawful.{Lawful};
 ghost use Rattle.unix_world.specs.Worlds.{unix_of};
 ghost use Rattle.call_journal.specs.Once.{Once};
-ghost use Rattle.call_journal.specs.PrefixBroadcasts.{prefixes_are_broadcast_until_learned};
 ghost use Rattle.call_journal.specs.Unreachable.{unreachable_for_cause};
+ghost use Rattle.trace_judge.specs.Known.{KnowsRun};
 ghost use Rattle.run_judge.specs.declared.ending.Stop.TheVariants.{Good};
 ghost use Rattle.run_judge.specs.Ends.{end_of};
 ghost use Rattle.run_judge.specs.Judged.{IsLegal, JudgesTo};
@@ -26,8 +26,8 @@ use unix_world::World;
 /// It is `Judged` where all of these hold, and else `Refuted` by the first that doesn't: one Unix kernel gives the journal; each call is
 /// issued, entered and returned once, in this order; by the state of the journal each process has ended where the run ended so, and one
 /// lives where the budget was spent or it stalled; where it stalled each process that lives is blocked; and the trace's records are written
-/// as they should be, it keeps the nine rules and is worth its units. That its prefixes are broadcast until they are learned, and that
-/// servers are called unreachable only after eight lost packets of an asking for that call, is known of each run and not asked. The
+/// as they should be, it keeps the nine rules and is worth its units. What is known of each run, by proof, isn't asked: that servers are
+/// called unreachable only after eight lost packets of an asking for that call, and what `KnowsRun` says of prefixes and packets. The
 /// processes may do at most `most` instructions in all up to the calls of the entries, and as many from there up to their next calls where
 /// the run stalled; past that the answer is `Steps`. The one error is want of memory, which is also the answer where the entries would be
 /// more than 2^32.
@@ -40,7 +40,7 @@ pub fn judge_run(
 ) -> Result<JudgedRun, NoMemory>
     requires lawful { Lawful c.now }
     requires bound { most ≤ 40000000000 }
-    requires broadcasts { prefixes_are_broadcast_until_learned c.now trace.now ≡ true }
+    requires known { KnowsRun c.now trace.now }
     requires for_cause { unreachable_for_cause c.now trace.now ≡ true }
     ensures { IfOk result (JudgesTo c.now most trace.now finish) }
 {
@@ -65,7 +65,7 @@ fn judge_legal(
 ) -> Result<JudgedRun, NoMemory>
     requires lawful { Lawful c.now }
     requires bound { most ≤ 40000000000 }
-    requires broadcasts { prefixes_are_broadcast_until_learned c.now trace.now ≡ true }
+    requires known { KnowsRun c.now trace.now }
     requires legal { IsLegal c.now most trace.now (unix_of c.now world.now ps.now) }
     requires for_cause { unreachable_for_cause c.now trace.now ≡ true }
     ensures { IfOk result (JudgesTo c.now most trace.now finish) }
@@ -88,7 +88,7 @@ fn judge_end(
 ) -> Result<JudgedRun, NoMemory>
     requires lawful { Lawful c.now }
     requires bound { most ≤ 40000000000 }
-    requires broadcasts { prefixes_are_broadcast_until_learned c.now trace.now ≡ true }
+    requires known { KnowsRun c.now trace.now }
     requires legal { IsLegal c.now most trace.now (unix_of c.now world.now ps.now) }
     requires once { Once trace.now }
     requires for_cause { unreachable_for_cause c.now trace.now ≡ true }
@@ -117,7 +117,7 @@ fn judge_rules(
 ) -> Result<JudgedRun, NoMemory>
     requires lawful { Lawful c.now }
     requires bound { most ≤ 40000000000 }
-    requires broadcasts { prefixes_are_broadcast_until_learned c.now trace.now ≡ true }
+    requires known { KnowsRun c.now trace.now }
     requires legal { IsLegal c.now most trace.now (unix_of c.now world.now ps.now) }
     requires once { Once trace.now }
     requires for_cause { unreachable_for_cause c.now trace.now ≡ true }

@@ -1,7 +1,7 @@
 -- A server is called unreachable only where the link's count of faults rose.
 use Rattle.std.proofs.Common.{arith, ◌≡◌, ◌∙◌, ℕ, ◌+◌, ◌≤◌, ◌==◌, Bool, true, false, ◌&&◌, ◌||◌, cond, List, [], ◌∷◌, ◌++◌, Option, Some, None, Result, Ok, IfOk, refl, sym, ap, ap₂, subst}
 use Rattle.std.specs.List.{list_any}
-use Rattle.std.proofs.lemmas.Bool.{and_parts, eq-eqb, eqb-true}
+use Rattle.std.proofs.lemmas.Bool.{and_parts, eq-eqb, eqb-true, or_right, and_from, or_left}
 use Rattle.std.proofs.lemmas.List.Sums.{sum_by-append, sum_by-le-sum_by}
 use Rattle.link_plan.specs.Counts.{same_pair}
 use Rattle.unix_calls.specs.declared.Entry.{Entry}
@@ -27,26 +27,14 @@ use Rattle.sprite_top.specs.Top.{AllWereReached, IsForCauseOf, IsRun, IsRunOver,
 eq_swap : (m n : ℕ) → (m == n) ≡ true → (n == m) ≡ true
 eq_swap m n is = eq-eqb n m (sym (eqb-true m n is))
 
-or_left : (a b : Bool) → a ≡ true → (a || b) ≡ true
-or_left true b is = refl
-or_left false b is = absurd (cc)
-
-or_right : (a b : Bool) → b ≡ true → (a || b) ≡ true
-or_right true b is = refl
-or_right false b is = is
-
-both : (a b : Bool) → a ≡ true → b ≡ true → (a && b) ≡ true
-both true b is that = that
-both false b is that = absurd (cc)
-
 pair_same : (a b x y : ℕ) → is_pair a b x y ≡ true → same_pair x y a b ≡ true
 pair_same a b x y is = by_first (a == x && b == y) refl is
   where
     by_first : (first : Bool) → (a == x && b == y) ≡ first → (first || (a == y && b == x)) ≡ true → same_pair x y a b ≡ true
     by_first true one is = (let parts = and_parts (a == x) (b == y) one in
-        or_left ((x == a) && (y == b)) ((x == b) && (y == a)) (both (x == a) (y == b) (eq_swap a x parts.0) (eq_swap b y parts.1)))
+        or_left ((x == a) && (y == b)) ((x == b) && (y == a)) (and_from (x == a) (y == b) (eq_swap a x parts.0) (eq_swap b y parts.1)))
     by_first false one is = (let parts = and_parts (a == y) (b == x) is in
-        or_right ((x == a) && (y == b)) ((x == b) && (y == a)) (both (x == b) (y == a) (eq_swap b x parts.1) (eq_swap a y parts.0)))
+        or_right ((x == a) && (y == b)) ((x == b) && (y == a)) (and_from (x == b) (y == a) (eq_swap b x parts.1) (eq_swap a y parts.0)))
 
 -- a loss that is told is a fault that is told
 loss_is_fault : (x y : ℕ) (e : Event) → is_loss x y e ≡ true → is_fault_between x y e ≡ true

@@ -1,11 +1,10 @@
 -- A cluster that was run.
-use Rattle.std.proofs.Common.{◌≡◌, ◌≢◌, ◌<◌, ◌≤◌, ◌∙◌, ℕ, Bool, true, false, List, Some, Result, Ok, Err, IfOk, refl, sym, ap, subst, length, nat_le}
+use Rattle.std.proofs.Common.{◌≡◌, ◌≢◌, ◌<◌, ◌∙◌, ℕ, Bool, true, false, List, Some, Result, Ok, Err, IfOk, refl, sym, ap, subst, length, nat_le}
 use Rattle.std.specs.Prelude.{if◌then◌else◌}
 use Rattle.std.specs.List.{list_all}
 use Rattle.std.proofs.lemmas.Bool.{leb-false, leb-true}
 use Rattle.sprite_ids.specs.declared.running.Finish.{Finish}
 use Rattle.sprite_ids.specs.declared.running.Finish.TheVariants as finish
-use Rattle.call_journal.specs.PrefixBroadcasts.{prefixes_are_broadcast_until_learned}
 use Rattle.call_journal.specs.Units.{units_of}
 use Rattle.call_journal.specs.Unreachable.{unreachable_for_cause}
 use Rattle.unix_calls.specs.Lawful.{Lawful}
@@ -26,7 +25,6 @@ use Rattle.sprite_cluster.specs.declared.Cluster.{Cluster}
 use Rattle.sprite_cluster.specs.declared.Origin.{Origin}
 use Rattle.kernel_threads.specs.Steps.{Ran}
 use Rattle.call_journal.specs.declared.closed.Closed.{Closed}
-use Rattle.reached_prefixes.proofs.KnownLaws.{asked_until}
 use Rattle.sprite_ids.specs.declared.no_memory.NoMemory.{NoMemory}
 use Rattle.sprite_top.specs.Top.{IsRun, IsSameRun, RunsOver, is_out_of_memory}
 
@@ -99,14 +97,7 @@ pub same_run : {L : Type 0} (faults asked : L → ℕ → ℕ → ℕ) (kernels 
 same_run faults asked kernels old (Ok now) ran over = same_of faults asked kernels old now ran over
 same_run faults asked kernels old (Err e) ran over = tt
 
--- of a run its prefixes are broadcast until they are learned
-pub broadcasts_of : {L : Type 0} (faults asked : L → ℕ → ℕ → ℕ) (before after : L) (r : Result Closed NoMemory) (run : Closed) → r ≡ Ok run → IfOk r (λ (x : Closed). RunsOver faults asked before after (Some x)) → prefixes_are_broadcast_until_learned run.description run.trace ≡ true
-broadcasts_of faults asked before after r run is over =
-    (let runs : RunsOver faults asked before after (Some run) = subst (λ (x : Result Closed NoMemory). IfOk x (λ (y : Closed). RunsOver faults asked before after (Some y))) is over in
-    let made : IsRun faults asked before after run = runs.run in
-    asked_until faults asked run.description before (record { wire = made.wire; state = made.state; trace = run.trace }) made.reached)
-
--- and it calls servers unreachable only for cause
+-- a run calls servers unreachable only for cause
 pub causes_of : {L : Type 0} (faults asked : L → ℕ → ℕ → ℕ) (before after : L) (r : Result Closed NoMemory) (run : Closed) → r ≡ Ok run → IfOk r (λ (x : Closed). RunsOver faults asked before after (Some x)) → unreachable_for_cause run.description run.trace ≡ true
 causes_of faults asked before after r run is over =
     (let runs : RunsOver faults asked before after (Some run) = subst (λ (x : Result Closed NoMemory). IfOk x (λ (y : Closed). RunsOver faults asked before after (Some y))) is over in

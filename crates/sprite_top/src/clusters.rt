@@ -4,8 +4,8 @@ ghost use Rattle.report_print.specs.Stats.{stats_of};
 ghost use Rattle.unix_calls.specs.Output.{last_line};
 ghost use Rattle.unix_calls.specs.Lawful.{Lawful};
 ghost use Rattle.call_journal.specs.Journal.{journal_of};
-ghost use Rattle.call_journal.specs.PrefixBroadcasts.{prefixes_are_broadcast_until_learned};
 ghost use Rattle.call_journal.specs.Unreachable.{unreachable_for_cause};
+ghost use Rattle.trace_judge.specs.Known.{KnowsRun};
 ghost use Rattle.run_judge.specs.Judged.{IsJudged, JudgesTo};
 ghost use Rattle.sprite_cluster.specs.Finishing.{IsSpent, stands_so};
 ghost use Rattle.sprite_cluster.specs.Logs.{Holds};
@@ -147,7 +147,7 @@ fn is_out_of_memory(finish: Finish) -> bool
 fn judge_closed(alloc: Global, closed: Closed, print: Printing) -> Result<Answer, NoMemory>
     requires lawful { Lawful closed.description }
     requires spent { IsSpent closed.description closed.trace closed.finish }
-    requires broadcasts { prefixes_are_broadcast_until_learned closed.description closed.trace ≡ true }
+    requires known { KnowsRun closed.description closed.trace }
     requires for_cause { unreachable_for_cause closed.description closed.trace ≡ true }
     ensures causes { IfOk result (λ a. ClusterCauses print a.status closed.description a.closed a.due) }
     ensures kept { IfOk result (λ a. a.closed ≡ Some closed) }

@@ -19,7 +19,6 @@ use std::alloc::Global;
 use trace_bursts::passes_bound;
 use trace_forms::{formed, openings};
 use trace_judge::broken_when_formed;
-use trace_rules::prefixes_are_broadcast_until_learned;
 use unix_calls::{Description, Rec, Stream};
 
 /// What a trace of a described cluster comes to, whose processes may do at most `most` instructions in all (this project).
@@ -97,8 +96,7 @@ fn audit_formed(
     if !are_for_cause(c, trace) {
         return Ok(Audit::Fails(Promise::Unreachable));
     }
-    let broadcasts = prefixes_are_broadcast_until_learned(alloc, c, trace)?;
-    match broken_when_formed(alloc, c, trace, openings, most, broadcasts)? {
+    match broken_when_formed(alloc, c, trace, openings, most, false)? {
         Some(rule) => Ok(Audit::Fails(Promise::Rule(rule))),
         None => Ok(Audit::Holds),
     }

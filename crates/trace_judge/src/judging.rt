@@ -1,4 +1,4 @@
-ghost use Rattle.std.specs.Prelude.{◌≡◌, ◌≤◌, IfOk, true};
+ghost use Rattle.std.specs.Prelude.{◌≡◌, ◌≤◌, IfOk, IsTrue, true};
 ghost use Rattle.unix_calls.specs.Lawful.{Lawful};
 ghost use Rattle.one_kernel.specs.declared.Verdict.TheVariants.{Legal};
 ghost use Rattle.one_kernel.specs.Verdicts.{verdict_of};
@@ -11,6 +11,7 @@ ghost use Rattle.sharing_rules.specs.Facts.{facts_of};
 ghost use Rattle.call_journal.specs.PrefixBroadcasts.{prefixes_are_broadcast_until_learned};
 ghost use Rattle.call_journal.specs.Sharing.{caching_stops_only_for_sharing};
 ghost use Rattle.trace_judge.specs.Cuts.{cuts_in};
+ghost use Rattle.trace_judge.specs.Known.{KnowsRun};
 ghost use Rattle.trace_forms.specs.Openings.{openings_of};
 ghost use Rattle.trace_judge.specs.Rules.{broken_rule, broken_when_formed, first_broken, unless_worth};
 
@@ -21,7 +22,9 @@ use sharing_rules::{EntryFacts, cached_calls_use_held_blocks, tell_entries};
 use sprite_ids::NoMemory;
 use std::alloc::Global;
 use trace_forms::{formed, openings};
-use trace_rules::{fetches_are_of_absent_blocks, operations_go_out_uncached};
+use trace_rules::{
+    fetches_are_of_absent_blocks, operations_go_out_uncached, prefixes_are_broadcast_until_learned,
+};
 use trace_tables::{Caller, Tied, ToldCallers, tell_callers};
 use trace_worth::is_worth;
 use unix_calls::{Description, Rec, Stream};
@@ -30,8 +33,10 @@ use write_sharing::caching_stops_only_for_sharing;
 
 /// The first rule, in their order, that a trace breaks whose journal one Unix kernel gives, where its processes do at most `most`
 /// instructions up to their calls; None exactly where it keeps them all: its records are written as they should be, it keeps the nine
-/// rules, and each record is worth its units (this project). That its prefixes are broadcast until they are learned is known, as it is of
-/// each run. The one error is want of memory, which is also the answer where the entries would be more than 2^32.
+/// rules, and each record is worth its units (this project). What is known of each run, by proof, isn't asked (`KnowsRun`): that prefixes
+/// are broadcast only until they are learned, and learned once, that at most six packets come for each that goes out, that a try is over only
+/// behind a loss, and that no more packets meet a fault than go out. The one error is want of memory, which is also the answer where the
+/// entries would be more than 2^32.
 pub fn first_broken(
     alloc: Global,
     c: &Description,
@@ -41,7 +46,7 @@ pub fn first_broken(
     requires lawful { Lawful c.now }
     requires bound { most ≤ 40000000000 }
     requires legal { verdict_of c.now most (journal_of trace.now) ≡ Legal }
-    requires broadcasts { prefixes_are_broadcast_until_learned c.now trace.now ≡ true }
+    requires known { KnowsRun c.now trace.now }
     ensures { IfOk result (λ broken. broken ≡ first_broken c.now trace.now) }
 {
     let openings = openings(alloc, c, trace, most)?;
@@ -53,27 +58,27 @@ pub fn first_broken(
 
 /// The first of the nine rules, in their order, that such a trace breaks whose records are written as they should be, and `Worth` where
 /// it keeps these and a record isn't worth its units; None exactly where it keeps all (this project). `openings` are the streams of files
-/// that its records make; `broadcasts` tells whether its prefixes are broadcast until they are learned. The one error is want of memory,
-/// which is also the answer where the entries would be more than 2^32.
+/// that its records make; `known` tells that what is known of each run is known of it, so that it isn't asked. The one error is want of
+/// memory, which is also the answer where the entries would be more than 2^32.
 pub fn broken_when_formed(
     alloc: Global,
     c: &Description,
     trace: &[Rec],
     openings: &[Option<Stream>],
     most: u64,
-    broadcasts: bool,
+    known: bool,
 ) -> Result<Option<Rule>, NoMemory>
     requires lawful { Lawful c.now }
     requires bound { most ≤ 40000000000 }
     requires legal { verdict_of c.now most (journal_of trace.now) ≡ Legal }
     requires openings { openings.now ≡ openings_of c.now trace.now }
     requires formed { formed c.now trace.now ≡ true }
-    requires broadcasts { broadcasts ≡ prefixes_are_broadcast_until_learned c.now trace.now }
+    requires known { IsTrue known → KnowsRun c.now trace.now }
     ensures { IfOk result (λ broken. broken ≡ broken_when_formed c.now trace.now) }
 {
-    match broken_rule(alloc, c, trace, most, broadcasts)? {
+    match broken_rule(alloc, c, trace, most, known)? {
         Some(rule) => Ok(Some(rule)),
-        None => unless_worth(alloc, c, trace, openings, most),
+        None => unless_worth(alloc, c, trace, openings, most, known),
     }
 }
 
@@ -84,14 +89,16 @@ fn unless_worth(
     trace: &[Rec],
     openings: &[Option<Stream>],
     most: u64,
+    known: bool,
 ) -> Result<Option<Rule>, NoMemory>
     requires lawful { Lawful c.now }
     requires bound { most ≤ 40000000000 }
     requires legal { verdict_of c.now most (journal_of trace.now) ≡ Legal }
     requires openings { openings.now ≡ openings_of c.now trace.now }
+    requires known { IsTrue known → KnowsRun c.now trace.now }
     ensures { IfOk result (λ broken. broken ≡ unless_worth c.now trace.now) }
 {
-    if is_worth(alloc, c, trace, openings, most)? {
+    if is_worth(alloc, c, trace, openings, most, known)? {
         return Ok(None);
     }
     Ok(Some(Rule::Worth))
@@ -103,13 +110,13 @@ fn broken_rule(
     c: &Description,
     trace: &[Rec],
     most: u64,
-    broadcasts: bool,
+    known: bool,
 ) -> Result<Option<Rule>, NoMemory>
     requires lawful { Lawful c.now }
     requires bound { most ≤ 40000000000 }
     requires legal { verdict_of c.now most (journal_of trace.now) ≡ Legal }
     requires formed { formed c.now trace.now ≡ true }
-    requires broadcasts { broadcasts ≡ prefixes_are_broadcast_until_learned c.now trace.now }
+    requires known { IsTrue known → KnowsRun c.now trace.now }
     ensures { IfOk result (λ broken. broken ≡ broken_rule c.now trace.now) }
 {
     match tell_callers(alloc, c, trace, most)? {
@@ -121,7 +128,7 @@ fn broken_rule(
                 most,
                 ties.as_slice(),
                 callers.as_slice(),
-                broadcasts,
+                known,
             )
         }
         ToldCallers::NotLegal(_) => Ok(None),
@@ -137,7 +144,7 @@ fn broken_tied(
     most: u64,
     ties: &[Option<Tied>],
     callers: &[Caller],
-    broadcasts: bool,
+    known: bool,
 ) -> Result<Option<Rule>, NoMemory>
     requires lawful { Lawful c.now }
     requires bound { most ≤ 40000000000 }
@@ -145,7 +152,7 @@ fn broken_tied(
     requires formed { formed c.now trace.now ≡ true }
     requires ties { ties.now ≡ ties_of c.now trace.now }
     requires callers { callers.now ≡ callers_of c.now trace.now }
-    requires broadcasts { broadcasts ≡ prefixes_are_broadcast_until_learned c.now trace.now }
+    requires known { IsTrue known → KnowsRun c.now trace.now }
     ensures { IfOk result (λ broken. broken ≡ broken_rule c.now trace.now) }
 {
     match mark(alloc, c, trace, most)? {
@@ -157,7 +164,7 @@ fn broken_tied(
             ties,
             callers,
             marks.as_slice(),
-            broadcasts,
+            known,
         ),
         None => Ok(None),
     }
@@ -172,7 +179,7 @@ fn broken_marked(
     ties: &[Option<Tied>],
     callers: &[Caller],
     marks: &[bool],
-    broadcasts: bool,
+    known: bool,
 ) -> Result<Option<Rule>, NoMemory>
     requires lawful { Lawful c.now }
     requires bound { most ≤ 40000000000 }
@@ -181,7 +188,7 @@ fn broken_marked(
     requires ties { ties.now ≡ ties_of c.now trace.now }
     requires callers { callers.now ≡ callers_of c.now trace.now }
     requires marks { marks.now ≡ marks_of c.now trace.now }
-    requires broadcasts { broadcasts ≡ prefixes_are_broadcast_until_learned c.now trace.now }
+    requires known { IsTrue known → KnowsRun c.now trace.now }
     ensures { IfOk result (λ broken. broken ≡ broken_rule c.now trace.now) }
 {
     match tell_entries(alloc, c, trace, ties, most)? {
@@ -193,7 +200,7 @@ fn broken_marked(
             callers,
             marks,
             facts.as_slice(),
-            broadcasts,
+            known,
         ),
         None => Ok(None),
     }
@@ -208,7 +215,7 @@ fn broken_told(
     callers: &[Caller],
     marks: &[bool],
     facts: &[EntryFacts],
-    broadcasts: bool,
+    known: bool,
 ) -> Result<Option<Rule>, NoMemory>
     requires lawful { Lawful c.now }
     requires formed { formed c.now trace.now ≡ true }
@@ -216,7 +223,7 @@ fn broken_told(
     requires callers { callers.now ≡ callers_of c.now trace.now }
     requires marks { marks.now ≡ marks_of c.now trace.now }
     requires facts { facts.now ≡ facts_of c.now trace.now }
-    requires broadcasts { broadcasts ≡ prefixes_are_broadcast_until_learned c.now trace.now }
+    requires known { IsTrue known → KnowsRun c.now trace.now }
     ensures { IfOk result (λ broken. broken ≡ broken_rule c.now trace.now) }
 {
     if !entries_stand_at_their_kernels(alloc, c, trace, callers)? {
@@ -237,7 +244,7 @@ fn broken_told(
     if !is_shared_well(alloc, c, trace, ties, facts)? {
         return Ok(Some(Rule::Sharing));
     }
-    if !broadcasts {
+    if !broadcasts_are_few(alloc, c, trace, known)? {
         return Ok(Some(Rule::Broadcasts));
     }
     if !processes_run_where_they_are(alloc, c, trace, callers)? {
@@ -247,6 +254,22 @@ fn broken_told(
         return Ok(Some(Rule::WriteBacks));
     }
     Ok(None)
+}
+
+// Whether prefixes are broadcast only until they are learned.
+fn broadcasts_are_few(
+    alloc: Global,
+    c: &Description,
+    trace: &[Rec],
+    known: bool,
+) -> Result<bool, NoMemory>
+    requires { IsTrue known → KnowsRun c.now trace.now }
+    ensures { IfOk result (λ few. few ≡ prefixes_are_broadcast_until_learned c.now trace.now) }
+{
+    if known {
+        return Ok(true);
+    }
+    prefixes_are_broadcast_until_learned(alloc, c, trace)
 }
 
 // Whether kernels stop caching files only where these are shared.

@@ -250,7 +250,7 @@ fn is_worth(alloc: Global, c: &Description, trace: &[Rec]) -> Result<bool, NoMem
         Told::Legal(ties) => {
             drop(ties);
             let made = openings(alloc, c, trace, 1_000_000)?;
-            records_are_worth(alloc, c, trace, made.as_slice())
+            records_are_worth(alloc, c, trace, made.as_slice(), false)
         }
         Told::NotLegal(_) => Err(NoMemory),
         Told::Steps(_) => Err(NoMemory),

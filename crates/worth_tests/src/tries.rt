@@ -586,7 +586,7 @@ fn is_judged(
 {
     let text = text_of(alloc, row.0, row.1, row.2, row.3)?;
     match read_trace(alloc, text.as_slice()) {
-        Ok(trace) => Ok(expires_are_worth(alloc, c, trace.records())? == row.4),
+        Ok(trace) => Ok(expires_are_worth(alloc, c, trace.records(), false)? == row.4),
         Err(_) => Err(NoMemory),
     }
 }
