@@ -1,8 +1,7 @@
 -- That each operation that waits in a broadcast asked for its prefix bears what a client's files' side does.
-use Rattle.std.proofs.Common.{◌≡◌, ℕ, ◌+◌, ◌⊎◌, Bool, true, false, cond, List, [], ◌∷◌, ◌++◌, length, length-append, slice_get, zero, suc, Option, Some, option_map, inl, inr, arith, refl, subst}
+use Rattle.std.proofs.Common.{◌≡◌, ℕ, ◌+◌, ◌⊎◌, Bool, true, false, cond, List, [], ◌∷◌, ◌++◌, length, length-append, slice_get, Option, Some, option_map, inl, inr, arith, refl, subst}
 use Rattle.std.specs.List.{AllByRecursion, find}
 use Rattle.sprite_ids.specs.declared.TxNo.{TxNo}
-use Rattle.sprite_ids.specs.Lists.{less}
 use Rattle.sprite_ids.proofs.ListLaws.{each_push, each_weaken, some_is}
 use Rattle.kernel_steps.specs.declared.Input.{Input}
 use Rattle.kernel_steps.specs.declared.Sending.{Sending}
@@ -17,6 +16,7 @@ use Rattle.client_file_tables.specs.declared.states.NameState.TheVariants as sta
 use Rattle.client_file_tables.specs.Rows.{less_of, same_pid}
 use Rattle.client_names.specs.Requests.{echo_to, request_to}
 use Rattle.client_walks.proofs.Bearing.{Bears, Seen, broadcast_to, is_plain, waiting_so, waits_more}
+use Rattle.client_walks.proofs.RowLaws.{each_less, got_before}
 use Rattle.broadcast_laws.specs.Broadcasts.{AsksNow, Parts}
 
 -- ---- what each operation that waits in a broadcast asked before, or asks now
@@ -50,21 +50,12 @@ Asked Old first seen = AskSo Old first seen.rows seen.next seen.sends
 
 -- ---- lists
 
-got_before : {X : Type 0} (xs ys : List X) (i : ℕ) (x : X) → slice_get xs i ≡ Some x → slice_get (xs ++ ys) i ≡ Some x
-got_before [] ys i x e = absurd (cc)
-got_before (y ∷ xs) ys zero x e = e
-got_before (y ∷ xs) ys (suc i) x e = got_before xs ys i x e
-
 got_last : {X : Type 0} (xs : List X) (x : X) → slice_get (xs ++ x ∷ []) (length xs) ≡ Some x
 got_last [] x = refl
 got_last (y ∷ xs) x = got_last xs x
 
 more_length : {X : Type 0} (first n : ℕ) (xs : List X) (x : X) → n ≡ first + length xs → n + 1 ≡ first + length (xs ++ x ∷ [])
 more_length first n xs x h = (let many : length (xs ++ x ∷ []) ≡ length xs + 1 = length-append xs (x ∷ []) in omega (arith, h, many))
-
-each_less : {X : Type 0} (F : X → Type 0) (p : X → Bool) (xs : List X) → AllByRecursion F xs → AllByRecursion F (less p xs)
-each_less F p [] h = tt
-each_less F p (x ∷ xs) h = elim (p x) as (λ b. AllByRecursion F (cond b xs (x ∷ less p xs))) [ true ↦ h.1 | false ↦ (h.0, each_less F p xs h.1) ]
 
 -- what was found among the operations is so
 found_by : (F : Pending → Type 0) (b : Bool) (row : ℕ × Pending) (rest : Option (ℕ × Pending)) (operation : Pending) → F row.1 → (option_map (λ (row : ℕ × Pending). row.1) rest ≡ Some operation → F operation) → option_map (λ (row : ℕ × Pending). row.1) (cond b (Some row) rest) ≡ Some operation → F operation

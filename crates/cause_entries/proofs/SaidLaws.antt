@@ -22,14 +22,15 @@ use Rattle.client_file_tables.specs.Says.{about_of}
 use Rattle.client_procs.specs.Steps.{begins_step}
 use Rattle.client_walks.proofs.Bearing.{Bears, MayAsk, Seen, is_plain, waiting_so}
 use Rattle.client_walks.proofs.StepBearing.{whole_step}
+use Rattle.client_walks.proofs.RowLaws.{each_less}
 use Rattle.cause_entries.specs.Sayings.{AreBelow, ClientsSaySo, IsBelow, IsFor, IsSaid, OperationSaid, RowsSaid, SaysSo, awaited, kind_of, may_ask}
 use Rattle.cause_entries.specs.Waits.{Parts}
 use Rattle.cause_entries.proofs.CauseLaws.{is_loud, quiet_not_loud}
-use Rattle.cause_entries.proofs.WaitLaws.{asked_so, each_less}
+use Rattle.cause_entries.proofs.WaitLaws.{asked_so}
 
 -- ---- events
 
-below_more : (next now : ℕ) (event : Event) → next ≤ now → IsBelow next event → IsBelow now event
+pub below_more : (next now : ℕ) (event : Event) → next ≤ now → IsBelow next event → IsBelow now event
 below_more next now (events.Send tx to about kind) more h = omega arith
 below_more next now (events.Enter entry) more h = tt
 below_more next now event more h = tt

@@ -1,9 +1,8 @@
 -- Behind each step of a client: what its name calls wait for was told to go out.
 use Rattle.std.proofs.Common.{◌≡◌, ℕ, zero, suc, Bool, true, false, cond, List, [], ◌∷◌, ◌++◌, map, slice_get, Option, Some, option_map, refl, sym, ap, subst, append_assoc, append-nil}
 use Rattle.std.proofs.lemmas.Bool.{eqb-true}
-use Rattle.std.specs.List.{AllByRecursion, find}
+use Rattle.std.specs.List.{find}
 use Rattle.sprite_ids.specs.declared.TxNo.{TxNo}
-use Rattle.sprite_ids.specs.Lists.{less}
 use Rattle.sprite_ids.proofs.ListLaws.{each_push, each_weaken, some_is}
 use Rattle.packet_bodies.specs.declared.ReplyBody.TheVariants.{Redirect}
 use Rattle.kernel_steps.specs.declared.Input.{Input}
@@ -24,14 +23,10 @@ use Rattle.client_file_tables.specs.Says.{about_of}
 use Rattle.client_procs.specs.Steps.{begins_step}
 use Rattle.client_walks.proofs.Bearing.{Bears, Led, MayAsk, Root, Seen, is_plain, waiting_so}
 use Rattle.client_walks.proofs.StepBearing.{whole_step}
+use Rattle.client_walks.proofs.RowLaws.{each_less, got_before}
 use Rattle.cause_entries.specs.Waits.{ClientsWaitSo, IsTold, OperationWent, Parts, RowsWent, WentOut}
 
 -- ---- lists
-
-pub got_before : {X : Type 0} (xs ys : List X) (i : ℕ) (x : X) → slice_get xs i ≡ Some x → slice_get (xs ++ ys) i ≡ Some x
-got_before [] ys i x e = absurd (cc)
-got_before (y ∷ xs) ys zero x e = e
-got_before (y ∷ xs) ys (suc i) x e = got_before xs ys i x e
 
 -- something is in a list
 pub record In {X : Type 0} (xs : List X) (x : X) : Type 0 where
@@ -46,10 +41,6 @@ got_mapped : {X Y : Type 0} (f : X → Y) (xs : List X) (i : ℕ) (x : X) → sl
 got_mapped f [] i x e = absurd (cc)
 got_mapped f (y ∷ xs) zero x e = ap (option_map f) e
 got_mapped f (y ∷ xs) (suc i) x e = got_mapped f xs i x e
-
-pub each_less : {X : Type 0} (F : X → Type 0) (p : X → Bool) (xs : List X) → AllByRecursion F xs → AllByRecursion F (less p xs)
-each_less F p [] h = tt
-each_less F p (x ∷ xs) h = elim (p x) as (λ b. AllByRecursion F (cond b xs (x ∷ less p xs))) [ true ↦ h.1 | false ↦ (h.0, each_less F p xs h.1) ]
 
 -- ---- what was told stays told
 

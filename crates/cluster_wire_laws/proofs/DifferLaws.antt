@@ -1,7 +1,7 @@
 -- Numbers that all stand in a list are, each counted once, no more than it is long.
 use Rattle.std.proofs.Common.{arith, ◌≡◌, ℕ, ◌+◌, ◌≤◌, ◌==◌, Bool, true, false, ◌||◌, not, cond, List, [], ◌∷◌, length, refl, ap, ◌∙◌}
 use Rattle.std.specs.List.{AllByRecursion, list_any}
-use Rattle.std.proofs.lemmas.Bool.{eqb-true}
+use Rattle.std.proofs.lemmas.Bool.{eqb-true, or_right}
 use Rattle.std.proofs.lemmas.Bool.Decides.{nat_tests}
 use Rattle.sprite_ids.specs.Lists.{less}
 use Rattle.sprite_ids.proofs.ListLaws.{each_weaken}
@@ -16,14 +16,10 @@ IsAmong numbers n = list_any (λ m. m == n) numbers ≡ true
 same_number : (n : ℕ) → (n == n) ≡ true
 same_number n = grind (arith, nat_tests)
 
-or_true : (b c : Bool) → c ≡ true → (b || c) ≡ true
-or_true true c e = refl
-or_true false c e = e
-
 -- each number of a list stands in it
 pub each_among : (numbers : List ℕ) → AllByRecursion (IsAmong numbers) numbers
 each_among [] = tt
-each_among (n ∷ ns) = (ap (λ b. b || list_any (λ m. m == n) ns) (same_number n), each_weaken (IsAmong ns) (IsAmong (n ∷ ns)) ns (λ m h. or_true (n == m) (list_any (λ k. k == m) ns) h) (each_among ns))
+each_among (n ∷ ns) = (ap (λ b. b || list_any (λ m. m == n) ns) (same_number n), each_weaken (IsAmong ns) (IsAmong (n ∷ ns)) ns (λ m h. or_right (n == m) (list_any (λ k. k == m) ns) h) (each_among ns))
 
 -- without one number the others still stand there
 still_by : (n m x : ℕ) (xs : List ℕ) → (m == n) ≡ false → (IsAmong xs m → IsAmong (less (λ k. k == n) xs) m) → (first same : Bool) → (x == n) ≡ first → (x == m) ≡ same → (same || list_any (λ k. k == m) xs) ≡ true → list_any (λ k. k == m) (cond first xs (x ∷ less (λ k. k == n) xs)) ≡ true

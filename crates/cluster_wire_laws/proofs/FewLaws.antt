@@ -1,7 +1,7 @@
 -- Few packets come of a call that a trace tells to have been sent.
-use Rattle.std.proofs.Common.{arith, ◌≡◌, ℕ, zero, suc, ◌+◌, ◌*◌, ◌≤◌, ◌==◌, Bool, true, false, ◌&&◌, not, cond, List, [], ◌∷◌, refl, ap, subst, ◌∙◌, count_by}
+use Rattle.std.proofs.Common.{arith, ◌≡◌, ℕ, zero, suc, ◌+◌, ◌*◌, ◌≤◌, ◌==◌, Bool, true, false, ◌&&◌, not, cond, List, [], ◌∷◌, refl, subst, count_by}
 use Rattle.std.specs.List.{list_all}
-use Rattle.std.proofs.lemmas.Bool.{le-leb}
+use Rattle.std.proofs.lemmas.Bool.{le-leb, and_from}
 use Rattle.kernel_rpc.specs.Machine.{Machine, idle}
 use Rattle.kernel_rpc.specs.Histories.{brings, times}
 use Rattle.kernel_rpc.specs.Runs.{Act, Counts, IsRun, once_if}
@@ -30,7 +30,7 @@ same_packet tx receiver r (events.Deliver key from reply about) = omega arith
 same_packet tx receiver r e = omega arith
 
 -- and a request that is sent again one that a try is over
-first_most : (a b : Bool) → once_if (a && b) ≤ once_if a
+pub first_most : (a b : Bool) → once_if (a && b) ≤ once_if a
 first_most true true = omega arith
 first_most true false = omega arith
 first_most false b = omega arith
@@ -45,9 +45,6 @@ either_packet true true true t = omega arith
 either_packet true true false t = omega arith
 either_packet true false k t = omega arith
 either_packet false r k t = omega arith
-
-both_true : (a b : Bool) → a ≡ true → b ≡ true → (a && b) ≡ true
-both_true a b h k = ap (λ x. x && b) h ∙ k
 
 -- six for each time that the request was sent to the receiver
 pub six_by : (tx receiver again : ℕ) (counts : Counts) (steps : List (Act × Counts)) (n : ℕ) → IsRun idle counts steps → times (brings (is_packet_of tx receiver)) idle steps ≤ 6 * (1 + again) → times (begins_to tx receiver) idle steps ≡ n → times (brings (is_packet_of tx receiver)) idle steps ≤ 6 * (n + again)
@@ -77,7 +74,7 @@ each_told faults asked begun wire trace reached told kernel e = refl
 
 all_so : {X : Type 0} (p : X → Bool) → ((x : X) → p x ≡ true) → (xs : List X) → list_all p xs ≡ true
 all_so p each [] = refl
-all_so p each (x ∷ xs) = both_true (p x) (list_all p xs) (each x) (all_so p each xs)
+all_so p each (x ∷ xs) = and_from (p x) (list_all p xs) (each x) (all_so p each xs)
 
 pub few_packets : {L : Type 0} (faults asked : L → ℕ → ℕ → ℕ) → FewPacketsCome faults asked
 few_packets faults asked begun wire trace reached = all_so (λ (r : Rec). delivers_few r.event r.kernel trace) (λ r. each_told faults asked begun wire trace reached (λ tx receiver. (let told = begins_are_told tx receiver trace reached.steps idle reached.linked in told)) r.kernel r.event) trace

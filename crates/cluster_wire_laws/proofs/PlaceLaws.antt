@@ -99,10 +99,10 @@ run_wire [] machine = refl
 run_wire (step ∷ steps) machine = wire_on (all_told_by machine step.0) (told_of all_told_by (after machine step.0) steps) ∙ ap₂ (λ (xs ys : List Rec). xs ++ ys) (act_wire machine step.0) (run_wire steps (after machine step.0))
 
 -- where two lists go on behind the same item, as many such items stand before it
-head_is : {X : Type 0} (x y : X) (xs ys : List X) → x ∷ xs ≡ y ∷ ys → x ≡ y
+pub head_is : {X : Type 0} (x y : X) (xs ys : List X) → x ∷ xs ≡ y ∷ ys → x ≡ y
 head_is x y xs ys is = cc
 
-tail_is : {X : Type 0} (x y : X) (xs ys : List X) → x ∷ xs ≡ y ∷ ys → xs ≡ ys
+pub tail_is : {X : Type 0} (x y : X) (xs ys : List X) → x ∷ xs ≡ y ∷ ys → xs ≡ ys
 tail_is x y xs ys is = cc
 
 none_kept : {X : Type 0} (x : X) (xs : List X) (kept : Bool) → kept ≡ true → [] ≡ cond {A = List X} kept (x ∷ xs) xs → ⊥

@@ -2,6 +2,7 @@
 use Rattle.std.proofs.Common.{arith, ◌≡◌, ℕ, ◌+◌, ◌≤◌, ◌==◌, Bool, true, false, ◌&&◌, ◌||◌, cond, List, [], ◌∷◌, map, refl, ap, filter, count_by, ◌++◌, None}
 use Rattle.std.specs.List.{list_any}
 use Rattle.std.proofs.lemmas.List.Sums.{sum_by-append}
+use mathlib.Core.Bool.{and-false}
 use Rattle.sprite_ids.specs.declared.TxNo.{TxNo}
 use Rattle.link_plan.specs.declared.Fate.{Fate}
 use Rattle.kernel_rpc.specs.Histories.{times}
@@ -22,11 +23,11 @@ use Rattle.cluster_wire_laws.proofs.TallyLaws.{first_of}
 abbrev sendings_to : ℕ → ℕ → List Rec → ℕ
 sendings_to tx receiver records = count_by (has_event (is_send_to tx receiver)) records
 
-bare_same : (tx receiver : ℕ) (e : Event) → is_send_to tx receiver (bare_event e) ≡ is_send_to tx receiver e
+pub bare_same : (tx receiver : ℕ) (e : Event) → is_send_to tx receiver (bare_event e) ≡ is_send_to tx receiver e
 bare_same tx receiver (events.Send t to about kind) = refl
 bare_same tx receiver e = refl
 
-other_none : (tx receiver : ℕ) (e : Event) → is_of_link e ≡ false → is_send_to tx receiver e ≡ false
+pub other_none : (tx receiver : ℕ) (e : Event) → is_of_link e ≡ false → is_send_to tx receiver e ≡ false
 other_none tx receiver (events.Send t to about kind) is = absurd (cc)
 other_none tx receiver e is = refl
 
@@ -48,12 +49,8 @@ either_sent true true y = omega arith
 either_sent true false y = omega arith
 either_sent false x y = omega arith
 
-none_sent : (b : Bool) → once_if (b && false) ≡ 0
-none_sent true = refl
-none_sent false = refl
-
 sent_counts : (tx receiver kernel : ℕ) (key : TxNo) (packets : List (ℕ × Fate)) → once_if ((key.0 == tx) && list_any (λ (packet : ℕ × Fate). packet.0 == receiver) packets) ≤ sendings_to tx receiver (sent_told kernel key packets)
-sent_counts tx receiver kernel key [] = (let none = none_sent (key.0 == tx) in omega arith)
+sent_counts tx receiver kernel key [] = (let none = ap once_if (and-false (key.0 == tx)) in omega arith)
 sent_counts tx receiver kernel key (packet ∷ packets) =
     (let first = first_of (has_event (is_send_to tx receiver)) (record { kernel = kernel; event = events.Send key packet.0 None Other }) (fault_told kernel kernel packet.0 packet.1 ++ sent_told kernel key packets) in
     let behind = sum_by-append (λ (r : Rec). cond {A = ℕ} (has_event (is_send_to tx receiver) r) 1 0) (fault_told kernel kernel packet.0 packet.1) (sent_told kernel key packets) in

@@ -27,11 +27,11 @@ begins tx machine (Silence key at) = false
 begins tx machine (Expire key sent) = false
 
 -- calls that were begun stay so
-expired_begun : (o : Option Call) (key : TxNo) (sent : List (ℕ × Fate)) (machine : Machine) → (expired_by key o sent machine).begun ≡ machine.begun
+pub expired_begun : (o : Option Call) (key : TxNo) (sent : List (ℕ × Fate)) (machine : Machine) → (expired_by key o sent machine).begun ≡ machine.begun
 expired_begun None key sent machine = refl
 expired_begun (Some call) key sent machine = elim (is_last call) as (λ b. (cond b (gave_up key machine) (resent key (Some call) sent machine)).begun ≡ machine.begun) [ true ↦ refl | false ↦ refl ]
 
-begun_grows : (machine : Machine) (act : Act) → machine.begun ≤ (after machine act).begun
+pub begun_grows : (machine : Machine) (act : Act) → machine.begun ≤ (after machine act).begun
 begun_grows machine (Begin from port servers owner body tries about before sent) = omega arith
 begun_grows machine (Deliver number given) = (let same = delivered_begun (copy_of machine number) given machine in omega arith)
 begun_grows machine (Answer key body given) = (let same = (unfinished_replied (call_of machine key) given machine).1 in omega arith)

@@ -1,6 +1,6 @@
 -- A name that is made or taken away in one domain leaves the names of every other one.
-use Rattle.std.proofs.Common.{◌≡◌, ◌≢◌, ℕ, Bool, true, false, ◌&&◌, cond, List, [], ◌∷◌, ◌++◌, length, Some, None, inl, inr, refl, sym, ap, subst, ◌∙◌, arith, length-append, append-nil}
-use Rattle.std.proofs.lemmas.Bool.{cases_Bool, true≢false}
+use Rattle.std.proofs.Common.{◌≡◌, ◌≢◌, ℕ, true, false, cond, List, [], ◌∷◌, ◌++◌, length, Some, None, inl, inr, refl, sym, ap, subst, ◌∙◌, arith, length-append, append-nil}
+use Rattle.std.proofs.lemmas.Bool.{cases_Bool, and_left}
 use Rattle.sprite_paths.specs.Path.{IsPrefix}
 use Rattle.unix_calls.specs.declared.state.Node.{Node as UnixNode}
 use Rattle.unix_calls.specs.declared.state.Node.TheVariants.{Directory}
@@ -12,6 +12,7 @@ use Rattle.server_names.proofs.FoundLaws.{path_is}
 use Rattle.tree_laws.specs.Trees.{AreNames, IsOwn, Parts, Ties, told}
 use Rattle.tree_laws.proofs.GoneLaws.{names_less, once_without, without_look}
 use Rattle.tree_laws.proofs.MakeLaws.{below_is, names_more, node_is, once_more, same_on, unix_look}
+use Rattle.tree_laws.proofs.WellLaws.{still_there}
 
 -- two paths that are prefixes of each other are one
 pub prefix_both : (a b : Parts) → IsPrefix a b → IsPrefix b a → a ≡ b
@@ -36,19 +37,6 @@ own_apart roots root other at d begins too apart below own under mine =
       | inr off ↦ off
     ]
 
-off_both : (a b : Bool) → a ≡ false → (a && b) ≡ false
-off_both true b h = absurd (true≢false h)
-off_both false b h = refl
-
--- what stood there still does
-pub kept_node : (n : NamedNode) (nodes : List NamedNode) (q : Parts) (node : UnixNode) → looked_up nodes n.path ≡ None → node_at nodes q ≡ Some node → node_at (with_name n nodes) q ≡ Some node
-kept_node n nodes [] node none h = h
-kept_node n nodes (x ∷ q) node none h =
-    elim (cases_Bool (same_path n.path (x ∷ q))) [
-      | inl same ↦ absurd (let two : Some node ≡ None = sym h ∙ ap (looked_up nodes) (sym (path_is n.path (x ∷ q) same)) ∙ none in cc)
-      | inr apart ↦ unix_look n nodes (x ∷ q) none ∙ ap (λ b. cond b (Some n.node) (looked_up nodes (x ∷ q))) apart ∙ h
-    ]
-
 pub beside_made : (ties : Ties) (roots : List Parts) (root other : Parts) (nodes : List NamedNode) (tree : Tree) (at : Parts) (part : List ℕ) (node : UnixNode)
     → AreNames ties roots other nodes tree → begins_domain roots root ≡ true → begins_domain roots other ≡ true → root ≢ other → IsPrefix root at → IsOwn roots root at → looked_up nodes (at ++ part ∷ []) ≡ None
     → AreNames ties roots other (with_name (record { path = at ++ part ∷ []; node = node }) nodes) tree
@@ -56,16 +44,16 @@ beside_made ties roots root other nodes tree at part node are begins too apart b
     let n : NamedNode = record { path = at ++ part ∷ []; node = node } in
     let off : (d : Parts) → IsPrefix other d → IsOwn roots other d → is_at d at ≡ false = λ d under mine. own_apart roots root other at d begins too apart below own under mine in
     record {
-      way = λ before p pre. let two = are.way before p pre in (two.0, kept_node n nodes (before ++ p ∷ []) Directory free two.1);
+      way = λ before p pre. let two = are.way before p pre in (two.0, still_there n nodes (before ++ p ∷ []) Directory free two.1);
       names = λ d p under mine.
           are.names d p under mine
           ∙ ap (told ties roots (d ++ p ∷ []))
           (sym (node_is (with_name n nodes) d p ∙ unix_look n nodes (d ++ p ∷ []) free
-          ∙ ap (λ b. cond b (Some node) (looked_up nodes (d ++ p ∷ []))) (same_on d at p part ∙ off_both (is_at d at) (is_part p part) (off d under mine)) ∙ sym (node_is nodes d p)));
+          ∙ ap (λ b. cond b (Some node) (looked_up nodes (d ++ p ∷ []))) (same_on d at p part ∙ and_left (is_at d at) (is_part p part) (off d under mine)) ∙ sym (node_is nodes d p)));
       counts = λ d under mine.
           are.counts d under mine
           ∙ sym (names_more n nodes d ∙ ap (λ o. length (and_name o (unix_names_in nodes d))) (below_is d at part ∙ ap (λ b. cond b (Some part) None) (off d under mine)));
-      begins = λ q is. kept_node n nodes q Directory free (are.begins q is);
+      begins = λ q is. still_there n nodes q Directory free (are.begins q is);
       once = once_more n nodes free are.once;
     }
 
@@ -87,7 +75,7 @@ beside_gone ties roots root other nodes tree at part node are begins too apart b
           are.names d p under mine
           ∙ ap (told ties roots (d ++ p ∷ []))
           (sym (node_is (without_name path nodes) d p ∙ without_look path (d ++ p ∷ []) nodes
-          ∙ ap (λ b. cond b None (looked_up nodes (d ++ p ∷ []))) (same_on d at p part ∙ off_both (is_at d at) (is_part p part) (off d under mine)) ∙ sym (node_is nodes d p)));
+          ∙ ap (λ b. cond b None (looked_up nodes (d ++ p ∷ []))) (same_on d at p part ∙ and_left (is_at d at) (is_part p part) (off d under mine)) ∙ sym (node_is nodes d p)));
       counts = λ d under mine.
           are.counts d under mine
           ∙ names_less path d node nodes are.once there

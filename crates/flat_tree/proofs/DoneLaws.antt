@@ -1,5 +1,5 @@
 -- The names of all domains behind a request that was done, in one of them.
-use Rattle.std.proofs.Common.{◌≡◌, ◌≢◌, ◌==◌, ℕ, Bool, true, false, ◌&&◌, cond, List, [], ◌∷◌, ◌++◌, length, Option, Some, None, Result, Ok, Err, inl, inr, refl, sym, ap, ap₂, subst, ◌∙◌, arith, append-nil, append_assoc}
+use Rattle.std.proofs.Common.{◌≡◌, ◌≢◌, ◌==◌, ℕ, Bool, true, false, ◌&&◌, cond, List, [], ◌∷◌, ◌++◌, length, Some, None, Result, Ok, Err, inl, inr, refl, sym, ap, ap₂, subst, ◌∙◌, arith, append-nil, append_assoc}
 use Rattle.std.specs.Option.{is_some}
 use Rattle.std.proofs.lemmas.Bool.{cases_Bool, eqb-true, true≢false}
 use Rattle.sprite_ids.specs.declared.Errno.TheVariants as errno
@@ -15,7 +15,7 @@ use Rattle.server_names.specs.declared.NameEnd.{NameEnd}
 use Rattle.server_names.specs.declared.NameEnd.TheVariants.{Errno as Refused, Redirect, NoMemory}
 use Rattle.server_names.specs.declared.Node.{Node}
 use Rattle.server_names.specs.declared.Node.TheVariants.{Dir}
-use Rattle.server_names.specs.declared.Entry.TheVariants.{Node as Named, Link}
+use Rattle.server_names.specs.declared.Entry.TheVariants.{Node as Named}
 use Rattle.server_names.specs.Names.{IsSound, Tree, count, done, entry_in, found, freed, goes_on, is_at, made, make_answer, named, parent, removable, removable_found, remove_answer, removed, renamable, rename_answer, rename_target, renamed, renamed_node, roomy, walked}
 use Rattle.server_names.proofs.FoundLaws.{freed_none, goes_parts, named_is, path_is, path_itself, removable_ok, renamed_parts, ok_is}
 use Rattle.server_names.proofs.SoundLaws.{sound_made, sound_removed, sound_renamed}
@@ -24,7 +24,7 @@ use Rattle.tree_laws.proofs.FindLaws.{found_by, further}
 use Rattle.tree_laws.proofs.GoneLaws.{named_told, none_either, removed_is_same, without_look}
 use Rattle.tree_laws.proofs.MakeLaws.{made_is_same, node_is, told_none}
 use Rattle.tree_laws.proofs.RemoveLaws.{removes_by}
-use Rattle.tree_laws.proofs.RenameLaws.{renamed_is_same}
+use Rattle.tree_laws.proofs.RenameLaws.{renamed_is_same, named_plain}
 use Rattle.tree_laws.proofs.WalkLaws.{own_on}
 use Rattle.flat_tree.specs.Requests.{Trees, remove_at, rename_at, renamed_as, with_tree, are_apart, apart_found}
 use Rattle.flat_tree.specs.Runs.{AreOneTree}
@@ -37,7 +37,6 @@ use Rattle.flat_tree.proofs.RenameAnswerLaws.{new_below}
 use Rattle.flat_tree.proofs.RootLaws.{IsThere, make_by, root_there, target_by}
 use Rattle.flat_tree.proofs.WithinLaws.{AtRoot, Below, Within, within}
 use Rattle.sprite_ids.proofs.ListLaws.{some_is}
-use Rattle.server_names.specs.declared.Entry.{Entry}
 
 -- ---- one domain and the others
 
@@ -125,14 +124,6 @@ plain_dir ties Directory n e h = sym h
 plain_dir ties (FileNode name) n e h = absurd (cc)
 plain_dir ties (DeviceNode place) n e h = absurd (cc)
 
--- what stands there has the server's node
-pub told_plain : (ties : Ties) (roots : List Parts) (path : Parts) (n : Node) (x : UnixNode) → told ties roots path (Some x) ≡ Some (Named n) → plain ties x ≡ n
-told_plain ties roots path n x h = by (begins_domain roots path) h
-  where
-    by : (b : Bool) → (◌≡◌ {A = Option Entry} (Some (cond b (Link path) (Named (plain ties x)))) (Some (Named n))) → plain ties x ≡ n
-    by true h = absurd (cc)
-    by false h = cc
-
 pub removed_one : (ties : Ties) (u : Unix) (root : Parts) (trees : Trees) (path : Parts) (directory : Bool) (node : Node) → AreOneTree ties u trees → begins_domain u.roots root ≡ true → IsPrefix root path → remove_at root (trees root) path directory ≡ Ok node
     → AreOneTree ties (unnamed path u) (with_tree root (removed (trees root) path) trees)
 removed_one ties u root trees path directory node one begins below ok = by (within root path below)
@@ -151,7 +142,7 @@ removed_one ties u root trees path directory node one begins below ok = by (with
         let tells : told ties u.roots path (node_at u.nodes path) ≡ Some (Named n.0) = sym (are.names d part under own) ∙ there in
         let stands = named_told ties u.roots path n.0 (node_at u.nodes path) tells in
         let looked : looked_up u.nodes path ≡ Some stands.0 = sym (node_is u.nodes d part) ∙ stands.1.0 in
-        let is_plain = told_plain ties u.roots path n.0 stands.0 (ap (told ties u.roots path) (sym stands.1.0) ∙ tells) in
+        let is_plain = named_plain ties u.roots path n.0 stands.0 (ap (told ties u.roots path) (sym stands.1.0) ∙ tells) in
         let clear = clear_of ties u root trees d part stands.0 one begins under own stands.1.0 stands.1.1 (λ dir. none_counted (trees root) path directory node (subst (λ m. removable (trees root) path directory m ≡ Ok node) (plain_dir ties stands.0 n.0 dir is_plain) can)) in
         let tree = removed (trees root) path in
         record {
@@ -205,7 +196,7 @@ moved_one ties u root trees from x at part node one begins below under ok =
     let stands = named_told ties u.roots old node (node_at u.nodes old) tells in
     let kind = stands.0 in
     let looked : looked_up u.nodes old ≡ Some kind = sym (node_is u.nodes from x) ∙ stands.1.0 in
-    let is_plain = told_plain ties u.roots old node kind (ap (told ties u.roots old) (sym stands.1.0) ∙ tells) in
+    let is_plain = named_plain ties u.roots old node kind (ap (told ties u.roots old) (sym stands.1.0) ∙ tells) in
     let clear = clear_of ties u root trees from x kind one begins below own stands.1.0 stands.1.1 (λ dir. absurd (not_dir ties kind node is_plain answer.1.0 dir)) in
     let absent : looked_up u.nodes new ≡ None = sym (node_is u.nodes at part) ∙ told_none ties u.roots new (node_at u.nodes new) (sym (are.names at part under own_at) ∙ free) in
     let fresh : looked_up (without_name old u.nodes) new ≡ None = without_look old new u.nodes ∙ ap (cond (same_path old new) None) absent ∙ none_either (same_path old new) in

@@ -34,8 +34,8 @@ use Rattle.flat_tree.proofs.BesideLaws.{prefix_both}
 use Rattle.flat_tree.proofs.DoneLaws.{made_one}
 use Rattle.flat_tree.proofs.LookLaws.{New, Old, Passes, boots, first_half, no_boot, passes, roots_order}
 use Rattle.flat_tree.proofs.StartLaws.{all_of, one_of, starts, starts_sound}
-use Rattle.flat_tree.proofs.WithinLaws.{ending}
 use Rattle.tree_laws.proofs.FindLaws.{further}
+use Rattle.tree_laws.proofs.WellLaws.{ends}
 use Rattle.sprite_ids.proofs.ListLaws.{some_is}
 
 -- the state with these names
@@ -166,7 +166,7 @@ file_one : (ties : Ties) (u : Unix) (root : Parts) (trees : Trees) (nodes : List
     → booted (trees root) path (Named (plain ties node)) ≡ Ok next → AreOneTree ties (at_nodes (with_name (record { path = path; node = node }) (with_directories (above path) nodes)) u) (with_tree root next trees)
 file_one ties u root trees nodes [] node next one begins own below ok = absurd (no_boot (trees root) (Named (plain ties node)) next ok)
 file_one ties u root trees nodes (first ∷ more) node next one begins own below ok =
-    let end = ending first more in
+    let end = ends first more in
     let path = end.front ++ end.last ∷ [] in
     subst (λ (k : Parts). AreOneTree ties (at_nodes (with_name (record { path = k; node = node }) (with_directories (above k) nodes)) u) (with_tree root next trees)) (sym end.whole)
     (subst (λ (d : Parts). AreOneTree ties (at_nodes (with_name (record { path = path; node = node }) (with_parts [] d nodes)) u) (with_tree root next trees)) (sym (above_is end.front end.last))

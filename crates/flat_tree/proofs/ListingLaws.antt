@@ -101,7 +101,7 @@ abbrev pub Ascends : List (List ℕ) → Type 0
 Ascends [] = Unit {0}
 Ascends (x ∷ xs) = AllByRecursion (λ (y : List ℕ). text_before y x ≡ false) xs × Ascends xs
 
-text_cmp : (xs ys : List ℕ) → is_lt (slice_cmp nat_cmp xs ys) ≡ text_before xs ys
+pub text_cmp : (xs ys : List ℕ) → is_lt (slice_cmp nat_cmp xs ys) ≡ text_before xs ys
 text_cmp xs ys = same_from_slice_cmp nat_cmp is_lt text_before refl (λ _ _. refl) (λ _ _. refl) (λ x y xs ys o h. grind (arith, nat_tests)) xs ys (slice_cmp nat_cmp xs ys) refl
 
 -- the two neighbours at the front, and the rest

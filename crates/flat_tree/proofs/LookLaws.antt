@@ -22,12 +22,13 @@ use Rattle.server_names.proofs.SoundLaws.{sound_made, sound_none}
 use Rattle.tree_laws.specs.Trees.{AreNamedOnce, Parts}
 use Rattle.tree_laws.proofs.MakeLaws.{entry_more, node_is, once_more, same_on, same_turned, unix_look}
 use Rattle.tree_laws.proofs.WalkLaws.{above_is, last_is, prefix_on}
+use Rattle.tree_laws.proofs.WellLaws.{Ending, ends}
 use Rattle.flat_tree.specs.Listings.{AreAscending}
 use Rattle.flat_tree.proofs.ApartLaws.{prefix_is, prefix_tests}
 use Rattle.flat_tree.proofs.AscendLaws.{ascends_made}
 use Rattle.flat_tree.proofs.RootLaws.{make_by}
-use Rattle.flat_tree.proofs.WithinLaws.{Ending, ending}
 use Rattle.sprite_ids.proofs.ListLaws.{some_is}
+use Rattle.unix_frames.proofs.EntryLaws.{none_there}
 
 -- ---- on a way
 
@@ -133,7 +134,7 @@ pub data Passes (tree : Tree) (here : Parts) (part : List ℕ) (next : Tree) : T
   New : make_answer tree (here ++ part ∷ []) ≡ Ok tt → put tree (here ++ part ∷ []) (Named Dir) ≡ next → entry_in tree here part ≡ None → Passes tree here part next
   Old : tree ≡ next → is_some (entry_in tree here part) ≡ true → Passes tree here part next
 
-same_ok : (a b : Tree) → (◌≡◌ {A = Result Tree NameEnd} (Ok a) (Ok b)) → a ≡ b
+pub same_ok : (a b : Tree) → (◌≡◌ {A = Result Tree NameEnd} (Ok a) (Ok b)) → a ≡ b
 same_ok a b h = cc
 
 pub free_of : (tree : Tree) (d : Parts) (part : List ℕ) → make_answer tree (d ++ part ∷ []) ≡ Ok tt → entry_in tree d part ≡ None
@@ -290,7 +291,7 @@ link_more links link q b1 b2 on one two apart e =
 
 link_look : (links : List Parts) (tree : Tree) (link : Parts) (next : Tree) → ((d : Parts) (p : List ℕ) → entry_in tree d p ≡ linked_at links (d ++ p ∷ [])) → booted tree link (Link link) ≡ Ok next → (d : Parts) (p : List ℕ) → entry_in next d p ≡ linked_at (links ++ link ∷ []) (d ++ p ∷ [])
 link_look links tree [] next before h d p = absurd (no_boot tree (Link []) next h)
-link_look links tree (first ∷ more) next before h d p = by (ending first more)
+link_look links tree (first ∷ more) next before h d p = by (ends first more)
   where
     either : (a : Bool) → (a || true) ≡ true
     either true = refl
@@ -330,7 +331,7 @@ hung_look links next h d p = hung_by [] links [] next (λ k q. refl) h d p
 link_sound : (tree : Tree) (link : Parts) (entry : Entry) (next : Tree) → booted tree link entry ≡ Ok next → IsSound tree → IsSound next
 link_sound tree [] entry next h sound = absurd (no_boot tree entry next h)
 link_sound tree (first ∷ more) entry next h sound =
-    let end = ending first more in
+    let end = ends first more in
     boots_sound tree end.front end.last entry next (boots tree end.front end.last entry next (ap (λ (k : Parts). booted tree k entry) (sym end.whole) ∙ h)) sound
 
 pub hung_sound : (links : List Parts) (tree next : Tree) → hung_all tree links ≡ Ok next → IsSound tree → IsSound next
@@ -344,7 +345,7 @@ pub root_look : (root : Parts) (next : Tree) → booted [] root (Named Dir) ≡ 
 root_look [] next h d p = absurd (no_boot [] (Named Dir) next h)
 root_look (first ∷ more) next h d p =
     let root = first ∷ more in
-    let end = ending first more in
+    let end = ends first more in
     let q = d ++ p ∷ [] in
     let b = boots [] end.front end.last (Named Dir) next (ap (λ (k : Parts). booted [] k (Named Dir)) (sym end.whole) ∙ h) in
     boots_look [] end.front end.last (Named Dir) next d p b
@@ -380,10 +381,6 @@ directory_some : (o : Option UnixNode) (b : Bool) → is_some o ≡ true → or_
 directory_some (Some node) b h = refl
 directory_some None b h = absurd (true≢false (sym h))
 
-nothing_there : (o : Option UnixNode) → is_some o ≡ false → o ≡ None
-nothing_there None h = refl
-nothing_there (Some node) h = absurd (true≢false h)
-
 pub directory_look : (nodes : List NamedNode) (at : Parts) (part : List ℕ) (d : Parts) (p : List ℕ) → node_at (with_directory (at ++ part ∷ []) nodes) (d ++ p ∷ []) ≡ or_directory (node_at nodes (d ++ p ∷ [])) (same_path (at ++ part ∷ []) (d ++ p ∷ []))
 directory_look nodes at part d p = by (is_some (node_at nodes (at ++ part ∷ []))) refl
   where
@@ -400,12 +397,12 @@ directory_look nodes at part d p = by (is_some (node_at nodes (at ++ part ∷ []
           | inr off ↦ sym (ap (or_directory (node_at nodes (d ++ p ∷ []))) off ∙ directory_off (node_at nodes (d ++ p ∷ [])))
         ]
     by false none =
-        let absent : looked_up nodes (at ++ part ∷ []) ≡ None = sym (node_is nodes at part) ∙ nothing_there (node_at nodes (at ++ part ∷ [])) none in
+        let absent : looked_up nodes (at ++ part ∷ []) ≡ None = sym (node_is nodes at part) ∙ none_there (node_at nodes (at ++ part ∷ [])) none in
         node_is (with_name n nodes) d p ∙ unix_look n nodes (d ++ p ∷ []) absent
         ∙ ap (cond (same_path (at ++ part ∷ []) (d ++ p ∷ [])) (Some Directory)) (sym (node_is nodes d p))
         ∙ elim (cases_Bool (same_path (at ++ part ∷ []) (d ++ p ∷ []))) [
           | inl same ↦
-              let empty : node_at nodes (d ++ p ∷ []) ≡ None = ap (node_at nodes) (sym (path_is (at ++ part ∷ []) (d ++ p ∷ []) same)) ∙ nothing_there (node_at nodes (at ++ part ∷ [])) none in
+              let empty : node_at nodes (d ++ p ∷ []) ≡ None = ap (node_at nodes) (sym (path_is (at ++ part ∷ []) (d ++ p ∷ []) same)) ∙ none_there (node_at nodes (at ++ part ∷ [])) none in
               ap₂ (λ b o. cond b (Some Directory) o) same empty ∙ sym (ap₂ or_directory empty same)
           | inr off ↦ ap (λ b. cond b (Some Directory) (node_at nodes (d ++ p ∷ []))) off ∙ sym (ap (or_directory (node_at nodes (d ++ p ∷ []))) off ∙ directory_off (node_at nodes (d ++ p ∷ [])))
         ]
@@ -441,7 +438,7 @@ directory_order at part nodes h = by (is_some (node_at nodes (at ++ part ∷ [])
     by : (b : Bool) → is_some (node_at nodes (at ++ part ∷ [])) ≡ b → InOrder (cond b nodes (with_name (record { path = at ++ part ∷ []; node = Directory }) nodes))
     by true some = h
     by false none =
-        let absent : looked_up nodes (at ++ part ∷ []) ≡ None = sym (node_is nodes at part) ∙ nothing_there (node_at nodes (at ++ part ∷ [])) none in
+        let absent : looked_up nodes (at ++ part ∷ []) ≡ None = sym (node_is nodes at part) ∙ none_there (node_at nodes (at ++ part ∷ [])) none in
         let n : NamedNode = record { path = at ++ part ∷ []; node = Directory } in
         record { once = once_more n nodes absent h.once; up = ascends_made n nodes absent h.up }
 

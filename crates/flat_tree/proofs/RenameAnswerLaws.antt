@@ -1,5 +1,5 @@
 -- What the server of a domain answers to a rename is what the one-kernel Unix does.
-use Rattle.std.proofs.Common.{◌≡◌, ℕ, Bool, true, false, ◌&&◌, cond, not, nat_lt, nat_le, List, [], ◌∷◌, ◌++◌, length, Option, Some, None, Result, Ok, Err, inl, inr, refl, sym, ap, ap₂, subst, ◌∙◌}
+use Rattle.std.proofs.Common.{◌≡◌, ℕ, Bool, true, false, ◌&&◌, cond, not, List, [], ◌∷◌, ◌++◌, length, Option, Some, None, Result, Ok, Err, inl, inr, refl, sym, ap, ap₂, subst, ◌∙◌}
 use Rattle.std.specs.Option.{is_some, option_map}
 use Rattle.std.proofs.lemmas.Bool.{cases_Bool, eq-eqb}
 use Rattle.sprite_ids.specs.declared.Errno.{Errno}
@@ -19,8 +19,10 @@ use Rattle.server_names.specs.Names.{Tree, count, done, entry_in, found, freed, 
 use Rattle.tree_laws.specs.Trees.{AreNames, Parts, Ties, plain}
 use Rattle.tree_laws.specs.Laws.{AnswersAs, GivesAs}
 use Rattle.tree_laws.proofs.FindLaws.{finds_as_one}
-use Rattle.tree_laws.proofs.MakeLaws.{free_by, room_by}
+use Rattle.tree_laws.proofs.MakeLaws.{free_by}
 use Rattle.tree_laws.proofs.WalkLaws.{above_is, then_by, walks_as}
+use Rattle.tree_laws.proofs.RenameLaws.{room_apart, done_as as target_done}
+use Rattle.tree_laws.proofs.WellLaws.{first_none}
 use Rattle.flat_tree.specs.Requests.{AsOne, Done, IsLonger, Renames, apart_found, are_apart, is_done, rename_at, row, unless}
 use Rattle.flat_tree.proofs.AnswerLaws.{done_as, found_ends, leads_of}
 use Rattle.flat_tree.proofs.ApartLaws.{Together, apart_domains, of_root, one_domain, prefix_is, prefix_tests, together}
@@ -59,11 +61,6 @@ abbrev pub target_refusal : Unix → Parts → Parts → Option Errno
 target_refusal u old new =
     first_of (walk u.nodes new) (first_of (refusal_if (is_some (node_at u.nodes new)) errno.Exists)
     (refusal_if (not (same_path (above old) (above new)) && is_full u.nodes (above new)) errno.TooMany))
-
-room_apart : (same : Bool) (m n : ℕ) → m ≡ n
-    → AnswersAs {A = Unit {0}} (cond same (Ok tt) (cond (nat_lt m 256) (Ok tt) (Err (Refused errno.TooMany)))) (refusal_if (not same && nat_le 256 n) errno.TooMany)
-room_apart true m n e = refl
-room_apart false m n e = room_by m n e
 
 room_free : (roots : List Parts) (root path : Parts) (same : Bool) (tree : Tree) (d : Parts) → Ends roots root path (cond same (Ok tt) (roomy tree d))
 room_free roots root path true tree d = tt
@@ -108,19 +105,9 @@ targets_so ties u root tree old new are below = by (within root new below)
 
 -- ---- both
 
-first_kept : (w m more : Option Errno) (why : Errno) → first_of w m ≡ Some why → first_of w (first_of m more) ≡ Some why
+pub first_kept : (w m more : Option Errno) (why : Errno) → first_of w m ≡ Some why → first_of w (first_of m more) ≡ Some why
 first_kept None m more why h = ap (λ o. first_of o more) h
 first_kept (Some other) m more why h = h
-
-first_gone : (w m : Option Errno) → first_of w m ≡ None → (w ≡ None) × (m ≡ None)
-first_gone None m h = (refl, h)
-first_gone (Some why) m h = absurd (cc)
-
-target_done : (target : Result (Unit {0}) NameEnd) (node : Node) (rest : Option Errno) → AnswersAs target rest → AnswersAs (done (goes_on target (Ok node))) rest
-target_done (Ok tt) node rest h = h
-target_done (Err (Refused why)) node rest h = h
-target_done (Err (Redirect to)) node rest h = h
-target_done (Err NoMemory) node rest h = h
 
 -- a file or device has the new name where it can be made
 renames_by : (ties : Ties) (r : Result Node NameEnd) (w : Option Errno) (o : Option UnixNode) (target : Result (Unit {0}) NameEnd) (rest : Option Errno) → AnswersAs r (first_of w (missing o)) → GivesAs r (option_map (plain ties) o) → AnswersAs target rest
@@ -130,7 +117,7 @@ renames_by ties (Err (Redirect to)) w o target rest answers gives next = tt
 renames_by ties (Err NoMemory) w o target rest answers gives next = tt
 renames_by ties (Ok node) w None target rest answers gives next = absurd (cc)
 renames_by ties (Ok node) w (Some x) target rest answers gives next =
-    subst (λ v. AnswersAs (done (renamed_found (Ok node) target)) (first_of v (first_of (a_directory (Some x)) rest))) (sym (first_gone w None answers).0)
+    subst (λ v. AnswersAs (done (renamed_found (Ok node) target)) (first_of v (first_of (a_directory (Some x)) rest))) (sym (first_none w None answers).0)
     (subst (λ n. AnswersAs (done (goes_on (renamable n) (goes_on target (Ok n)))) (first_of (a_directory (Some x)) rest)) (some_node (plain ties x) node gives) (kind x))
   where
     some_node : (a b : Node) → Some a ≡ Some b → a ≡ b

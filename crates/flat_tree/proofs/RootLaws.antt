@@ -1,6 +1,6 @@
 -- A domain's root itself: a directory on both sides, which can be neither made nor taken away.
 use Rattle.std.proofs.Common.{◌≡◌, ◌==◌, ℕ, false, cond, List, [], ◌∷◌, ◌++◌, length, Some, None, Ok, Err, refl, sym, ap, ap₂, subst, ◌∙◌, arith, length-append, append-nil}
-use Rattle.std.proofs.lemmas.Bool.{cond-false}
+use Rattle.std.proofs.lemmas.Bool.{cond-false, ne_eqb}
 use Rattle.sprite_ids.specs.declared.Errno.TheVariants as errno
 use Rattle.unix_calls.specs.declared.state.Node.TheVariants.{Directory}
 use Rattle.unix_calls.specs.declared.state.Named.{Named as NamedNode}
@@ -10,12 +10,12 @@ use Rattle.server_names.specs.declared.Node.TheVariants.{Dir}
 use Rattle.server_names.specs.Names.{Tree, entry_in, found, freed, goes_on, is_at, make_answer, named, parent, removable_found, remove_answer, rename_target, roomy, walked}
 use Rattle.tree_laws.specs.Trees.{AreNames, Parts, Ties}
 use Rattle.tree_laws.proofs.FindLaws.{found_by}
-use Rattle.tree_laws.proofs.WalkLaws.{above_is, last_is, not_root, way_walks}
-use Rattle.flat_tree.proofs.WithinLaws.{ending}
+use Rattle.tree_laws.proofs.WalkLaws.{above_is, last_is, way_walks}
+use Rattle.tree_laws.proofs.WellLaws.{ends}
 
 -- a path with one part more isn't `/`
 pub some_part : (d : Parts) (part : List ℕ) → (length (d ++ part ∷ []) == 0) ≡ false
-some_part d part = not_root (d ++ part ∷ []) (let more = length-append d (part ∷ []) in omega arith)
+some_part d part = ne_eqb (length (d ++ part ∷ [])) 0 (λ e. let more = length-append d (part ∷ []) in omega arith)
 
 -- making a name, by its parts
 pub make_by : (tree : Tree) (d : Parts) (part : List ℕ) → make_answer tree (d ++ part ∷ []) ≡ goes_on (walked tree [] d) (goes_on (freed (entry_in tree d part)) (roomy tree d))
@@ -55,5 +55,5 @@ there_by ties roots root nodes tree d part are e =
 pub root_there : (ties : Ties) (roots : List Parts) (root : Parts) (nodes : List NamedNode) (tree : Tree) → AreNames ties roots root nodes tree → IsThere root nodes tree
 root_there ties roots [] nodes tree are = record { found_is = refl; made_is = refl; removed_is = refl; target_is = λ old. refl; way = refl; node = refl }
 root_there ties roots (part ∷ rest) nodes tree are =
-    let end = ending part rest in
+    let end = ends part rest in
     subst (λ (k : Parts). IsThere k nodes tree) (sym end.whole) (there_by ties roots (part ∷ rest) nodes tree end.front end.last are end.whole)

@@ -27,7 +27,7 @@ use Rattle.flat_tree.proofs.LookLaws.{InOrder, hung_look, hung_sound, root_look,
 use Rattle.std.proofs.lemmas.List.{length-map}
 use Rattle.std.specs.Option.{is_some}
 use Rattle.tree_laws.proofs.MakeLaws.{node_is}
-use Rattle.flat_tree.proofs.WithinLaws.{ending}
+use Rattle.tree_laws.proofs.WellLaws.{ends}
 
 -- ---- roots by tests
 
@@ -72,7 +72,7 @@ pub record Shortest (q : Parts) (roots : List Parts) : Type 0 where
   pub prefix : IsPrefix q root
   pub least : (other : Parts) → begins_domain roots other ≡ true → IsPrefix q other → length root ≤ length other
 
-begins_later : (root : Parts) (roots : List Parts) (k : Parts) → begins_domain roots k ≡ true → begins_domain (root ∷ roots) k ≡ true
+pub begins_later : (root : Parts) (roots : List Parts) (k : Parts) → begins_domain roots k ≡ true → begins_domain (root ∷ roots) k ≡ true
 begins_later root roots k h = ap (λ b. same_path k root || b) h ∙ either (same_path k root)
   where
     either : (a : Bool) → (a || true) ≡ true
@@ -449,7 +449,7 @@ starts ties roots root tree begins ok =
     at_root : (q : Parts) → begins_domain roots q ≡ true → node_at (with_roots roots []) q ≡ Some Directory
     at_root [] is = refl
     at_root (x ∷ q) is =
-        let end = ending x q in
+        let end = ends x q in
         subst (λ (k : Parts). node_at (with_roots roots []) k ≡ Some Directory) (sym end.whole)
         (roots_look roots end.front end.last ∙ ap (λ b. cond b (Some Directory) None)
         (some_of (is_prefix (end.front ++ end.last ∷ [])) roots (end.front ++ end.last ∷ []) (ap (begins_domain roots) (sym end.whole) ∙ is)

@@ -2,16 +2,7 @@
 use Rattle.std.proofs.Common.{◌≡◌, ℕ, List, [], ◌∷◌, ◌++◌, refl, sym, ap, ◌∙◌, append_assoc, append-nil}
 use Rattle.sprite_paths.specs.Path.{IsPrefix}
 use Rattle.tree_laws.specs.Trees.{Parts}
-
--- a path that has parts, by its last one
-pub record Ending (path : Parts) : Type 0 where
-  pub front : Parts
-  pub last : List ℕ
-  pub whole : path ≡ front ++ last ∷ []
-
-pub ending : (part : List ℕ) (path : Parts) → Ending (part ∷ path)
-ending part [] = record { front = []; last = part; whole = refl }
-ending part (next ∷ path) = let rest = ending next path in record { front = part ∷ rest.front; last = rest.last; whole = ap (λ (l : Parts). part ∷ l) rest.whole }
+use Rattle.tree_laws.proofs.WellLaws.{ends}
 
 -- a path of a domain is its root's, or has one part more than one
 pub data Within (root path : Parts) : Type 0 where
@@ -21,7 +12,7 @@ pub data Within (root path : Parts) : Type 0 where
 within_by : (root path rest : Parts) → path ≡ root ++ rest → Within root path
 within_by root path [] e = AtRoot (e ∙ append-nil root)
 within_by root path (part ∷ rest) e =
-    let end = ending part rest in
+    let end = ends part rest in
     Below (root ++ end.front) end.last (record { rest = end.front; whole = refl }) (e ∙ ap (λ (l : Parts). root ++ l) end.whole ∙ sym (append_assoc root end.front (end.last ∷ [])))
 
 pub within : (root path : Parts) → IsPrefix root path → Within root path

@@ -26,7 +26,8 @@ use Rattle.home_laws.specs.Answers as laws
 use Rattle.home_laws.specs.Answers.{behind_call, home_answer, told_wait, told_child, told_name}
 use Rattle.home_laws.specs.Calls.{call_entry}
 use Rattle.home_laws.specs.Runs.{Act, Answers, Buries, Kills}
-use Rattle.home_laws.proofs.WaitLaws.{IsUntold, WaitCase, Told, Untold, wait_case}
+use Rattle.home_laws.proofs.WaitLaws.{IsUntold}
+use Rattle.home_laws.proofs.WaitCallLaws.{untold_table}
 use Rattle.client_homes.specs.declared.client.ClientProcs.{ClientProcs}
 use Rattle.client_homes.specs.Calls as calling
 use Rattle.client_homes.specs.Clusters.{name_in, name_of}
@@ -100,13 +101,6 @@ pub unanswered : (answer : WaitAnswer) (pending : Bool) → words.wait_told answ
 unanswered (Child pid status) pending e = absurd (cc)
 unanswered NoChild pending e = tt
 unanswered NotYet pending e = tt
-
-pub untold_same : (table : Table) (pid : ℕ) → IsUntold (wait_answer table pid) → waited table pid ≡ table
-untold_same table pid h = by (wait_case table pid)
-  where
-    by : WaitCase table pid → waited table pid ≡ table
-    by (Untold same none) = same
-    by (Told place b how of) = absurd (subst IsUntold of.answers h)
 
 -- a code that a process ends with
 pub answers_are_acts : (table : Table) (pid : ℕ) (called : Call) → IsCodeWithin called → behind_answer table pid called ≡ behind_call table pid called
@@ -184,7 +178,7 @@ module _ (c : Description) (s : ClientProcs) (home : IsHome c (seen s)) where
           → Leads c (seen s) (seen (waiting.enters_if (record { pid = pid; number = number; call = home_calls.Wait }) o (record s { home = waited s.home pid }))) (acts_of (record { pid = pid; number = number; call = home_calls.Wait }) o)
       by (Some reply) e = leads c (seen s) (Answers pid number call.Wait reply) (mine, wait_same (wait_answer s.home pid) (is_pending_at s.home pid) ∙ e) home
       by None e =
-          subst (λ (t : Table). Leads c (seen s) (record (seen s) { home = t }) []) (sym (untold_same s.home pid (unanswered (wait_answer s.home pid) (is_pending_at s.home pid) e)))
+          subst (λ (t : Table). Leads c (seen s) (record (seen s) { home = t }) []) (sym (untold_table s.home pid (unanswered (wait_answer s.home pid) (is_pending_at s.home pid) e)))
           (record { home = home; so = so_none c (seen s) })
 
   -- a `kill`, of one that lives or of none

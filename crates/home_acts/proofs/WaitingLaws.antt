@@ -15,9 +15,12 @@ use Rattle.home_table.specs.declared.birth.Life.{Life}
 use Rattle.home_table.specs.declared.birth.Life.TheVariants.{Living, Ended, Waited}
 use Rattle.home_table.specs.Home.{Table, answer, birth_at, born, ended, ending, index_of, is_child, is_ended, is_ended_child, is_living, is_living_at, is_parent, is_pending, is_pending_at, is_so, is_unwaited, is_unwaited_child, killed, killing, living_parent, moved, parent_at, parent_of, pid_at, place_for, put, telling, told, wait_answer, waited, waiting}
 use Rattle.home_laws.specs.Answers.{told_wait}
+use Rattle.home_laws.proofs.KillLaws.{killed_by}
 use Rattle.client_homes.specs.declared.client.Parked.{Parked}
 use Rattle.client_homes.specs.Procs.{is_pid}
 use Rattle.home_acts.specs.Parked.{Over, Still, Waits, WaitsRightly, same_waiter}
+use Rattle.stream_table.proofs.OwnerLaws.{eq_turned}
+use Rattle.unix_frames.proofs.EntryLaws.{none_there}
 
 -- ---- lists
 
@@ -57,10 +60,6 @@ found sample p xs place e =
 nobody : Birth
 nobody = record { parent = None; place = 0; life = Living false }
 
-none_of : {X : Type 0} (o : Option X) → is_some o ≡ false → o ≡ None
-none_of None h = refl
-none_of (Some x) h = absurd (true≢false h)
-
 -- ---- a `wait` that the table doesn't answer, in its parts
 
 record Untold (table : Table) (pid : ℕ) : Type 0 where
@@ -99,7 +98,7 @@ untold table pid e = by (position (is_ended_child pid) table.births) refl (list_
 
 still : (table : Table) (pid : ℕ) → Untold table pid → told_wait (wait_answer table pid) (is_pending_at table pid) ≡ None
 still table pid u =
-    ap (λ (o : Option ℕ). told_wait (answer table o (list_any (is_unwaited_child pid) table.births)) (is_pending_at table pid)) (none_of (position (is_ended_child pid) table.births) (found_is_any (is_ended_child pid) table.births ∙ u.none))
+    ap (λ (o : Option ℕ). told_wait (answer table o (list_any (is_unwaited_child pid) table.births)) (is_pending_at table pid)) (none_there (position (is_ended_child pid) table.births) (found_is_any (is_ended_child pid) table.births ∙ u.none))
     ∙ ap (λ (l : Bool). told_wait (answer table None l) (is_pending_at table pid)) u.left
     ∙ ap (λ (p : Bool). told_wait (answer table None true) p) u.free
 
@@ -365,11 +364,8 @@ kill_keeps table target pid mine its to r = by (slice_get table.births (index_of
                 (λ at waits. absurd (eqb-false (index_of pid) (index_of target) f at)) r))
 
 -- a kill of who is killed already, or doesn't live, changes nothing; and nobody's birth goes
-killed_looked : (table : Table) (target : ℕ) (o : Option Birth) → slice_get table.births (index_of target) ≡ o → killed table target ≡ record table { births = killing table.births (index_of target) (option_map (λ (b : Birth). b.life) o) }
-killed_looked table target o e = ap (λ (x : Option Birth). record table { births = killing table.births (index_of target) (option_map (λ (b : Birth). b.life) x) }) e
-
 killed_life : (table : Table) (target : ℕ) (b : Birth) (life : Life) → slice_get table.births (index_of target) ≡ Some b → b.life ≡ life → killed table target ≡ record table { births = killing table.births (index_of target) (Some life) }
-killed_life table target b life e l = killed_looked table target (Some b) e ∙ ap (λ (x : Life). record table { births = killing table.births (index_of target) (Some x) }) l
+killed_life table target b life e l = killed_by table target (Some b) e ∙ ap (λ (x : Life). record table { births = killing table.births (index_of target) (Some x) }) l
 
 killed_living : (table : Table) (target : ℕ) (b : Birth) (pending : Bool) → slice_get table.births (index_of target) ≡ Some b → b.life ≡ Living pending → killed table target ≡ record table { births = slice_set table.births (index_of target) (record b { life = Living true }) }
 killed_living table target b pending e l =
@@ -379,7 +375,7 @@ pub killed_none : (table : Table) (target : ℕ) → is_living_at table target �
 killed_none table target h = by (slice_get table.births (index_of target)) refl
   where
     by : (o : Option Birth) → slice_get table.births (index_of target) ≡ o → killed table target ≡ table
-    by None e = killed_looked table target None e
+    by None e = killed_by table target None e
     by (Some b) e = lives b.life refl
       where
         lives : (life : Life) → b.life ≡ life → killed table target ≡ table
@@ -391,7 +387,7 @@ pub killed_again : (table : Table) (target : ℕ) → is_pending_at table target
 killed_again table target h = by (slice_get table.births (index_of target)) refl
   where
     by : (o : Option Birth) → slice_get table.births (index_of target) ≡ o → killed table target ≡ table
-    by None e = killed_looked table target None e
+    by None e = killed_by table target None e
     by (Some b) e = lives b.life refl
       where
         lives : (life : Life) → b.life ≡ life → killed table target ≡ table
@@ -411,7 +407,7 @@ killed_born table target pid h = by (slice_get table.births (index_of target)) r
     kept same = ap (λ (t : Table). is_some (birth_at t.births pid)) same ∙ h
 
     by : (o : Option Birth) → slice_get table.births (index_of target) ≡ o → is_some (birth_at (killed table target).births pid) ≡ true
-    by None e = kept (killed_looked table target None e)
+    by None e = kept (killed_by table target None e)
     by (Some b) e = lives b.life refl
       where
         lives : (life : Life) → b.life ≡ life → is_some (birth_at (killed table target).births pid) ≡ true
@@ -454,15 +450,6 @@ place_keeps table moves kernel pid r = by (slice_get table.births (index_of move
                 }))
 
 -- ---- rows
-
-eq_turned : (a b : ℕ) → (a == b) ≡ (b == a)
-eq_turned a b = by (a == b) refl (b == a) refl
-  where
-    by : (s : Bool) → (a == b) ≡ s → (t : Bool) → (b == a) ≡ t → s ≡ t
-    by true e true f = refl
-    by false e false f = refl
-    by true e false f = absurd (true≢false (sym (eq-eqb b a (sym (eqb-true a b e))) ∙ f))
-    by false e true f = absurd (true≢false (sym (eq-eqb a b (sym (eqb-true b a f))) ∙ e))
 
 pub waiters_same : IsSameness same_waiter
 waiters_same = record {

@@ -28,6 +28,7 @@ use Rattle.home_table.specs.declared.end.WaitAnswer.TheVariants.{NoChild}
 use Rattle.home_table.specs.Home as tables
 use Rattle.home_table.specs.Home.{Table, birth_at, is_so, is_living}
 use Rattle.home_laws.specs.Answers.{told_wait}
+use Rattle.home_laws.proofs.WaitCallLaws.{untold_table}
 use Rattle.client_file_tables.specs.Streams as file_streams
 use Rattle.client_homes.specs.declared.client.ClientProcs.{ClientProcs}
 use Rattle.client_homes.specs.declared.client.KillState.{KillState}
@@ -55,7 +56,7 @@ use Rattle.client_homes.specs.Waits as waiting
 use Rattle.client_homes.specs.Words as words
 use Rattle.home_acts.specs.Deeds.{IsHome, Seen, seen}
 use Rattle.home_acts.specs.Parked.{MayAsk, MayAskIf, Over, ParkedAreWoken, ParkedWait, Still, Waits, WaitsRightly, same_waiter}
-use Rattle.home_acts.proofs.ActLaws.{untold_same, unanswered, wait_same}
+use Rattle.home_acts.proofs.ActLaws.{unanswered, wait_same}
 use Rattle.home_acts.proofs.DeedLaws.{each_less, found_key}
 use Rattle.home_acts.proofs.FrameLaws as frames
 use Rattle.home_acts.proofs.WaitingLaws.{And, Nobody, Owes, all_paid, birth_keeps, end_owes, kill_keeps, killed_again, killed_born, killed_none, nobody_more, none_less, once_less, others_keep, owes, owes_more, paid, place_keeps, wait_keeps, waiters_same}
@@ -178,7 +179,7 @@ module _ (D : ℕ → Type 0) where
       by : (o : Option Reply) → words.wait_told (tables.wait_answer s.home pid) (tables.is_pending_at s.home pid) ≡ o → Asked D pid (waiting.enters_if request o after) o
       by (Some reply) e = Told reply refl so
       by None e =
-          let same : tables.waited s.home pid ≡ s.home = untold_same s.home pid (unanswered (tables.wait_answer s.home pid) (tables.is_pending_at s.home pid) e) in
+          let same : tables.waited s.home pid ≡ s.home = untold_table s.home pid (unanswered (tables.wait_answer s.home pid) (tables.is_pending_at s.home pid) e) in
           NotTold refl so (record { from = may.from; born = ap (λ (t : Table). is_some (birth_at t.births pid)) same ∙ may.born; home = may.home; none = may.none })
           (ap (λ (t : Table). told_wait (tables.wait_answer t pid) (tables.is_pending_at t pid)) same ∙ wait_same (tables.wait_answer s.home pid) (tables.is_pending_at s.home pid) ∙ e)
 

@@ -19,7 +19,7 @@ use Rattle.home_table.specs.declared.Life.{Life}
 use Rattle.home_table.specs.declared.Life.TheVariants.{Living, Ended, Waited}
 use Rattle.home_table.specs.Home.{Table, index_of, birth_at, is_living, is_so, is_living_at, killed, killing, put}
 use Rattle.unix_frames.specs.Order.{IsKin}
-use Rattle.home_laws.specs.Homes.{ending_in, IsBorn, TellsTheSame}
+use Rattle.home_laws.specs.Homes.{ending_in, IsBorn}
 use Rattle.home_laws.specs.Answers.{kill_answer}
 use Rattle.home_laws.proofs.BornLaws.{BothBorn}
 use Rattle.home_laws.proofs.LeadLaws.{Leads, leads_on, leads_alike, leads_life, looked_born}
@@ -27,7 +27,7 @@ use Rattle.home_laws.proofs.EntryLaws.{answered}
 use Rattle.home_laws.proofs.HomeCallLaws.{Stands, Does, replied_does}
 
 -- a table in which nobody is killed, by what was looked up
-killed_by : (table : Table) (target : ℕ) (o : Option Birth) → slice_get table.births (index_of target) ≡ o → killed table target ≡ record table { births = killing table.births (index_of target) (option_map (λ (birth : Birth). birth.life) o) }
+pub killed_by : (table : Table) (target : ℕ) (o : Option Birth) → slice_get table.births (index_of target) ≡ o → killed table target ≡ record table { births = killing table.births (index_of target) (option_map (λ (birth : Birth). birth.life) o) }
 killed_by table target o got = ap (λ b. record table { births = killing table.births (index_of target) (option_map (λ (birth : Birth). birth.life) b) }) got
 
 living_by : (table : Table) (target : ℕ) (o : Option Birth) → slice_get table.births (index_of target) ≡ o → is_living_at table target ≡ is_so is_living (option_map (λ (birth : Birth). birth.life) o)

@@ -1,5 +1,5 @@
 -- The homes' tables at the start, and behind the entries that aren't a home's.
-use Rattle.std.proofs.Common.{◌≡◌, ◌≤◌, ◌<◌, ◌+◌, ◌-◌, ◌==◌, ℕ, zero, suc, Bool, true, false, ◌||◌, cond, List, [], ◌∷◌, ◌++◌, length, replicate, slice_get, Option, Some, None, refl, sym, ap, ap₂, subst, ◌∙◌, arith, length-append, nat_lt}
+use Rattle.std.proofs.Common.{◌≡◌, ◌≤◌, ◌<◌, ◌+◌, ◌-◌, ◌==◌, ℕ, zero, suc, Bool, true, false, ◌||◌, cond, List, [], ◌∷◌, ◌++◌, length, replicate, slice_get, Option, Some, None, refl, sym, ap, ap₂, subst, ◌∙◌, arith, length-append}
 use Rattle.std.proofs.lemmas.Bool.{true≢false, eq-eqb, eqb-true}
 use Rattle.std.proofs.lemmas.List.Sums.{count_by-le-length, length-filter}
 use Rattle.sprite_ids.specs.Pid.{home_of}
@@ -28,7 +28,7 @@ use Rattle.unix_frames.specs.Order.{AreInOrder, Ascending}
 use Rattle.unix_frames.proofs.ChangeLaws.{Change, Itself, Freed, Doubled, EndedSo, Ticked, Born, WaitedFor, KilledSo, MadeDirectory, RemovedDirectory, Unlinked, Renamed, OpenedFile, OpenedDevice, CreatedFile, MadeDevice, MovedTo, Wrote, Handled}
 use Rattle.unix_frames.proofs.ChangeLaws as changes
 use Rattle.unix_frames.proofs.StepLaws.{At, Step, Calls, Asks, Fetches, Dies, entered}
-use Rattle.unix_frames.proofs.OrderLaws.{states_are_in_order}
+use Rattle.unix_frames.proofs.OrderLaws.{states_are_in_order, length_put}
 use Rattle.home_laws.specs.Homes.{AreBorn, IsBorn, TellsTheSame, of_home}
 use Rattle.home_laws.specs.Start.{StartsAsOne, TablesGoOn, first_table, is_fork, is_kill, is_of_home, is_of_homes, with_line, with_lines, with_start}
 use Rattle.home_laws.proofs.BornLaws.{born_count, elsewhere_put, here_put, home_is, put_born, zero_on}
@@ -86,15 +86,6 @@ begins_line programs table ps line few h = by (program_at programs line.program)
     by None false is = h
     by (Some program) true is = begins_here table ps line program few (eqb-true line.host table.home is) h
     by (Some program) false is = begins_elsewhere table ps line program few is h
-
-length_put : (r : Process) (ps : List Process) → length (put_process r ps) ≤ 1 + length ps
-length_put r [] = omega arith
-length_put r (q ∷ qs) = by (r.pid == q.pid) (nat_lt r.pid q.pid) (length_put r qs)
-  where
-    by : (same before : Bool) → length (put_process r qs) ≤ 1 + length qs → length (cond same (r ∷ qs) (cond before (r ∷ q ∷ qs) (q ∷ put_process r qs))) ≤ 1 + length (q ∷ qs)
-    by true before h = omega arith
-    by false true h = omega arith
-    by false false h = omega (arith, h)
 
 begins_all : (programs : List ProgramLine) (table : Table) (ps : List Process) (lines : List StartLine) → length ps + length lines ≤ 200 → Begun table ps → Begun (with_lines programs lines table) (started programs ps lines)
 begins_all programs table ps [] few h = h

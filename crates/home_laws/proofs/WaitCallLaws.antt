@@ -1,11 +1,11 @@
 -- A `wait` at its home, in the one-kernel Unix.
-use Rattle.std.proofs.Common.{◌≡◌, ◌≢◌, ◌<◌, ℕ, Bool, true, false, not, List, [], ◌∷◌, Some, None, option_map, refl, sym, ap, subst, ◌∙◌, arith, inl, inr}
+use Rattle.std.proofs.Common.{◌≡◌, ◌≢◌, ◌<◌, ℕ, Bool, true, false, not, List, [], ◌∷◌, Some, None, option_map, refl, sym, ap, subst, ◌∙◌, arith}
 use Rattle.std.specs.List.{AllByRecursion}
 use Rattle.std.specs.Option.{is_some}
 use Rattle.std.proofs.lemmas.Bool.{true≢false}
 use Rattle.sprite_ids.specs.Pid.{home_of}
 use Rattle.sprite_ids.specs.declared.Errno.TheVariants as errno
-use Rattle.sprite_ids.proofs.ListLaws.{each_filter, each_weaken, get_within, some_is}
+use Rattle.sprite_ids.proofs.ListLaws.{each_filter, get_within, some_is}
 use Rattle.process_machine.specs.declared.call.Call.TheVariants as call
 use Rattle.process_machine.specs.declared.call.Reply.{Reply}
 use Rattle.process_machine.specs.declared.call.Reply.TheVariants.{Value, Error}
@@ -22,8 +22,9 @@ use Rattle.home_table.specs.declared.Birth.{Birth}
 use Rattle.home_table.specs.declared.Life.TheVariants.{Waited}
 use Rattle.home_table.specs.declared.WaitAnswer.TheVariants.{Child}
 use Rattle.home_table.specs.Home as homes
-use Rattle.home_table.specs.Home.{Table, pid_at, index_of, wait_answer, waited, is_pending_at, is_living, is_pending, is_so}
+use Rattle.home_table.specs.Home.{Table, pid_at, wait_answer, waited, is_pending_at, is_living, is_pending, is_so}
 use Rattle.unix_frames.specs.Order.{IsKin}
+use Rattle.unix_frames.proofs.ChangeLaws.{each_among}
 use Rattle.home_laws.specs.Homes.{ending_in, IsBorn}
 use Rattle.home_laws.specs.Answers.{told_wait, interrupted_if}
 use Rattle.home_laws.proofs.BornLaws.{BothBorn}
@@ -31,10 +32,6 @@ use Rattle.home_laws.proofs.LeadLaws.{Leads, leads_on, leads_alike, leads_life, 
 use Rattle.home_laws.proofs.EntryLaws.{answered, interrupted}
 use Rattle.home_laws.proofs.HomeCallLaws.{Stands, Does, replied_does, living_life}
 use Rattle.home_laws.proofs.WaitLaws.{told_children, waits_as_one, IsUntold, WaitCase, Untold, Told, wait_case}
-
-each_among : (ps : List Process) → AllByRecursion (λ (q : Process). IsAmong q ps) ps
-each_among [] = tt
-each_among (p ∷ ps) = (inl refl, each_weaken (λ (q : Process). IsAmong q ps) (λ (q : Process). IsAmong q (p ∷ ps)) ps (λ q h. inr h) (each_among ps))
 
 -- the children that a state has are of it
 ended_among : (w : Unix) (q : Process) → AllByRecursion (λ (p : Process). IsAmong p w.processes) (ended_ones (unwaited w q))
@@ -50,7 +47,7 @@ pending_same table w q s home =
     k.born.killed (ap is_living life.1) ∙ sym (ap (λ o. is_so is_pending (option_map (λ (birth : Birth). birth.life) o)) k.got)
 
 -- no child was told of
-untold_table : (table : Table) (pid : ℕ) → IsUntold (wait_answer table pid) → waited table pid ≡ table
+pub untold_table : (table : Table) (pid : ℕ) → IsUntold (wait_answer table pid) → waited table pid ≡ table
 untold_table table pid h = by (wait_case table pid)
   where
     by : WaitCase table pid → waited table pid ≡ table

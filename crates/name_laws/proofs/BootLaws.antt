@@ -1,7 +1,8 @@
 -- As a server begins: each of its domains has the names of its opening.
 use Rattle.std.proofs.Common.{◌≡◌, ◌+◌, ◌-◌, ◌<◌, ◌≤◌, ◌==◌, ◌⊎◌, ℕ, zero, suc, Bool, true, false, ◌&&◌, ◌||◌, not, cond, List, [], ◌∷◌, ◌++◌, length, slice_get, Option, Some, None, Result, Ok, Err, inl, inr, refl, sym, ap, ap₂, subst, ◌∙◌, arith, append-nil}
 use Rattle.std.specs.List.{AllByRecursion, list_all, list_any}
-use Rattle.std.proofs.lemmas.Bool.{true≢false}
+use Rattle.std.proofs.lemmas.Bool.{true≢false, and_parts}
+use mathlib.Core.Bool.{or-true}
 use Rattle.sprite_ids.proofs.ListLaws.{each_get, some_is}
 use Rattle.sprite_paths.specs.Path.{IsPrefix}
 use Rattle.unix_calls.specs.declared.Description.{Description}
@@ -24,10 +25,11 @@ use Rattle.flat_tree.specs.Opening.{lies_in, linked, opening, rooted, with_files
 use Rattle.flat_tree.specs.Requests.{Trees}
 use Rattle.flat_tree.proofs.FileLaws.{opened_as_one}
 use Rattle.flat_tree.proofs.StartLaws.{one_of}
+use Rattle.flat_tree.proofs.LookLaws.{same_ok}
 use Rattle.name_laws.specs.Boots.{AreTied, BeginsSo, ClusterBegins, ClusterOpens, ServersBegin, ServersOpen}
 use Rattle.name_laws.specs.Served.{AreKept}
-use Rattle.name_laws.proofs.FillLaws.{AreOrdered, both_true, file_of, fills_all, none_some}
-use Rattle.name_laws.proofs.HangLaws.{hangs_lengths, or_true}
+use Rattle.name_laws.proofs.FillLaws.{AreOrdered, file_of, fills_all, none_some}
+use Rattle.name_laws.proofs.HangLaws.{hangs_lengths}
 use Rattle.name_laws.proofs.HeldLaws.{Has, few_parts_of, has_all, has_lengths}
 
 -- ---- a kernel's own domains are the cluster's
@@ -42,12 +44,12 @@ any_front k (x ∷ xs) ys h = by (same_path k x) h (λ later. any_front k xs ys 
 
 pub any_back : (k : Parts) (xs ys : List Parts) → begins_domain ys k ≡ true → begins_domain (xs ++ ys) k ≡ true
 any_back k [] ys h = h
-any_back k (x ∷ xs) ys h = ap (λ b. same_path k x || b) (any_back k xs ys h) ∙ or_true (same_path k x)
+any_back k (x ∷ xs) ys h = ap (λ b. same_path k x || b) (any_back k xs ys h) ∙ or-true (same_path k x)
 
 once_front : (xs ys : List Parts) → each_once same_path (xs ++ ys) ≡ true → each_once same_path xs ≡ true
 once_front [] ys h = refl
 once_front (x ∷ xs) ys h =
-    let both = both_true (not (begins_domain (xs ++ ys) x)) (each_once same_path (xs ++ ys)) h in
+    let both = and_parts (not (begins_domain (xs ++ ys) x)) (each_once same_path (xs ++ ys)) h in
     ap₂ (λ a b. a && b) (by (begins_domain xs x) refl both.0) (once_front xs ys both.1)
   where
     by : (b : Bool) → begins_domain xs x ≡ b → not (begins_domain (xs ++ ys) x) ≡ true → not b ≡ true
@@ -56,7 +58,7 @@ once_front (x ∷ xs) ys h =
 
 pub once_back : (xs ys : List Parts) → each_once same_path (xs ++ ys) ≡ true → each_once same_path ys ≡ true
 once_back [] ys h = h
-once_back (x ∷ xs) ys h = once_back xs ys (both_true (not (begins_domain (xs ++ ys) x)) (each_once same_path (xs ++ ys)) h).1
+once_back (x ∷ xs) ys h = once_back xs ys (and_parts (not (begins_domain (xs ++ ys) x)) (each_once same_path (xs ++ ys)) h).1
 
 pub within_all : (lines : List KernelLine) (i : ℕ) (root : Parts) → begins_domain (serves_in (slice_get lines i)) root ≡ true → begins_domain (roots_of lines) root ≡ true
 within_all [] i root h = absurd (true≢false (sym h))
@@ -99,7 +101,7 @@ begun ties c kernel s lawful tied h = by (all_hung (serves_of c.kernels kernel) 
     serves = serves_of c.kernels kernel
 
     once : each_once same_path (roots_of c.kernels) ≡ true
-    once = (both_true (list_all is_clean (roots_of c.kernels)) (each_once same_path (roots_of c.kernels)) lawful.domains).1
+    once = (and_parts (list_all is_clean (roots_of c.kernels)) (each_once same_path (roots_of c.kernels)) lawful.domains).1
 
     by : (o : Option Server) → all_hung serves 17 (bare c kernel) ≡ o → and_then o (λ hung. fills c.files hung) ≡ Some s → Begun ties c kernel s
     by None is h = absurd (none_some None s refl h)
@@ -170,9 +172,6 @@ kept_of roots trees (d ∷ ds) ordered each = (
     up : (i j : ℕ) → i < j → suc i < suc j
     up i j less = omega (arith, less)
 
-ok_tree : (a b : Tree) → (◌≡◌ {A = Result Tree NameEnd} (Ok a) (Ok b)) → a ≡ b
-ok_tree a b e = cc
-
 pub servers_begin : ServersBegin
 servers_begin ties c trees kernel s lawful tied opened is =
     let b = begun ties c kernel s lawful tied is in
@@ -183,7 +182,7 @@ servers_begin ties c trees kernel s lawful tied opened is =
           (λ i d got.
           let one = b.each i d got in
           let begins = within_all c.kernels (kernel - 1) d.root one.0 in
-          (begins, ok_tree d.names (trees d.root) (sym one.1 ∙ opened d.root begins)));
+          (begins, same_ok d.names (trees d.root) (sym one.1 ∙ opened d.root begins)));
     }
 
 -- ---- all servers
@@ -215,7 +214,7 @@ has_domain c kernel s root lawful begins h = by (all_hung (serves_of c.kernels k
     few : length root ≤ 16
     few =
         few_parts_of root
-        (one_of is_clean (roots_of c.kernels) root (both_true (list_all is_clean (roots_of c.kernels)) (each_once same_path (roots_of c.kernels)) lawful.domains).0 (within_all c.kernels (kernel - 1) root begins))
+        (one_of is_clean (roots_of c.kernels) root (and_parts (list_all is_clean (roots_of c.kernels)) (each_once same_path (roots_of c.kernels)) lawful.domains).0 (within_all c.kernels (kernel - 1) root begins))
 
     many : 17 ≤ length root + 17
     many = omega arith

@@ -2,7 +2,7 @@
 use Rattle.std.proofs.Common.{◌≡◌, ◌+◌, ◌<◌, ◌≤◌, ◌==◌, ℕ, zero, suc, Bool, true, false, ◌&&◌, ◌||◌, not, cond, nat_le, nat_lt, List, [], ◌∷◌, length, slice_get, slice_set, get_or, Option, Some, None, Result, Ok, Err, inl, inr, refl, sym, ap, ap₂, subst, ◌∙◌, arith}
 use Rattle.std.specs.List.{position, position_or_len}
 use Rattle.std.specs.Option.{is_some}
-use Rattle.std.proofs.lemmas.Bool.{cases_Bool, eq-eqb, eqb-true, lt-ltb, ltb-false, ltb-true, true≢false}
+use Rattle.std.proofs.lemmas.Bool.{cases_Bool, eq-eqb, eqb-true, lt-ltb, ltb-false, ltb-true, true≢false, and_parts}
 use Rattle.std.proofs.lemmas.List.Quantifiers.{position-Some}
 use Rattle.std.proofs.lemmas.List.Sums.{fails_before_first}
 use Rattle.sprite_ids.specs.declared.FileId.{FileId}
@@ -107,11 +107,6 @@ first_at path ds at first place got =
 abbrev pub AreOrdered : List Domain → Type 0
 AreOrdered ds = (i j : ℕ) (d e : Domain) → i < j → slice_get ds i ≡ Some d → slice_get ds j ≡ Some e → IsPrefix d.root e.root → ⊥
 
-pub both_true : (a b : Bool) → (a && b) ≡ true → (a ≡ true) × (b ≡ true)
-both_true true true h = (refl, refl)
-both_true true false h = absurd (true≢false (sym h))
-both_true false b h = absurd (true≢false (sym h))
-
 pub either_right : (a b : Bool) → a ≡ true → (not a || b) ≡ true → b ≡ true
 either_right true b h e = e
 either_right false b h e = absurd (true≢false (sym h))
@@ -123,7 +118,7 @@ not_own roots path ds at i first d ordered begins got is there other =
     elim (cases_Bool (lies_in roots d.root path)) [
       | inr out ↦ out
       | inl lies ↦
-          let both = both_true (is_prefix d.root path) (is_longest roots d.root path) lies in
+          let both = and_parts (is_prefix d.root path) (is_longest roots d.root path) lies in
           elim (cases_Bool (nat_lt i at)) [
             | inl less ↦ absurd (true≢false (sym both.0 ∙ is.before i d (ltb-true i at less) there))
             | inr most ↦

@@ -1,6 +1,6 @@
 -- As a server begins, before its files: each domain of its kernel, longer ones first.
 use Rattle.std.proofs.Common.{◌≡◌, ◌+◌, ◌-◌, ◌<◌, ◌≤◌, ◌==◌, ◌⊎◌, ℕ, zero, suc, Bool, true, false, ◌||◌, not, cond, List, [], ◌∷◌, ◌++◌, length, slice_get, Option, Some, None, inl, inr, refl, sym, ap, subst, ◌∙◌, arith, append-nil, length-append}
-use Rattle.std.proofs.lemmas.Bool.{eqb-true, true≢false}
+use Rattle.std.proofs.lemmas.Bool.{eqb-true, true≢false, not-true, and_parts}
 use Rattle.sprite_ids.proofs.ListLaws.{get_within, some_is}
 use Rattle.sprite_paths.specs.Path.{IsPrefix}
 use Rattle.unix_calls.specs.Domains.{begins_domain}
@@ -12,7 +12,8 @@ use Rattle.server_kernel.specs.declared.Domain.{Domain}
 use Rattle.server_kernel.specs.declared.Server.{Server}
 use Rattle.server_kernel.specs.Boot.{all_hung, and_then, hangs_all, hangs_one, names_of, with_domain_of}
 use Rattle.tree_laws.specs.Trees.{Parts}
-use Rattle.name_laws.proofs.FillLaws.{AreOrdered, none_some, both_true}
+use Rattle.name_laws.proofs.FillLaws.{AreOrdered, none_some}
+use Rattle.flat_tree.proofs.StartLaws.{begins_later}
 
 -- ---- one domain more
 
@@ -66,13 +67,6 @@ pub record HungBeside (serves rest : List Parts) (parts : ℕ) (s next : Server)
   pub hung : Hung serves rest parts next
   pub beside : Beside s next
 
-pub or_true : (a : Bool) → (a || true) ≡ true
-or_true true = refl
-or_true false = refl
-
-pub begins_more : (root : Parts) (rest : List Parts) (k : Parts) → begins_domain rest k ≡ true → begins_domain (root ∷ rest) k ≡ true
-begins_more root rest k h = ap (λ b. same_path k root || b) h ∙ or_true (same_path k root)
-
 begins_itself : (root : Parts) (rest : List Parts) (k : Parts) → k ≡ root → begins_domain (root ∷ rest) k ≡ true
 begins_itself root rest k e = ap (λ b. b || begins_domain rest k) (ap (λ (p : Parts). same_path p root) e ∙ path_itself root)
 
@@ -117,7 +111,7 @@ module _ (serves rest : List Parts) (parts : ℕ) (root : Parts) (s next : Serve
         names = each (λ d. names_of s.roots d.root ≡ Some d.names) h.names names_is;
         ordered = ordered;
         long = each (λ d. parts ≤ length d.root) h.long (omega (arith, many));
-        later = each (λ d. begins_domain rest d.root ≡ true → parts < length d.root) (λ i d got is. h.later i d got (begins_more root rest d.root is)) (λ is. absurd (true≢false (sym is ∙ once)));
+        later = each (λ d. begins_domain rest d.root ≡ true → parts < length d.root) (λ i d got is. h.later i d got (begins_later root rest d.root is)) (λ is. absurd (true≢false (sym is ∙ once)));
       }
 
   hangs_by : (b : Bool) → (length root == parts) ≡ b → cond b (with_domain_of root s (names_of s.roots root)) (Some s) ≡ Some next → HungBeside serves rest parts s next
@@ -131,7 +125,7 @@ module _ (serves rest : List Parts) (parts : ℕ) (root : Parts) (s next : Serve
           names = h.names;
           ordered = h.ordered;
           long = h.long;
-          later = λ i d got is. h.later i d got (begins_more root rest d.root is);
+          later = λ i d got is. h.later i d got (begins_later root rest d.root is);
         };
         beside = beside_itself s;
       }
@@ -142,20 +136,16 @@ module _ (serves rest : List Parts) (parts : ℕ) (root : Parts) (s next : Serve
 
 -- ---- the domains of one length
 
-pub not_true : (b : Bool) → not b ≡ true → b ≡ false
-not_true true h = absurd (true≢false (sym h))
-not_true false h = refl
-
 pub hangs_length : (serves rest : List Parts) (parts : ℕ) (s next : Server) → Hung serves rest parts s → ((root : Parts) → begins_domain rest root ≡ true → begins_domain serves root ≡ true) → each_once same_path rest ≡ true → hangs_all parts rest s ≡ Some next → HungBeside serves [] parts s next
 hangs_length serves [] parts s next h inside once is = subst (HungBeside serves [] parts s) (some_is s next is) (record { hung = h; beside = beside_itself s })
 hangs_length serves (root ∷ rest) parts s next h inside once is =
-    by (hangs_one parts root s) refl is (λ mid hung later. hangs_length serves rest parts mid next hung (λ k begins. inside k (begins_more root rest k begins)) (both_true (not (begins_domain rest root)) (each_once same_path rest) once).1 later)
+    by (hangs_one parts root s) refl is (λ mid hung later. hangs_length serves rest parts mid next hung (λ k begins. inside k (begins_later root rest k begins)) (and_parts (not (begins_domain rest root)) (each_once same_path rest) once).1 later)
   where
     by : (o : Option Server) → hangs_one parts root s ≡ o → and_then o (λ mid. hangs_all parts rest mid) ≡ Some next
         → ((mid : Server) → Hung serves rest parts mid → hangs_all parts rest mid ≡ Some next → HungBeside serves [] parts mid next) → HungBeside serves [] parts s next
     by None one is go = absurd (none_some None next refl is)
     by (Some mid) one is go =
-        let first = hangs_step serves rest parts root s mid h (inside root (begins_itself root rest root refl)) (not_true (begins_domain rest root) (both_true (not (begins_domain rest root)) (each_once same_path rest) once).0) one in
+        let first = hangs_step serves rest parts root s mid h (inside root (begins_itself root rest root refl)) (not-true (begins_domain rest root) (and_parts (not (begins_domain rest root)) (each_once same_path rest) once).0) one in
         let more = go mid first.hung is in
         record { hung = more.hung; beside = beside_through s mid next first.beside more.beside }
 

@@ -85,7 +85,7 @@ kept_others roots root tree trees (d ∷ ds) off kept = by (same_path root d.roo
     by false apart h rest = (kept.0, (kept.1.0 ∙ sym (ap (λ b. cond b tree (trees d.root)) (turned apart)), (kept.1.1.0, rest h)))
 
 -- a later domain isn't an earlier one
-later_apart : (root : Parts) (domains : List Domain) (i : ℕ) (domain : Domain) → list_any (λ (other : Domain). same_path root other.root) domains ≡ false → slice_get domains i ≡ Some domain → same_path root domain.root ≡ false
+pub later_apart : (root : Parts) (domains : List Domain) (i : ℕ) (domain : Domain) → list_any (λ (other : Domain). same_path root other.root) domains ≡ false → slice_get domains i ≡ Some domain → same_path root domain.root ≡ false
 later_apart root [] i domain off got = absurd (cc)
 later_apart root (d ∷ ds) zero domain off got = by (same_path root d.root) refl off
   where

@@ -1,5 +1,5 @@
 -- Each name request goes.
-use Rattle.std.proofs.Common.{◌≡◌, ℕ, Bool, true, false, ◌||◌, cond, List, [], ◌∷◌, length, nat_lt, slice_get, zero, suc, Option, Some, None, Result, Ok, Err, refl, sym, ap, ap₂, subst, ◌∙◌}
+use Rattle.std.proofs.Common.{◌≡◌, ℕ, Bool, true, false, ◌||◌, cond, List, [], ◌∷◌, length, nat_lt, Option, Some, None, Result, Ok, Err, refl, sym, ap, ap₂, subst, ◌∙◌}
 use Rattle.std.specs.List.{list_any}
 use Rattle.std.proofs.lemmas.Bool.{true≢false}
 use Rattle.sprite_ids.specs.declared.Errno.{Errno}
@@ -46,20 +46,16 @@ use Rattle.tree_laws.specs.Trees.{AreNames, Parts, Ties, plain}
 use Rattle.flat_tree.specs.Requests.{AsOne, Counts, Done, Finds, Is, Makes, Many, Removes, Renames, Trees, apart_found, are_apart, given_by, is_done, renamed_as, row, stands, with_tree}
 use Rattle.flat_tree.proofs.AnswerLaws.{counts, finds, makes, removes}
 use Rattle.flat_tree.proofs.DoneLaws.{made_one, removed_one, renamed_one}
-use Rattle.flat_tree.proofs.RenameAnswerLaws.{renames as renames_as_one}
+use Rattle.flat_tree.proofs.RenameAnswerLaws.{renames as renames_as_one, first_kept}
 use Rattle.name_laws.specs.Deeds.{Goes, SentOn, Waits}
 use Rattle.name_laws.specs.Laws.{NamesGo, caller_of, is_done_here}
 use Rattle.name_laws.specs.Served.{AreKept, Fits, NewFits, Serves}
 use Rattle.name_laws.proofs.GoLaws.{changes_go, entry_made, gives_go, none_of, one_as, refusal_of, refuses_go}
 use Rattle.name_laws.proofs.SortLaws.{lists_same}
 use Rattle.server_kernel.specs.Listing.{list_by, listed as listed_at, listing}
-use Rattle.name_laws.proofs.KeptLaws.{Here, domain_is, here}
+use Rattle.name_laws.proofs.KeptLaws.{Here, domain_is, here, later_apart}
 
 -- ---- refusals
-
-first_kept : (w m more : Option Errno) (why : Errno) → first_of w m ≡ Some why → first_of w (first_of m more) ≡ Some why
-first_kept None m more why h = ap (λ o. first_of o more) h
-first_kept (Some other) m more why h = h
 
 stat_refused : (c : Description) (w : Unix) (q : Process) (path : Parts) (walked : Option Errno) (there : Option UnixNode) (why : Errno) → first_of walked (missing there) ≡ Some why → unless_refused c w q walked (stat_of c w q path there) ≡ unix_refuses c w q why
 stat_refused c w q path (Some e) there why h = ap (unix_refuses c w q) (some_is e why h)
@@ -88,15 +84,6 @@ root_begins roots trees path (d ∷ ds) kept h = by (same_path path d.root) refl
     by : (b : Bool) → same_path path d.root ≡ b → (b || list_any (λ (domain : Domain). same_path path domain.root) ds) ≡ true → (list_any (λ (domain : Domain). same_path path domain.root) ds ≡ true → begins_domain roots path ≡ true) → begins_domain roots path ≡ true
     by true same h rest = ap (begins_domain roots) (path_is path d.root same) ∙ kept.0
     by false apart h rest = rest h
-
-no_root : (path : Parts) (domains : List Domain) (i : ℕ) (domain : Domain) → list_any (λ (d : Domain). same_path path d.root) domains ≡ false → slice_get domains i ≡ Some domain → same_path path domain.root ≡ false
-no_root path [] i domain off got = absurd (cc)
-no_root path (d ∷ ds) i domain off got = by (same_path path d.root) refl off i got (λ j rest later. no_root path ds j domain rest later)
-  where
-    by : (b : Bool) → same_path path d.root ≡ b → (b || list_any (λ (d : Domain). same_path path d.root) ds) ≡ false → (i : ℕ) → slice_get (d ∷ ds) i ≡ Some domain → ((j : ℕ) → list_any (λ (d : Domain). same_path path d.root) ds ≡ false → slice_get ds j ≡ Some domain → same_path path domain.root ≡ false) → same_path path domain.root ≡ false
-    by true e h i got rest = absurd (true≢false h)
-    by false e h zero got rest = ap (λ (x : Domain). same_path path x.root) (sym (some_is d domain got)) ∙ e
-    by false e h (suc i) got rest = rest i h got
 
 past_three : (w m n x : Option Errno) → first_of w (first_of m n) ≡ None → first_of w (first_of m (first_of n x)) ≡ x
 past_three None None None x h = refl
@@ -275,7 +262,7 @@ module _ (ties : Ties) (c : Description) (u : Unix) (trees : Trees) (s : Server)
       refused_here errno.Busy (rmdir_is e ∙ refused_so c (called_in fits.calls) (called_by fits.calls) (rmdir_refusal u r.path) (unix_done_so c (unix_unnamed r.path (called_in fits.calls)) (called_by fits.calls)) errno.Busy
       (ap (λ b. first_of (refusal_if b errno.Busy) (first_of (walk u.nodes r.path) (first_of (missing (node_at u.nodes r.path)) (first_of (no_directory (node_at u.nodes r.path)) (refusal_if (nat_lt 0 (length (unix_names_in u.nodes r.path))) errno.NotEmpty))))) (root_begins u.roots trees r.path s.domains serves.kept is)))
   rmdir_if e false is =
-      let off = no_root r.path s.domains h.at h.domain is h.got in
+      let off = later_apart r.path s.domains h.at h.domain is h.got in
       subst (λ x. Led (removes_empty asked.tx r x s)) (sym (removed_is true))
       (rmdir_by e off (remove_answer (trees h.domain.root) r.path true) refl
       (subst (λ b. AsOne u.roots h.domain.root r.path (is_done (cond b (Err (Refused errno.Busy)) (remove_answer (trees h.domain.root) r.path true))) (row ties u (Removes r.path true))) off

@@ -171,10 +171,6 @@ new_free None false true h = absurd (cc)
 new_free None true full h = absurd (cc)
 new_free (Some e) b full h = absurd (cc)
 
-nothing_there : (o : Option UnixNode) → is_some o ≡ false → o ≡ None
-nothing_there None h = refl
-nothing_there (Some node) h = absurd (true≢false h)
-
 module _ (ties : Ties) (c : Description) (u : Unix) (trees : Trees) (s : Server) (asked : Asked) (r : OpeningRequest) (serves : Serves ties u trees s) (fits : OpenFits ties c u s r) (h : Here u.roots trees r.path s) where
   abbrev opener : Caller
   opener = record { tx = asked.tx; pid = r.pid; number = r.number; called = call.OpenFile r.text r.flags }

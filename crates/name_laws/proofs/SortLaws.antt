@@ -7,8 +7,7 @@ use Rattle.std.specs.Ordering.{is_lt, match_ordering, ordering_reverse}
 use Rattle.std.specs.BTreeMap.{insert_entry}
 use Rattle.std.specs.Cmp.Lexicographic.{pointwise, slice_cmp}
 use Rattle.std.proofs.lemmas.Bool.{cases_Bool, true≢false}
-use Rattle.std.proofs.lemmas.Bool.Decides.{nat_tests}
-use Rattle.std.proofs.lemmas.Cmp.{nat_list_cmp_total, same_from_slice_cmp}
+use Rattle.std.proofs.lemmas.Cmp.{nat_list_cmp_total}
 use Rattle.sprite_ids.proofs.ListLaws.{each_weaken}
 use Rattle.sprite_paths.specs.Path.{IsPrefix}
 use Rattle.unix_calls.specs.State.{Unix}
@@ -20,11 +19,8 @@ use Rattle.server_kernel.specs.Listing.{listing, sorted_names, with_sorted}
 use Rattle.tree_laws.specs.Trees.{AreNames, Parts, Ties}
 use Rattle.flat_tree.specs.Listings.{AreAscending}
 use Rattle.flat_tree.proofs.ListLaws.{counted_own, same_times}
-use Rattle.flat_tree.proofs.ListingLaws.{Ascends, keys_times, names_ascend, once_if, same_ascending, times}
+use Rattle.flat_tree.proofs.ListingLaws.{Ascends, keys_times, names_ascend, once_if, same_ascending, times, text_cmp}
 use Rattle.unix_world.proofs.OrderLaws.{Before, Behind, Equal as Alike, Ranked, behind, text_order}
-
-text_cmp : (xs ys : List ℕ) → is_lt (slice_cmp nat_cmp xs ys) ≡ text_before xs ys
-text_cmp xs ys = same_from_slice_cmp nat_cmp is_lt text_before refl (λ _ _. refl) (λ _ _. refl) (λ x y xs ys o h. grind (arith, nat_tests)) xs ys (slice_cmp nat_cmp xs ys) refl
 
 leads : (o : Ordering) → is_lt o ≡ true → o ≡ Less
 leads Less h = refl

@@ -1,7 +1,7 @@
 -- Each line's file is one of the kernel that serves its domain.
 use Rattle.std.proofs.Common.{◌≡◌, ◌+◌, ◌-◌, ℕ, zero, suc, Bool, true, false, ◌||◌, not, cond, List, [], ◌∷◌, ◌++◌, slice_get, refl, sym, ap, subst, ◌∙◌, arith}
 use Rattle.std.specs.List.{list_all, list_any}
-use Rattle.std.proofs.lemmas.Bool.{true≢false}
+use Rattle.std.proofs.lemmas.Bool.{true≢false, not-true, and_parts}
 use Rattle.sprite_paths.specs.Path.{is_prefix}
 use Rattle.unix_calls.specs.declared.KernelLine.{KernelLine}
 use Rattle.unix_calls.specs.Domains.{begins_domain, roots_of}
@@ -12,11 +12,11 @@ use Rattle.server_kernel.specs.Boot.{is_longest, serves_in}
 use Rattle.tree_laws.specs.Trees.{Parts}
 use Rattle.flat_tree.specs.Opening.{lies_in}
 use Rattle.flat_tree.proofs.ApartLaws.{prefix_is}
-use Rattle.flat_tree.proofs.StartLaws.{one_of, some_of}
+use Rattle.flat_tree.proofs.StartLaws.{one_of, some_of, begins_later}
 use Rattle.name_laws.specs.Boots.{LineFilesTie, line_file, owner_from}
 use Rattle.name_laws.proofs.BootLaws.{any_back, any_front, once_back, within_all}
-use Rattle.name_laws.proofs.FillLaws.{both_true, either_right, file_of}
-use Rattle.name_laws.proofs.HangLaws.{begins_more, not_true, prefix_shorter, whole_prefix}
+use Rattle.name_laws.proofs.FillLaws.{either_right, file_of}
+use Rattle.name_laws.proofs.HangLaws.{prefix_shorter, whole_prefix}
 
 record Passing (passes : Parts → Bool) (roots : List Parts) : Type 0 where
   root : Parts
@@ -29,7 +29,7 @@ passing passes (root ∷ roots) h = by (passes root) refl h (λ later. passing p
   where
     by : (b : Bool) → passes root ≡ b → (b || list_any passes roots) ≡ true → (list_any passes roots ≡ true → Passing passes roots) → Passing passes (root ∷ roots)
     by true is h go = record { root = root; begins = ap (λ b. b || begins_domain roots root) (path_itself root); is = is }
-    by false off h go = let rest = go h in record { root = rest.root; begins = begins_more root roots rest.root rest.begins; is = rest.is }
+    by false off h go = let rest = go h in record { root = rest.root; begins = begins_later root roots rest.root rest.begins; is = rest.is }
 
 -- no path stands in both parts of a list that has each once
 apart : (xs ys : List Parts) (k : Parts) → each_once same_path (xs ++ ys) ≡ true → begins_domain xs k ≡ true → begins_domain ys k ≡ true → ⊥
@@ -37,13 +37,13 @@ apart [] ys k once first second = true≢false (sym first)
 apart (x ∷ xs) ys k once first second = by (same_path k x) refl first (λ later. apart xs ys k both.1 later second)
   where
     both : (not (begins_domain (xs ++ ys) x) ≡ true) × (each_once same_path (xs ++ ys) ≡ true)
-    both = both_true (not (begins_domain (xs ++ ys) x)) (each_once same_path (xs ++ ys)) once
+    both = and_parts (not (begins_domain (xs ++ ys) x)) (each_once same_path (xs ++ ys)) once
 
     behind : (xs : List Parts) → begins_domain ys k ≡ true → begins_domain (xs ++ ys) k ≡ true
     behind xs h = any_back k xs ys h
 
     by : (b : Bool) → same_path k x ≡ b → (b || begins_domain xs k) ≡ true → (begins_domain xs k ≡ true → ⊥) → ⊥
-    by true same h go = true≢false (sym (behind xs second) ∙ ap (begins_domain (xs ++ ys)) (path_is k x same) ∙ not_true (begins_domain (xs ++ ys) x) both.0)
+    by true same h go = true≢false (sym (behind xs second) ∙ ap (begins_domain (xs ++ ys)) (path_is k x same) ∙ not-true (begins_domain (xs ++ ys) x) both.0)
     by false off h go = go h
 
 owner_is : (passes : Parts → Bool) (lines : List KernelLine) (i number : ℕ) (root : Parts) → each_once same_path (roots_of lines) ≡ true → passes root ≡ true → begins_domain (serves_in (slice_get lines i)) root ≡ true
@@ -66,8 +66,8 @@ owner_is passes (line ∷ lines) (suc i) number root once is here alone =
 -- two longest domains of a path are one
 longest_once : (roots : List Parts) (one two path : Parts) → begins_domain roots one ≡ true → begins_domain roots two ≡ true → lies_in roots one path ≡ true → lies_in roots two path ≡ true → one ≡ two
 longest_once roots one two path first second a b =
-    let p = both_true (is_prefix one path) (is_longest roots one path) a in
-    let q = both_true (is_prefix two path) (is_longest roots two path) b in
+    let p = and_parts (is_prefix one path) (is_longest roots one path) a in
+    let q = and_parts (is_prefix two path) (is_longest roots two path) b in
     let down = prefix_is one two (either_right (is_prefix one path) (is_prefix one two) p.0 (one_of (λ root. not (is_prefix root path) || is_prefix root two) roots one q.1 first)) in
     let up = prefix_is two one (either_right (is_prefix two path) (is_prefix two one) q.0 (one_of (λ root. not (is_prefix root path) || is_prefix root one) roots two p.1 second)) in
     whole_prefix two one up (prefix_shorter one two down)
@@ -75,7 +75,7 @@ longest_once roots one two path first second a b =
 pub line_files_tie : LineFilesTie
 line_files_tie ties c kernel lawful files first place line root got makes begins lies =
     let roots = roots_of c.kernels in
-    let once = (both_true (list_all is_clean roots) (each_once same_path roots) lawful.domains).1 in
+    let once = (and_parts (list_all is_clean roots) (each_once same_path roots) lawful.domains).1 in
     let mine = within_all c.kernels (kernel - 1) root begins in
     let number : 1 + (kernel - 1) ≡ kernel = omega (arith, first) in
     files.file_is place ∙ ap (line_file c place) got

@@ -2,7 +2,8 @@
 use Rattle.std.proofs.Common.{◌≡◌, ◌+◌, ℕ, Bool, true, false, ◌&&◌, ◌||◌, not, cond, List, [], ◌∷◌, ◌++◌, length, Option, Some, None, refl, sym, ap, ap₂, subst, ◌∙◌, arith, append_assoc, append-nil, length-append}
 use Rattle.std.specs.List.{AllByRecursion, list_all, list_any}
 use Rattle.std.specs.Option.{is_some}
-use Rattle.std.proofs.lemmas.Bool.{true≢false}
+use Rattle.std.proofs.lemmas.Bool.{true≢false, not-true, and_parts}
+use mathlib.Core.Bool.{or-true}
 use Rattle.sprite_ids.proofs.ListLaws.{each_weaken}
 use Rattle.sprite_paths.specs.Path.{is_prefix}
 use Rattle.sprite_paths.proofs.PathLaws.{prefix_decides}
@@ -26,25 +27,9 @@ use Rattle.tree_laws.proofs.WalkLaws.{above_is}
 use Rattle.tree_laws.proofs.WellLaws.{Ending, ends, entries_name_well, named_well}
 use Rattle.name_states.specs.States.{StatesNameWell}
 
-both_left : (a b : Bool) → (a && b) ≡ true → a ≡ true
-both_left true b h = refl
-both_left false b h = absurd (true≢false (sym h))
-
-both_right : (a b : Bool) → (a && b) ≡ true → b ≡ true
-both_right true b h = h
-both_right false b h = absurd (true≢false (sym h))
-
-not_so : (b : Bool) → not b ≡ true → b ≡ false
-not_so true h = absurd (true≢false (sym h))
-not_so false h = refl
-
-or_true : (b : Bool) → (b || true) ≡ true
-or_true true = refl
-or_true false = refl
-
 any_in : {A : Type 0} (test : A → Bool) (before : List A) (x : A) (rest : List A) → test x ≡ true → list_any test (before ++ x ∷ rest) ≡ true
 any_in test [] x rest h = ap (λ b. b || list_any test rest) h
-any_in test (y ∷ before) x rest h = ap (λ b. test y || b) (any_in test before x rest h) ∙ or_true (test y)
+any_in test (y ∷ before) x rest h = ap (λ b. test y || b) (any_in test before x rest h) ∙ or-true (test y)
 
 -- ---- what stands at the start
 
@@ -178,7 +163,7 @@ file_way c earlier before line others last done (part ∷ rest) files all e =
     let up : is_above q line.path ≡ true = stands_above line.path done part rest last e in
     let is_in : list_any (λ (other : FileLine). is_above q other.path) c.files ≡ true =
     ap (list_any (λ (other : FileLine). is_above q other.path)) all ∙ any_in (λ (other : FileLine). is_above q other.path) before line others up in (
-      (ap (λ b. list_any (is_prefix q) (roots_of c.kernels) || b) is_in ∙ or_true (list_any (is_prefix q) (roots_of c.kernels)), none q is_in (list_any (same_path q) earlier) refl),
+      (ap (λ b. list_any (is_prefix q) (roots_of c.kernels) || b) is_in ∙ or-true (list_any (is_prefix q) (roots_of c.kernels)), none q is_in (list_any (same_path q) earlier) refl),
       file_way c earlier before line others last q rest files all (ap (λ (l : Parts). l ++ last ∷ []) (append_assoc done (part ∷ []) rest) ∙ e),
     )
   where
@@ -192,7 +177,7 @@ known_more c p earlier nodes h = each_weaken (λ (n : NamedNode). IsKnown c earl
   where
     by : (q : Parts) (node : UnixNode) → IsKnown c earlier q node → IsKnown c (p ∷ earlier) q node
     by q Directory h = h
-    by q (FileNode name) h = ap (λ b. same_path q p || b) h ∙ or_true (same_path q p)
+    by q (FileNode name) h = ap (λ b. same_path q p || b) h ∙ or-true (same_path q p)
     by q (DeviceNode place) h = h
 
 -- what a line's path keeps
@@ -207,10 +192,10 @@ file_is c line h =
     let b = not (same_path line.path []) in
     let d = not (list_any (is_prefix line.path) (roots_of c.kernels)) in
     let f = not (list_any (λ (other : FileLine). is_above line.path other.path) c.files) in
-    let alone = not_so (list_any (λ (other : FileLine). is_above line.path other.path) c.files) (both_right (a && b && d) f h) in
-    let free = not_so (list_any (is_prefix line.path) (roots_of c.kernels)) (both_right (a && b) d (both_left (a && b && d) f h)) in
+    let alone = not-true (list_any (λ (other : FileLine). is_above line.path other.path) c.files) (and_parts (a && b && d) f h).1 in
+    let free = not-true (list_any (is_prefix line.path) (roots_of c.kernels)) (and_parts (a && b) d (and_parts (a && b && d) f h).0).1 in
     record {
-      no_root = not_so (same_path line.path []) (both_right a b (both_left (a && b) d (both_left (a && b && d) f h)));
+      no_root = not-true (same_path line.path []) (and_parts a b (and_parts (a && b) d (and_parts (a && b && d) f h).0).0).1;
       no_way = ap₂ (λ x y. x || y) free alone;
       alone = alone;
     }
@@ -253,22 +238,22 @@ filed_well : (c : Description) (earlier : List Parts) (before : List FileLine) (
 filed_well c earlier before [] place f all fit joined h = h.well
 filed_well c earlier before (line ∷ lines) place f all fit joined h =
     filed_well c (line.path ∷ earlier) (before ++ line ∷ []) lines (place + 1) (cond line.append f (with_file_line place line.path (bytes_at c.files line.path) f)) (all ∙ sym (append_assoc before (line ∷ []) lines))
-    (both_right (is_file_path c line) (list_all (is_file_path c) lines) fit) (both_right (same_fact line.append (list_any (same_path line.path) earlier)) (are_joined (line.path ∷ earlier) lines) joined)
-    (by line.append (both_left (same_fact line.append (list_any (same_path line.path) earlier)) (are_joined (line.path ∷ earlier) lines) joined))
+    (and_parts (is_file_path c line) (list_all (is_file_path c) lines) fit).1 (and_parts (same_fact line.append (list_any (same_path line.path) earlier)) (are_joined (line.path ∷ earlier) lines) joined).1
+    (by line.append (and_parts (same_fact line.append (list_any (same_path line.path) earlier)) (are_joined (line.path ∷ earlier) lines) joined).0)
   where
     file : IsFile c line
-    file = file_is c line (both_left (is_file_path c line) (list_all (is_file_path c) lines) fit)
+    file = file_is c line (and_parts (is_file_path c line) (list_all (is_file_path c) lines) fit).0
 
     by : (b : Bool) → same_fact b (list_any (same_path line.path) earlier) ≡ true → Filing c (line.path ∷ earlier) (cond b f (with_file_line place line.path (bytes_at c.files line.path) f)).nodes
     by true joins = record { well = h.well; known = known_more c line.path earlier f.nodes h.known; files = (file.alone, h.files) }
-    by false fresh = file_more c earlier before line lines place f.nodes all file (not_so (list_any (same_path line.path) earlier) fresh) h
+    by false fresh = file_more c earlier before line lines place f.nodes all file (not-true (list_any (same_path line.path) earlier) fresh) h
 
 -- ---- the law
 
 boot_well : (c : Description) → Lawful c → AreNamedWell (boot_of c).nodes
 boot_well c lawful =
     let rooted = roots_well c [] (roots_of c.kernels) [] refl (record { well = record { once = tt; hang = none }; known = tt }) in
-    filed_well c [] [] c.files 0 (record { nodes = with_roots (roots_of c.kernels) []; files = [] }) refl lawful.file_paths (both_left (are_joined [] c.files) _ lawful.joins)
+    filed_well c [] [] c.files 0 (record { nodes = with_roots (roots_of c.kernels) []; files = [] }) refl lawful.file_paths (and_parts (are_joined [] c.files) _ lawful.joins).0
     (record { well = rooted.well; known = rooted.known; files = tt })
   where
     none : (directory : Parts) (part : List ℕ) → is_some (node_at [] (directory ++ part ∷ [])) ≡ true → node_at [] directory ≡ Some Directory

@@ -10,6 +10,7 @@ use Rattle.call_journal.specs.Past.{since_from, since_last}
 use Rattle.call_journal.specs.WorthPackets.{behind_first_send, behind_last_sending, deliveries, is_delivered_at, is_loss_of, is_packet, is_send_between, packets, sendings, was_sent_between}
 use Rattle.cluster_wire_laws.specs.Links.{bare, bare_event, is_of_link, of_link}
 use Rattle.cluster_wire_laws.proofs.LinkLaws.{link_on}
+use Rattle.cluster_wire_laws.proofs.SendingLaws.{bare_same, other_none}
 use Rattle.kernel_rpc.specs.Runs.{once_if}
 use Rattle.packet_laws.proofs.CreditLaws.{count_on, count_one, faults_in}
 
@@ -142,11 +143,11 @@ faults_link a b trace = count_link (has_event (is_fault a b)) (has_event (is_fau
 pub packets_link : (a b : ℕ) (trace : List Rec) → packets a b (of_link trace) ≡ packets a b trace
 packets_link a b trace = count_link (λ (r : Rec). is_packet a b trace r r.event) (λ (r : Rec). is_packet a b (of_link trace) r r.event) record { same = λ r. packet_bare a b trace r r.event; other = λ r. packet_other a b trace r r.event } trace
 
-expire_bare : (tx : ℕ) (e : Event) → is_expire tx (bare_event e) ≡ is_expire tx e
+pub expire_bare : (tx : ℕ) (e : Event) → is_expire tx (bare_event e) ≡ is_expire tx e
 expire_bare tx (events.Send key to about kind) = refl
 expire_bare tx e = refl
 
-expire_other : (tx : ℕ) (e : Event) → is_of_link e ≡ false → is_expire tx e ≡ false
+pub expire_other : (tx : ℕ) (e : Event) → is_of_link e ≡ false → is_expire tx e ≡ false
 expire_other tx (events.Expire key last) is = absurd (cc)
 expire_other tx e is = refl
 
@@ -163,19 +164,11 @@ deliver_other : (tx receiver : ℕ) (r : Rec) (e : Event) → is_of_link e ≡ f
 deliver_other tx receiver r (events.Deliver key from reply about) is = absurd (cc)
 deliver_other tx receiver r e is = refl
 
-send_to_bare : (tx receiver : ℕ) (e : Event) → is_send_to tx receiver (bare_event e) ≡ is_send_to tx receiver e
-send_to_bare tx receiver (events.Send key to about kind) = refl
-send_to_bare tx receiver e = refl
-
-send_to_other : (tx receiver : ℕ) (e : Event) → is_of_link e ≡ false → is_send_to tx receiver e ≡ false
-send_to_other tx receiver (events.Send key to about kind) is = absurd (cc)
-send_to_other tx receiver e is = refl
-
 -- and as many packets of a call that come and that are sent
 pub deliveries_link : (tx receiver : ℕ) (trace : List Rec) → deliveries tx receiver (of_link trace) ≡ deliveries tx receiver trace
 deliveries_link tx receiver trace = count_link (λ (r : Rec). is_delivered_at tx receiver r r.event) (λ (r : Rec). is_delivered_at tx receiver r r.event) record { same = λ r. deliver_bare tx receiver r r.event; other = λ r. deliver_other tx receiver r r.event } trace
 
 pub sendings_link : (tx receiver : ℕ) (trace : List Rec) → sendings tx receiver (of_link trace) ≡ sendings tx receiver trace
 sendings_link tx receiver trace =
-    (let sent = count_link (has_event (is_send_to tx receiver)) (has_event (is_send_to tx receiver)) record { same = λ r. send_to_bare tx receiver r.event; other = λ r. send_to_other tx receiver r.event } trace in
+    (let sent = count_link (has_event (is_send_to tx receiver)) (has_event (is_send_to tx receiver)) record { same = λ r. bare_same tx receiver r.event; other = λ r. other_none tx receiver r.event } trace in
     let over = count_link (has_event (is_expire tx)) (has_event (is_expire tx)) record { same = λ r. expire_bare tx r.event; other = λ r. expire_other tx r.event } trace in omega arith)

@@ -3,6 +3,7 @@ use Rattle.std.proofs.Common.{arith, ◌≡◌, ℕ, ◌+◌, ◌≤◌, ◌==�
 use Rattle.std.specs.List.{AllByRecursion, list_any}
 use Rattle.std.proofs.lemmas.Bool.{and_parts, eqb-true}
 use Rattle.std.proofs.lemmas.List.Sums.{sum_by-append}
+use mathlib.Core.Bool.{or_comm}
 use Rattle.sprite_ids.specs.declared.TxNo.{TxNo}
 use Rattle.sprite_ids.proofs.OnceLaws.{or_false}
 use Rattle.link_plan.specs.declared.Fate.{Fate}
@@ -152,14 +153,8 @@ and_turned true false = refl
 and_turned false true = refl
 and_turned false false = refl
 
-or_turned : (a b : Bool) → (a || b) ≡ (b || a)
-or_turned true true = refl
-or_turned true false = refl
-or_turned false true = refl
-or_turned false false = refl
-
 pub pair_turned : (x y a b : ℕ) → is_pair y x a b ≡ is_pair x y a b
-pair_turned x y a b = ap₂ (λ (u v : Bool). u || v) (and_turned (y == a) (x == b)) (and_turned (y == b) (x == a)) ∙ or_turned ((x == b) && (y == a)) ((x == a) && (y == b))
+pair_turned x y a b = ap₂ (λ (u v : Bool). u || v) (and_turned (y == a) (x == b)) (and_turned (y == b) (x == a)) ∙ or_comm ((x == b) && (y == a)) ((x == a) && (y == b))
 
 data Ends (x y a b : ℕ) : Type 0 where
   Same : x ≡ a → y ≡ b → Ends x y a b
@@ -192,7 +187,7 @@ pairs_none a b from kernel (other ∷ kernels) ends none =
 turned_by : (tx a b : ℕ) (r : Rec) (e : Event) → is_send_between tx b a r e ≡ true → is_send_between tx a b r e ≡ true
 turned_by tx a b r (events.Send key to about kind) h =
     let parts = and_parts (key.0 == tx) (is_pair r.kernel to b a) h in
-    both_true (key.0 == tx) (is_pair r.kernel to a b) parts.0 (or_turned ((r.kernel == a) && (to == b)) ((r.kernel == b) && (to == a)) ∙ parts.1)
+    both_true (key.0 == tx) (is_pair r.kernel to a b) parts.0 (or_comm ((r.kernel == a) && (to == b)) ((r.kernel == b) && (to == a)) ∙ parts.1)
 turned_by tx a b r e h = h
 
 sent_ends : (tx from kernel a b : ℕ) (records : List Rec) → Ends from kernel a b → was_sent_between tx from kernel records ≡ true → was_sent_between tx a b records ≡ true

@@ -1,8 +1,9 @@
 -- A timer fires for the last time at the eighth.
-use Rattle.std.proofs.Common.{arith, ◌≡◌, ℕ, ◌+◌, ◌<◌, ◌≤◌, ◌==◌, Bool, true, false, ◌&&◌, cond, List, [], ◌∷◌, ◌++◌, min, Option, Some, None, count_by, refl, sym, ap, subst, ◌∙◌, append-nil, append_assoc}
+use Rattle.std.proofs.Common.{arith, ◌≡◌, ℕ, ◌+◌, ◌<◌, ◌==◌, Bool, true, false, ◌&&◌, cond, List, [], ◌∷◌, ◌++◌, min, Option, Some, None, count_by, refl, sym, ap, subst, ◌∙◌, append-nil, append_assoc}
 use Rattle.std.specs.List.{AllByRecursion}
 use Rattle.std.proofs.lemmas.Bool.{eqb-true}
 use Rattle.std.proofs.lemmas.Bool.Decides.{nat_tests}
+use mathlib.Core.Bool.{and-false}
 use Rattle.sprite_ids.specs.declared.TxNo.{TxNo}
 use Rattle.sprite_ids.specs.declared.Tries.{Tries}
 use Rattle.sprite_ids.specs.declared.Tries.TheVariants.{Eight, Always}
@@ -22,7 +23,7 @@ use Rattle.kernel_rpc.proofs.CauseLaws.{Holds, after_holds}
 use Rattle.kernel_rpc.proofs.CopyLaws.{each_without}
 use Rattle.kernel_rpc.proofs.NumberLaws.{each_changed, each_dropped}
 use Rattle.kernel_rpc.proofs.PartLaws.{both_true, eq_same}
-use Rattle.kernel_rpc.proofs.RunLaws.{unfinished_replied}
+use Rattle.kernel_rpc.proofs.RunLaws.{unfinished_replied, not_then}
 use Rattle.kernel_rpc.proofs.SoundLaws.{found_is, found_sound, found_within, other_copy}
 use Rattle.kernel_rpc.proofs.TryLaws.{IsTried, delivered_begun, each_kept, seven}
 use Rattle.unix_calls.specs.declared.Event.TheVariants as events
@@ -47,18 +48,14 @@ expiries kernel tx records = count_by (is_at kernel (is_expire tx)) records
 abbrev NoTimer : List Rec → Type 0
 NoTimer told = (kernel tx : ℕ) → expiries kernel tx told ≡ 0
 
-no_timer : (b : Bool) → once_if (b && false) ≡ 0
-no_timer true = refl
-no_timer false = refl
-
 join_none : (first next : List Rec) → NoTimer first → NoTimer next → NoTimer (first ++ next)
 join_none first next h k kernel tx = (let sum = count_on (is_at kernel (is_expire tx)) first next in let one = h kernel tx in let two = k kernel tx in omega arith)
 
 fault_none : (at from to : ℕ) (fate : Fate) → NoTimer (fault_told at from to fate)
 fault_none at from to Once kernel tx = refl
-fault_none at from to Lost kernel tx = count_one (is_at kernel (is_expire tx)) (record { kernel = at; event = events.Fault from to Lost }) ∙ no_timer (at == kernel)
-fault_none at from to Twice kernel tx = count_one (is_at kernel (is_expire tx)) (record { kernel = at; event = events.Fault from to Twice }) ∙ no_timer (at == kernel)
-fault_none at from to Late kernel tx = count_one (is_at kernel (is_expire tx)) (record { kernel = at; event = events.Fault from to Late }) ∙ no_timer (at == kernel)
+fault_none at from to Lost kernel tx = count_one (is_at kernel (is_expire tx)) (record { kernel = at; event = events.Fault from to Lost }) ∙ ap once_if (and-false (at == kernel))
+fault_none at from to Twice kernel tx = count_one (is_at kernel (is_expire tx)) (record { kernel = at; event = events.Fault from to Twice }) ∙ ap once_if (and-false (at == kernel))
+fault_none at from to Late kernel tx = count_one (is_at kernel (is_expire tx)) (record { kernel = at; event = events.Fault from to Late }) ∙ ap once_if (and-false (at == kernel))
 
 faults_none : (at : ℕ) (sent : List (ℕ × Fate)) → NoTimer (faults_told at sent)
 faults_none at [] kernel tx = refl
@@ -68,7 +65,7 @@ sent_none : (at : ℕ) (key : TxNo) (sent : List (ℕ × Fate)) → NoTimer (sen
 sent_none at key [] kernel tx = refl
 sent_none at key (packet ∷ sent) kernel tx =
     let send : Rec = record { kernel = at; event = events.Send key packet.0 None Other } in
-    join_none (send ∷ []) (fault_told at at packet.0 packet.1 ++ sent_told at key sent) (λ kernel tx. count_one (is_at kernel (is_expire tx)) send ∙ no_timer (at == kernel)) (join_none (fault_told at at packet.0 packet.1) (sent_told at key sent) (fault_none at at packet.0 packet.1) (sent_none at key sent)) kernel tx
+    join_none (send ∷ []) (fault_told at at packet.0 packet.1 ++ sent_told at key sent) (λ kernel tx. count_one (is_at kernel (is_expire tx)) send ∙ ap once_if (and-false (at == kernel))) (join_none (fault_told at at packet.0 packet.1) (sent_told at key sent) (fault_none at at packet.0 packet.1) (sent_none at key sent)) kernel tx
 
 back_none : (at : ℕ) (given : Fate) (a : Arrival) (o : Option Call) → NoTimer (again_told a at given o)
 back_none at given AskedAgain None kernel tx = refl
@@ -81,7 +78,7 @@ came_none : (machine : Machine) (given : Fate) (o : Option PacketCopy) → NoTim
 came_none machine given None kernel tx = refl
 came_none machine given (Some copy) kernel tx =
     let first : Rec = record { kernel = copy.to; event = delivery copy } in
-    join_none (first ∷ []) (again_told (arrival machine copy) copy.to given (call_of machine copy.tx)) (λ kernel tx. count_one (is_at kernel (is_expire tx)) first ∙ no_timer (copy.to == kernel)) (back_none copy.to given (arrival machine copy) (call_of machine copy.tx)) kernel tx
+    join_none (first ∷ []) (again_told (arrival machine copy) copy.to given (call_of machine copy.tx)) (λ kernel tx. count_one (is_at kernel (is_expire tx)) first ∙ ap once_if (and-false (copy.to == kernel))) (back_none copy.to given (arrival machine copy) (call_of machine copy.tx)) kernel tx
 
 answer_none : (given : Fate) (o : Option Call) → NoTimer (answer_told given o)
 answer_none given None kernel tx = refl
@@ -104,7 +101,7 @@ counted_same records told machine silent h = record {
   none = λ kernel tx past. (let sum = count_on (is_at kernel (is_expire tx)) records told in let one = h.none kernel tx past in let two = silent kernel tx in omega arith);
 }
 
-new_tried : (count : ℕ) (tries : Tries) → count ≡ 0 → IsTried count tries 0
+pub new_tried : (count : ℕ) (tries : Tries) → count ≡ 0 → IsTried count tries 0
 new_tried count Eight none = (omega arith, omega arith)
 new_tried count Always none = tt
 
@@ -118,7 +115,7 @@ delivered_calls : (o : Option PacketCopy) (records : List Rec) (given : Fate) (m
 delivered_calls None records given machine h = h
 delivered_calls (Some copy) records given machine h = arrived_calls (arrival machine copy) records copy given machine h
 
-one_more : (count : ℕ) (tries : Tries) (lost : ℕ) → is_last_of tries lost ≡ false → IsTried count tries lost → IsTried (count + 1) tries (lost_more tries lost)
+pub one_more : (count : ℕ) (tries : Tries) (lost : ℕ) → is_last_of tries lost ≡ false → IsTried count tries lost → IsTried (count + 1) tries (lost_more tries lost)
 one_more count Eight lost last h = (let same = h.0 in let few : lost < 7 = grind (arith, nat_tests) in let least : min (lost + 1) 7 ≡ lost + 1 = grind arith in (omega arith, omega arith))
 one_more count Always lost last h = tt
 
@@ -130,16 +127,12 @@ fired_count call tx b rest kernel n silent =
     let one = count_one (is_at kernel (is_expire n)) first in
     let zero = silent kernel n in omega arith)
 
-other_count : (p q : Bool) → q ≡ false → once_if (p && q) ≡ 0
-other_count true q is = ap once_if is
-other_count false q is = refl
-
 rest_none : (at : ℕ) (sent : List (ℕ × Fate)) (b : Bool) → NoTimer (cond {A = List Rec} b [] (faults_told at sent))
 rest_none at sent true kernel tx = refl
 rest_none at sent false kernel tx = faults_none at sent kernel tx
 
 other_tried : (records told : List Rec) (tx : TxNo) (call other : Call) → ((kernel n : ℕ) → expiries kernel n told ≡ once_if ((call.from == kernel) && (tx.0 == n))) → is_call tx other ≡ false → Tried records other → Tried (records ++ told) other
-other_tried records told tx call other counts e k = tried_same records told other (counts other.from other.tx.0 ∙ other_count (call.from == other.from) (tx.0 == other.tx.0) (other_copy tx other e)) k
+other_tried records told tx call other counts e k = tried_same records told other (counts other.from other.tx.0 ∙ not_then (call.from == other.from) (tx.0 == other.tx.0) (other_copy tx other e)) k
 
 this_tried : (records told : List Rec) (tx : TxNo) (call : Call) → ((kernel n : ℕ) → expiries kernel n told ≡ once_if ((call.from == kernel) && (tx.0 == n))) → call.tx.0 ≡ tx.0 → is_last call ≡ false → Tried records call → Tried (records ++ told) (tried call)
 this_tried records told tx call counts same last k =
@@ -167,7 +160,7 @@ expire_counted (Some call) records machine old new tx sent found asks sound h =
     let begun = fired_begun (is_last call) tx call sent machine in
     record {
       calls = fired_calls (is_last call) records told machine old tx call sent counts found refl sound h;
-      none = λ kernel n past. (let apart : (tx.0 == n) ≡ false = grind (arith, nat_tests) in let sum = count_on (is_at kernel (is_expire n)) records told in let one = h.none kernel n (omega arith) in let two = counts kernel n in let zero = other_count (call.from == kernel) (tx.0 == n) apart in omega arith);
+      none = λ kernel n past. (let apart : (tx.0 == n) ≡ false = grind (arith, nat_tests) in let sum = count_on (is_at kernel (is_expire n)) records told in let one = h.none kernel n (omega arith) in let two = counts kernel n in let zero = not_then (call.from == kernel) (tx.0 == n) apart in omega arith);
     }
 
 counted_after : (records : List Rec) (machine : Machine) (old : Counts) (act : Act) (new : Counts) → MayAct machine old act new → Holds machine old → Counted records machine → Counted (records ++ all_told_by machine act) (after machine act)

@@ -16,7 +16,7 @@ use Rattle.packet_laws.proofs.BareLaws.{faults_link, packets_link}
 use Rattle.packet_laws.proofs.CreditLaws.{Well, faults_in, few_at}
 use Rattle.packet_laws.proofs.PaidLaws.{paid}
 
-pair_same : (a b : ℕ) → is_pair a b a b ≡ true
+pub pair_same : (a b : ℕ) → is_pair a b a b ≡ true
 pair_same a b = ap (λ (x : Bool). x || ((a == b) && (b == a))) (both_true (a == a) (b == b) (eq_same a) (eq_same b))
 
 pub has_packet_for_each : OfRuns EachFaultHasPacket

@@ -71,7 +71,7 @@ no_test : (b : Bool) (rest : Bool) → rest ≡ false → ((b && false) || rest)
 no_test true rest h = h
 no_test false rest h = h
 
-none_on : (p : Rec → Bool) (xs ys : List Rec) → list_any p xs ≡ false → list_any p ys ≡ false → list_any p (xs ++ ys) ≡ false
+pub none_on : (p : Rec → Bool) (xs ys : List Rec) → list_any p xs ≡ false → list_any p ys ≡ false → list_any p (xs ++ ys) ≡ false
 none_on p [] ys first rest = rest
 none_on p (x ∷ xs) ys first rest =
     let parts = or_false (p x) (list_any p xs) first in
@@ -120,7 +120,7 @@ sent_lost tx from owner key records (packet ∷ sent) was h =
     let p : Rec → Bool = has_event (is_loss_of tx records) in
     either p (fault_told from from packet.0 packet.1) (sent_told from key sent) ((packet.0 == owner) && is_loss packet.1) (loses_to owner sent) (one_lost tx from owner records packet was) (sent_lost tx from owner key records sent was) h
 
-sent_there : (from owner : ℕ) (key : TxNo) (sent : List (ℕ × Fate)) → list_any (λ (packet : ℕ × Fate). packet.0 == owner) sent ≡ true → list_any (is_at from (is_send_to key.0 owner)) (sent_told from key sent) ≡ true
+pub sent_there : (from owner : ℕ) (key : TxNo) (sent : List (ℕ × Fate)) → list_any (λ (packet : ℕ × Fate). packet.0 == owner) sent ≡ true → list_any (is_at from (is_send_to key.0 owner)) (sent_told from key sent) ≡ true
 sent_there from owner key [] there = absurd (cc)
 sent_there from owner key (packet ∷ sent) there =
     let p : Rec → Bool = is_at from (is_send_to key.0 owner) in
@@ -144,7 +144,7 @@ begun_known flag records from owner key sent there lost =
     let all = any_behind p records (sent_told from key sent) (sent_there from owner key sent there) in
     record { sent = all; loss = λ is. begun_lost records from owner key sent (sent_between key.0 from owner (records ++ sent_told from key sent) all) (lost is) })
 
-new_number : (begun tx : ℕ) → tx ≤ begun → (begun + 1 == tx) ≡ false
+pub new_number : (begun tx : ℕ) → tx ≤ begun → (begun + 1 == tx) ≡ false
 new_number begun tx within = grind (arith, nat_tests)
 
 flag_first : (b x y : Bool) → b ≡ true → cond b x y ≡ true → x ≡ true
@@ -180,7 +180,7 @@ arrived_each FirstReply T machine copy given h = each_without (λ (call : Call).
 arrived_each AskedAgain T machine copy given h = replied_each T (call_of (landed copy machine) copy.tx) given (landed copy machine) h
 arrived_each Past T machine copy given h = h
 
-each_same : (P Q : Call → Type 0) (tx : TxNo) (last : ℕ) (calls : List Call) → IsNumbered 0 calls last → ((call : Call) → is_call tx call ≡ false → P call → Q call) → ((found : Call) → find (is_call tx) calls ≡ Some found → P found → Q found) → AllByRecursion P calls → AllByRecursion Q calls
+pub each_same : (P Q : Call → Type 0) (tx : TxNo) (last : ℕ) (calls : List Call) → IsNumbered 0 calls last → ((call : Call) → is_call tx call ≡ false → P call → Q call) → ((found : Call) → find (is_call tx) calls ≡ Some found → P found → Q found) → AllByRecursion P calls → AllByRecursion Q calls
 each_same P Q tx last calls numbered other this h = subst (AllByRecursion Q) (changed_same (is_call tx) calls) (each_changed P Q tx (λ call. call) 0 last calls numbered other this h)
 
 not_this : (l b c : Bool) → b ≡ false → (l || (b && c)) ≡ true → l ≡ true

@@ -27,7 +27,7 @@ use Rattle.kernel_rpc.proofs.CopyLaws.{each_by, each_request, each_without}
 use Rattle.kernel_rpc.proofs.NumberLaws.{each_changed}
 use Rattle.kernel_rpc.proofs.OwnerLaws.{IsOwners, fresh_owners, owner_is, owners_with}
 use Rattle.kernel_rpc.proofs.PartLaws.{both_true, eq_same, eq_turned, part_fresh, part_further, part_stays}
-use Rattle.kernel_rpc.proofs.RunLaws.{unfinished_replied}
+use Rattle.kernel_rpc.proofs.RunLaws.{unfinished_replied, not_then}
 use Rattle.kernel_rpc.proofs.SoundLaws.{each_within, found_is, found_sound}
 use Rattle.kernel_rpc.proofs.TryLaws.{each_kept}
 use Rattle.unix_calls.specs.declared.Event.TheVariants as events
@@ -39,6 +39,7 @@ use Rattle.cluster_wire.specs.Goings.{next_of}
 use Rattle.cluster_wire.specs.Ran.{told_of}
 use Rattle.cluster_choices.specs.Acts.{delivery}
 use Rattle.cluster_wire_laws.specs.Links.{again_told, all_told_by, answer_told, came_told, fault_told, faults_told, fired_told, sent_told}
+use Rattle.cluster_wire_laws.proofs.FewLaws.{first_most}
 use Rattle.packet_laws.proofs.CreditLaws.{Goes, Has, Well, fault_goes, faults_go, goes_join, goes_less, goes_none, goes_record, pair_turned, pairs_few, pairs_to, sent_go, well_on}
 use Rattle.packet_laws.proofs.RecordLaws.{any_behind, any_first, each_both, sent_between}
 
@@ -78,15 +79,6 @@ owed_less a b p (call ∷ calls) =
 owed_push : (a b : ℕ) (calls : List Call) (call : Call) → owed a b (calls ++ call ∷ []) ≡ owed a b calls + once_if (owes a b call)
 owed_push a b [] call = omega arith
 owed_push a b (first ∷ calls) call = (let rest = owed_push a b calls call in omega arith)
-
-once_first : (p q : Bool) → once_if (p && q) ≤ once_if p
-once_first true true = omega arith
-once_first true false = omega arith
-once_first false q = omega arith
-
-once_none : (p q : Bool) → q ≡ false → once_if (p && q) ≡ 0
-once_none true q is = ap once_if is
-once_none false q is = refl
 
 once_both : (p q : Bool) → q ≡ true → once_if (p && q) ≡ once_if p
 once_both true q is = ap once_if is
@@ -243,7 +235,7 @@ taken_owed : (a b : ℕ) (copy : PacketCopy) (call : Call) (calls : List Call) �
 taken_owed a b copy call calls found asks from true is =
     (let turned = owed_turned a b (is_call copy.tx) (further copy.to Holding) call calls found in
     let paid = asks_packet a b copy call asks (eqb-true copy.to call.owner is) from in
-    let most = once_first (is_pair call.from call.owner a b) (holds (part_of call.owner (with_part copy.to Holding call.receivers))) in omega arith)
+    let most = first_most (is_pair call.from call.owner a b) (holds (part_of call.owner (with_part copy.to Holding call.receivers))) in omega arith)
 taken_owed a b copy call calls found asks from false is =
     (let turned = owed_turned a b (is_call copy.tx) (further copy.to Holding) call calls found in
     let same = ap (λ (part : Option Part). once_if (is_pair call.from call.owner a b && holds part)) (part_stays copy.to call.owner Holding call.receivers is) in omega arith)
@@ -286,7 +278,7 @@ answered_goes a b records machine tx call body given found part has =
     let turned = owed_turned a b (is_call tx) (answered body) call machine.unfinished found in
     let pair = is_pair call.from call.owner a b in
     let had = once_both pair (holds (part_of call.owner call.receivers)) (ap holds part) in
-    let none = once_none pair (holds (part_of call.owner (with_part call.owner Answered call.receivers))) (ap holds (part_further call.owner Answered Holding call.receivers part)) in
+    let none = not_then pair (holds (part_of call.owner (with_part call.owner Answered call.receivers))) (ap holds (part_further call.owner Answered Holding call.receivers part)) in
     let back = ap once_if (pair_turned call.from call.owner a b) in
     subst (λ (o : Option Call). Goes a b records (answer_told given o) (owed a b behind)) (sym found) (fault_goes a b records (owed a b behind) (owed a b machine.unfinished) call.owner call.owner call.from given (omega arith) has)
 
@@ -299,7 +291,7 @@ silent_goes a b records machine tx call kernel found apart has =
 begun_goes : (a b : ℕ) (records : List Rec) (machine : Machine) (call : Call) (sent : List (ℕ × Fate)) → part_of call.owner call.receivers ≡ Some Waiting → Has a b records (owed a b machine.unfinished) → Goes a b records (sent_told call.from (next_of machine) sent) (owed a b (machine.unfinished ++ call ∷ []))
 begun_goes a b records machine call sent waits has =
     let more = owed_push a b machine.unfinished call in
-    let none = once_none (is_pair call.from call.owner a b) (holds (part_of call.owner call.receivers)) (ap holds waits) in
+    let none = not_then (is_pair call.from call.owner a b) (holds (part_of call.owner call.receivers)) (ap holds waits) in
     goes_less a b records (sent_told call.from (next_of machine) sent) (owed a b (machine.unfinished ++ call ∷ [])) (owed a b machine.unfinished) (omega arith) (sent_go a b call.from (next_of machine) sent records (owed a b machine.unfinished) has)
 
 -- a timer fires

@@ -2,6 +2,7 @@
 use Rattle.std.proofs.Common.{◌≡◌, ℕ, ◌==◌, Bool, true, false, ◌&&◌, ◌||◌, cond, List, [], ◌∷◌, ◌++◌, refl, sym, ap, ◌∙◌, append-nil, append_assoc}
 use Rattle.std.specs.List.{AllByRecursion, list_any}
 use Rattle.std.proofs.lemmas.Bool.{and_parts}
+use mathlib.Core.Bool.{or-true}
 use Rattle.sprite_ids.proofs.OnceLaws.{or_false}
 use Rattle.kernel_rpc.proofs.PartLaws.{both_true}
 use Rattle.unix_calls.specs.declared.Event.{Event}
@@ -11,13 +12,9 @@ use Rattle.call_journal.specs.Matching.{has_event, is_at, is_lost, is_resend, is
 use Rattle.call_journal.specs.Past.{since_from, since_last}
 use Rattle.call_journal.specs.WorthPackets.{behind_first_send, behind_last_sending, is_loss_of, is_send_between, was_sent_between}
 
-or_true : (b : Bool) → (b || true) ≡ true
-or_true true = refl
-or_true false = refl
-
 pub or_more : (a b c d : Bool) → (a ≡ true → c ≡ true) → (b ≡ true → d ≡ true) → (a || b) ≡ true → (c || d) ≡ true
 or_more true b c d first second h = ap (λ (x : Bool). x || d) (first refl)
-or_more false b c d first second h = ap (λ (x : Bool). c || x) (second h) ∙ or_true c
+or_more false b c d first second h = ap (λ (x : Bool). c || x) (second h) ∙ or-true c
 
 pub any_first : {X : Type 0} (p : X → Bool) (xs ys : List X) → list_any p xs ≡ true → list_any p (xs ++ ys) ≡ true
 any_first p [] ys h = absurd (cc)
@@ -25,7 +22,7 @@ any_first p (x ∷ xs) ys h = or_more (p x) (list_any p xs) (p x) (list_any p (x
 
 pub any_behind : {X : Type 0} (p : X → Bool) (xs ys : List X) → list_any p ys ≡ true → list_any p (xs ++ ys) ≡ true
 any_behind p [] ys h = h
-any_behind p (x ∷ xs) ys h = ap (λ (b : Bool). p x || b) (any_behind p xs ys h) ∙ or_true (p x)
+any_behind p (x ∷ xs) ys h = ap (λ (b : Bool). p x || b) (any_behind p xs ys h) ∙ or-true (p x)
 
 pub any_more : {X : Type 0} (p q : X → Bool) (xs : List X) → ((x : X) → p x ≡ true → q x ≡ true) → list_any p xs ≡ true → list_any q xs ≡ true
 any_more p q [] more h = h
@@ -108,7 +105,7 @@ send_between tx kernel to r (events.Send key other about kind) h =
     let ends = and_parts (key.0 == tx) (other == to) parts.1 in
     let pair : ((r.kernel == kernel) && (other == to)) ≡ true = both_true (r.kernel == kernel) (other == to) parts.0 ends.1 in (
       both_true (key.0 == tx) (((r.kernel == kernel) && (other == to)) || ((r.kernel == to) && (other == kernel))) ends.0 (ap (λ (b : Bool). b || ((r.kernel == to) && (other == kernel))) pair),
-      both_true (key.0 == tx) (((r.kernel == to) && (other == kernel)) || ((r.kernel == kernel) && (other == to))) ends.0 (ap (λ (b : Bool). ((r.kernel == to) && (other == kernel)) || b) pair ∙ or_true ((r.kernel == to) && (other == kernel))),
+      both_true (key.0 == tx) (((r.kernel == to) && (other == kernel)) || ((r.kernel == kernel) && (other == to))) ends.0 (ap (λ (b : Bool). ((r.kernel == to) && (other == kernel)) || b) pair ∙ or-true ((r.kernel == to) && (other == kernel))),
     )
 send_between tx kernel to r e h = absurd (let parts = and_parts (r.kernel == kernel) false h in cc)
 

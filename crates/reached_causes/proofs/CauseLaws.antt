@@ -1,6 +1,6 @@
 -- Of each reached cluster: a server is called unreachable only for cause.
 use Rattle.std.proofs.Common.{arith, ◌≡◌, ℕ, zero, suc, ◌+◌, ◌-◌, ◌≤◌, ◌==◌, ◌⊎◌, inl, inr, Bool, true, false, ◌&&◌, ◌||◌, cond, List, [], ◌∷◌, ◌++◌, Option, Some, None, option_map, slice_get, refl, sym, ap, ◌∙◌, subst, append_assoc}
-use Rattle.std.proofs.lemmas.Bool.{and_parts, eq-eqb, eqb-true}
+use Rattle.std.proofs.lemmas.Bool.{and_parts, eq-eqb, eqb-true, or_right}
 use Rattle.std.specs.List.{AllByRecursion, find, list_any}
 use Rattle.sprite_ids.specs.declared.TxNo.{TxNo}
 use Rattle.sprite_ids.proofs.ListLaws.{some_is}
@@ -40,6 +40,7 @@ use Rattle.client_homes.specs.declared.ClientProcs.{ClientProcs}
 use Rattle.client_names.specs.Answers.{is_for, takes_end}
 use Rattle.cluster_wire.specs.Firing.{is_from, is_last_in, may_fire}
 use Rattle.cluster_wire_laws.specs.Traces.{ReachedSo}
+use Rattle.cluster_wire_laws.proofs.PlaceLaws.{head_is, tail_is}
 use Rattle.cluster_kernels.specs.declared.KernelState.{KernelState}
 use Rattle.cluster_kernels.specs.declared.KernelState.TheVariants as kernels
 use Rattle.cluster_kernels.specs.declared.State.{State}
@@ -57,13 +58,14 @@ use Rattle.broadcast_laws.specs.Broadcasts.{WaitsFor}
 use Rattle.reached_domains.proofs.DomainLaws.{broadcasts_ask, one_answers, redirects_lead}
 use Rattle.reached_prefixes.specs.Known.{told_by}
 use Rattle.reached_prefixes.proofs.TraceLaws.{told_append, told_other_more, told_own_more}
+use Rattle.reached_prefixes.proofs.KnownLaws.{not_counted}
 use Rattle.cause_entries.specs.Causes.{given_up, given_up_by, given_up_for, unreachable_in}
 use Rattle.cause_entries.specs.Sayings.{IsFor, IsSaid, SaysSo, awaited, kind_of}
 use Rattle.cause_entries.proofs.CauseLaws.{unreachable_append}
 use Rattle.cause_entries.proofs.SaidLaws.{found_said}
 use Rattle.reached_causes.specs.Causes.{UnreachableForCause}
 use Rattle.reached_causes.proofs.GiveUpLaws.{given_up_behind_sends, sent_to_owner}
-use Rattle.reached_causes.proofs.RunLaws.{not_counted, reached_so}
+use Rattle.reached_causes.proofs.RunLaws.{reached_so}
 use Rattle.reached_causes.proofs.TurnLaws.{Calls, Leads, NoServer, OneServer, SaidIn, TurnSays, burst_says, choice_says, entries_of, said_on}
 
 -- ---- lists
@@ -77,12 +79,6 @@ record InSecond {X : Type 0} (xs ys before : List X) (x : X) (rest : List X) : T
   later : List X
   front : before ≡ xs ++ later
   split : ys ≡ later ++ x ∷ rest
-
-head_is : {X : Type 0} (x y : X) (xs ys : List X) → x ∷ xs ≡ y ∷ ys → x ≡ y
-head_is x y xs ys is = cc
-
-tail_is : {X : Type 0} (x y : X) (xs ys : List X) → x ∷ xs ≡ y ∷ ys → xs ≡ ys
-tail_is x y xs ys is = cc
 
 placed : {X : Type 0} (xs ys before : List X) (x : X) (rest : List X) → xs ++ ys ≡ before ++ x ∷ rest → InFirst xs before x ⊎ InSecond xs ys before x rest
 placed [] ys before x rest e = inr (record { later = before; front = refl; split = e })
@@ -237,10 +233,6 @@ rec_is r kernel event same is = ap (λ (n : ℕ). record { kernel = n; event = r
 -- among these records one is that a send for the sake of the entry's call was given up
 abbrev causes : Description → ℕ → Entry → List Rec → Bool
 causes c kernel entry records = some_then (λ (r : Rec) rest. r.kernel == kernel && is_given_up c kernel entry.pid entry.number r.event rest) records
-
-or_right : (a b : Bool) → b ≡ true → (a || b) ≡ true
-or_right true b h = refl
-or_right false b h = h
 
 some_at : (test : Rec → List Rec → Bool) (before : List Rec) (r : Rec) (rest : List Rec) → test r rest ≡ true → some_then test (before ++ r ∷ rest) ≡ true
 some_at test [] r rest h = ap (λ (b : Bool). b || some_then test rest) h

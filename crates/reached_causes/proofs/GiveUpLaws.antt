@@ -1,13 +1,12 @@
 -- Behind each record that a call was sent to the one that is to answer it: as many packets between the two were lost as tries are over, and no
 -- answer came.
-use Rattle.std.proofs.Common.{arith, ◌≡◌, ℕ, ◌+◌, ◌<◌, ◌≤◌, ◌==◌, nat_le, Bool, true, false, ◌&&◌, ◌||◌, not, cond, List, [], ◌∷◌, ◌++◌, map, min, Option, Some, None, is_some, count_by, refl, sym, ap, ap₂, subst, ◌∙◌, append-nil, append_assoc}
-use Rattle.std.specs.List.{AllByRecursion, filter, find, list_any}
-use Rattle.std.proofs.lemmas.Bool.{eqb-true}
+use Rattle.std.proofs.Common.{arith, ◌≡◌, ℕ, ◌+◌, ◌<◌, ◌≤◌, ◌==◌, nat_le, Bool, true, false, ◌&&◌, ◌||◌, not, cond, List, [], ◌∷◌, ◌++◌, map, Option, Some, None, is_some, count_by, refl, sym, ap, ap₂, subst, ◌∙◌, append-nil, append_assoc}
+use Rattle.std.specs.List.{AllByRecursion, filter, list_any}
+use Rattle.std.proofs.lemmas.Bool.{eqb-true, or_right, and_right, le-leb, eq-eqb, both_ways, and_left}
 use Rattle.std.proofs.lemmas.Bool.Decides.{nat_tests}
 use Rattle.sprite_ids.specs.declared.TxNo.{TxNo}
 use Rattle.sprite_ids.specs.declared.CopyNo.{CopyNo}
 use Rattle.sprite_ids.specs.declared.Tries.{Tries}
-use Rattle.sprite_ids.specs.declared.Tries.TheVariants.{Eight, Always}
 use Rattle.sprite_ids.proofs.ListLaws.{each_push, each_weaken, some_is}
 use Rattle.sprite_ids.proofs.OnceLaws.{or_false}
 use Rattle.link_plan.specs.declared.Fate.{Fate}
@@ -24,11 +23,12 @@ use Rattle.kernel_rpc.specs.Servers.{AreApart}
 use Rattle.kernel_rpc.specs.Sound.{IsNumbered, IsSound, is_reply_of}
 use Rattle.kernel_rpc.proofs.CauseLaws.{Holds, after_holds}
 use Rattle.kernel_rpc.proofs.LossLaws.{lost_before_expiry}
-use Rattle.kernel_rpc.proofs.NumberLaws.{changed_same, each_changed, each_dropped}
+use Rattle.kernel_rpc.proofs.NumberLaws.{each_changed, each_dropped}
 use Rattle.kernel_rpc.proofs.PartLaws.{any_map, both_true, eq_same}
 use Rattle.kernel_rpc.proofs.RunLaws.{unfinished_replied}
 use Rattle.kernel_rpc.proofs.SoundLaws.{each_within, found_is, found_sound, other_copy}
 use Rattle.kernel_rpc.proofs.TryLaws.{IsTried, delivered_begun, each_kept, seven}
+use Rattle.kernel_rpc.proofs.CopyLaws.{found_none}
 use Rattle.unix_calls.specs.declared.Event.{Event}
 use Rattle.unix_calls.specs.declared.Event.TheVariants as events
 use Rattle.unix_calls.specs.declared.Rec.{Rec}
@@ -41,8 +41,14 @@ use Rattle.cluster_wire.specs.Ran.{told_of}
 use Rattle.cluster_choices.specs.Acts.{delivery}
 use Rattle.cluster_wire_laws.specs.Links.{again_told, all_told_by, answer_told, bare, bare_event, came_told, fault_told, faults_told, fired_told, is_of_link, of_link, sent_told}
 use Rattle.cluster_wire_laws.proofs.LinkLaws.{link_on}
+use Rattle.cluster_wire_laws.proofs.SixLaws.{expired_begun}
+use Rattle.cluster_wire_laws.proofs.SendingLaws.{bare_same, other_none}
 use Rattle.packet_laws.proofs.CreditLaws.{count_on, count_one}
-use Rattle.packet_laws.proofs.RecordLaws.{any_behind, any_first, or_more}
+use Rattle.packet_laws.proofs.RecordLaws.{any_behind, any_first}
+use Rattle.packet_laws.proofs.BareLaws.{expire_bare, expire_other}
+use Rattle.packet_laws.proofs.EighthLaws.{new_tried, one_more}
+use Rattle.packet_laws.proofs.FaultLaws.{pair_same}
+use Rattle.packet_laws.proofs.LossLaws.{none_on, sent_there, each_same, new_number}
 use Rattle.reached_causes.specs.GivenUp.{GivenUpBehindSends}
 
 -- ---- what is counted
@@ -63,13 +69,9 @@ abbrev Behind : (Rec → Bool) → (List Rec → Type 0) → List Rec → Type 0
 Behind test P [] = Unit {0}
 Behind test P (r ∷ rs) = (test r ≡ true → P rs) × Behind test P rs
 
-both_ways : (b : Bool) → b ≡ true → b ≡ false → ⊥
-both_ways true e f = absurd (cc)
-both_ways false e f = absurd (cc)
-
 behind_none : (test : Rec → Bool) (P : List Rec → Type 0) (rs : List Rec) → list_any test rs ≡ false → Behind test P rs
 behind_none test P [] h = tt
-behind_none test P (r ∷ rs) h = let parts = or_false (test r) (list_any test rs) h in (λ e. absurd (both_ways (test r) e parts.0), behind_none test P rs parts.1)
+behind_none test P (r ∷ rs) h = let parts = or_false (test r) (list_any test rs) h in (λ e. absurd (both_ways (test r) parts.0 e), behind_none test P rs parts.1)
 
 behind_more : (test : Rec → Bool) (P R : List Rec → Type 0) (rs told : List Rec) → ((between : List Rec) → P between → R (between ++ told)) → list_any test told ≡ false → Behind test P rs → Behind test R (rs ++ told)
 behind_more test P R [] told more none h = behind_none test R told none
@@ -77,17 +79,11 @@ behind_more test P R (r ∷ rs) told more none h = (λ e. more rs (h.0 e), behin
 
 behind_join : (test : Rec → Bool) (R : List Rec → Type 0) (rs told : List Rec) → list_any test rs ≡ false → Behind test R told → Behind test R (rs ++ told)
 behind_join test R [] told none h = h
-behind_join test R (r ∷ rs) told none h = let parts = or_false (test r) (list_any test rs) none in (λ e. absurd (both_ways (test r) e parts.0), behind_join test R rs told parts.1 h)
+behind_join test R (r ∷ rs) told none h = let parts = or_false (test r) (list_any test rs) none in (λ e. absurd (both_ways (test r) parts.0 e), behind_join test R rs told parts.1 h)
 
 behind_at : (test : Rec → Bool) (P : List Rec → Type 0) (before : List Rec) (r : Rec) (between : List Rec) → test r ≡ true → Behind test P (before ++ r ∷ between) → P between
 behind_at test P [] r between e h = h.0 e
 behind_at test P (x ∷ before) r between e h = behind_at test P before r between e h.1
-
-none_on : (p : Rec → Bool) (xs ys : List Rec) → list_any p xs ≡ false → list_any p ys ≡ false → list_any p (xs ++ ys) ≡ false
-none_on p [] ys first rest = rest
-none_on p (x ∷ xs) ys first rest =
-    let parts = or_false (p x) (list_any p xs) first in
-    ap (λ (b : Bool). b || list_any p (xs ++ ys)) parts.0 ∙ none_on p xs ys parts.1 rest
 
 count_none : (p : Rec → Bool) (rs : List Rec) → list_any p rs ≡ false → count_by p rs ≡ 0
 count_none p [] h = refl
@@ -98,16 +94,8 @@ count_none p (r ∷ rs) h =
     let zero = ap once_if parts.0 in
     let rest = count_none p rs parts.1 in omega arith)
 
-and_none : (a b : Bool) → b ≡ false → (a && b) ≡ false
-and_none true b h = h
-and_none false b h = refl
-
 or_none : (a b : Bool) → a ≡ false → b ≡ false → (a || b) ≡ false
 or_none a b h k = ap (λ (x : Bool). x || b) h ∙ k
-
-or_right : (a b : Bool) → b ≡ true → (a || b) ≡ true
-or_right true b h = refl
-or_right false b h = h
 
 either : (x y : Bool) → once_if (x || y) ≤ once_if x + once_if y
 either true y = omega arith
@@ -136,7 +124,7 @@ no_reply tx owner e h = refl
 
 faults_none : (p : Event → Bool) (kernel : ℕ) (told : List Rec) → Ignores p → AreFaults told → list_any (is_at kernel p) told ≡ false
 faults_none p kernel [] ignores h = refl
-faults_none p kernel (r ∷ told) ignores h = or_none (is_at kernel p r) (list_any (is_at kernel p) told) (and_none (r.kernel == kernel) (p r.event) (ignores r.event h.0)) (faults_none p kernel told ignores h.1)
+faults_none p kernel (r ∷ told) ignores h = or_none (is_at kernel p r) (list_any (is_at kernel p) told) (and_right (r.kernel == kernel) (p r.event) (ignores r.event h.0)) (faults_none p kernel told ignores h.1)
 
 each_both : (xs ys : List Rec) → AreFaults xs → AreFaults ys → AreFaults (xs ++ ys)
 each_both [] ys h k = k
@@ -169,9 +157,6 @@ rest_are false at sent = faults_are at sent
 
 -- losses
 
-pair_same : (a b : ℕ) → is_pair a b a b ≡ true
-pair_same a b = ap (λ (x : Bool). x || ((a == b) && (b == a))) (both_true (a == a) (b == b) (eq_same a) (eq_same b))
-
 pair_back : (a b : ℕ) → is_pair b a a b ≡ true
 pair_back a b = or_right ((b == a) && (a == b)) ((b == b) && (a == a)) (both_true (b == b) (a == a) (eq_same b) (eq_same a))
 
@@ -200,7 +185,7 @@ faults_lost (packet ∷ sent) from owner =
 sent_none : (p : Event → Bool) (kernel at : ℕ) (key : TxNo) (sent : List (ℕ × Fate)) → Ignores p → ((to : ℕ) → p (events.Send key to None Other) ≡ false) → list_any (is_at kernel p) (sent_told at key sent) ≡ false
 sent_none p kernel at key [] ignores none = refl
 sent_none p kernel at key (packet ∷ sent) ignores none =
-    or_none (is_at kernel p (record { kernel = at; event = events.Send key packet.0 None Other })) _ (and_none (at == kernel) (p (events.Send key packet.0 None Other)) (none packet.0))
+    or_none (is_at kernel p (record { kernel = at; event = events.Send key packet.0 None Other })) _ (and_right (at == kernel) (p (events.Send key packet.0 None Other)) (none packet.0))
     (none_on (is_at kernel p) (fault_told at at packet.0 packet.1) (sent_told at key sent) (faults_none p kernel (fault_told at at packet.0 packet.1) ignores (fault_is at at packet.0 packet.1)) (sent_none p kernel at key sent ignores none))
 
 sent_lost : (sent : List (ℕ × Fate)) (from owner : ℕ) (key : TxNo) → once_if (loses_to owner sent) ≤ losses from owner (sent_told from key sent)
@@ -254,25 +239,17 @@ faults_on lost later records told call faults more h =
 
 -- ---- a call that begins
 
-new_tried : (count : ℕ) (tries : Tries) → count ≡ 0 → IsTried count tries 0
-new_tried count Eight none = (omega arith, omega arith)
-new_tried count Always none = tt
-
 -- no packet to the owner stands behind the one
 no_owner : (sent : List (ℕ × Fate)) (from owner : ℕ) (key : TxNo) → list_any (λ (n : ℕ). n == owner) (map (λ (packet : ℕ × Fate). packet.0) sent) ≡ false → list_any (is_at from (is_send_to key.0 owner)) (sent_told from key sent) ≡ false
 no_owner [] from owner key h = refl
 no_owner (packet ∷ sent) from owner key h =
     let parts = or_false (packet.0 == owner) (list_any (λ (n : ℕ). n == owner) (map (λ (packet : ℕ × Fate). packet.0) sent)) h in
-    or_none ((from == from) && ((key.0 == key.0) && (packet.0 == owner))) _ (and_none (from == from) ((key.0 == key.0) && (packet.0 == owner)) (and_none (key.0 == key.0) (packet.0 == owner) parts.0))
+    or_none ((from == from) && ((key.0 == key.0) && (packet.0 == owner))) _ (and_right (from == from) ((key.0 == key.0) && (packet.0 == owner)) (and_right (key.0 == key.0) (packet.0 == owner) parts.0))
     (none_on (is_at from (is_send_to key.0 owner)) (fault_told from from packet.0 packet.1) (sent_told from key sent) (faults_none (is_send_to key.0 owner) from (fault_told from from packet.0 packet.1) (no_send key.0 owner) (fault_is from from packet.0 packet.1)) (no_owner sent from owner key parts.1))
 
 later_loss : (x y : Bool) → x ≡ false → once_if (x || y) ≤ once_if y
 later_loss true y h = absurd (cc)
 later_loss false y h = omega arith
-
-first_false : (b c : Bool) → b ≡ false → (b && c) ≡ false
-first_false true c h = absurd (cc)
-first_false false c h = refl
 
 begun_behind : (sent : List (ℕ × Fate)) (from owner : ℕ) (key : TxNo) (tries : Tries) (lost : Bool) → AreApart (map (λ (packet : ℕ × Fate). packet.0) sent) → once_if lost ≤ once_if (loses_to owner sent) → Behind (is_at from (is_send_to key.0 owner)) (Fair lost key.0 from owner tries 0) (sent_told from key sent)
 begun_behind [] from owner key tries lost apart some = tt
@@ -297,10 +274,7 @@ begun_behind (packet ∷ sent) from owner key tries lost apart some = (
 
     by_owner : (b : Bool) → (packet.0 == owner) ≡ b → (once_if lost ≤ once_if (loses_to owner sent) → Behind (is_at from (is_send_to key.0 owner)) (Fair lost key.0 from owner tries 0) rest) → Behind (is_at from (is_send_to key.0 owner)) (Fair lost key.0 from owner tries 0) rest
     by_owner true e again = behind_none (is_at from (is_send_to key.0 owner)) (Fair lost key.0 from owner tries 0) rest (no_owner sent from owner key (subst (λ (n : ℕ). list_any (λ (k : ℕ). k == n) (map (λ (packet : ℕ × Fate). packet.0) sent) ≡ false) (eqb-true packet.0 owner e) apart.0))
-    by_owner false e again = again (let less = later_loss ((packet.0 == owner) && loses packet.1) (loses_to owner sent) (first_false (packet.0 == owner) (loses packet.1) e) in omega arith)
-
-new_number : (begun tx : ℕ) → tx ≤ begun → (begun + 1 == tx) ≡ false
-new_number begun tx within = grind (arith, nat_tests)
+    by_owner false e again = again (let less = later_loss ((packet.0 == owner) && loses packet.1) (loses_to owner sent) (and_left (packet.0 == owner) (loses packet.1) e) in omega arith)
 
 flag_rest : (b x y : Bool) → b ≡ false → once_if (cond b x y) ≤ once_if y
 flag_rest true x y h = absurd (cc)
@@ -316,7 +290,7 @@ old_call lost records begun from owner sent call within h =
     let key : TxNo = record { 0 = begun + 1 } in
     let other : (begun + 1 == call.tx.0) ≡ false = new_number begun call.tx.0 within in
     call_on lost (λ tx. cond (begun + 1 == tx) (loses_to owner sent) (lost tx)) records (sent_told from key sent) call
-    (sent_none (is_send_to call.tx.0 call.owner) call.from from key sent (no_send call.tx.0 call.owner) (λ to. first_false (begun + 1 == call.tx.0) (to == call.owner) other))
+    (sent_none (is_send_to call.tx.0 call.owner) call.from from key sent (no_send call.tx.0 call.owner) (λ to. and_left (begun + 1 == call.tx.0) (to == call.owner) other))
     (count_none (is_at call.from (is_expire call.tx.0)) (sent_told from key sent) (sent_none (is_expire call.tx.0) call.from from key sent (no_expire call.tx.0) (λ to. refl)))
     (sent_none (is_reply_from call.tx.0 call.owner) call.from from key sent (no_reply call.tx.0 call.owner) (λ to. refl))
     (let less = flag_rest (begun + 1 == call.tx.0) (loses_to owner sent) (lost call.tx.0) other in omega arith) h
@@ -324,16 +298,6 @@ old_call lost records begun from owner sent call within h =
 each_known : (P F G : Call → Type 0) (calls : List Call) → ((call : Call) → P call → F call → G call) → AllByRecursion P calls → AllByRecursion F calls → AllByRecursion G calls
 each_known P F G [] both h k = tt
 each_known P F G (call ∷ calls) both h k = (both call h.0 k.0, each_known P F G calls both h.1 k.1)
-
--- it was sent to its owner
-sent_there : (from owner : ℕ) (key : TxNo) (sent : List (ℕ × Fate)) → list_any (λ (packet : ℕ × Fate). packet.0 == owner) sent ≡ true → list_any (is_at from (is_send_to key.0 owner)) (sent_told from key sent) ≡ true
-sent_there from owner key [] there = absurd (cc)
-sent_there from owner key (packet ∷ sent) there =
-    let p : Rec → Bool = is_at from (is_send_to key.0 owner) in
-    let rest = fault_told from from packet.0 packet.1 ++ sent_told from key sent in
-    or_more (packet.0 == owner) (list_any (λ (packet : ℕ × Fate). packet.0 == owner) sent) ((from == from) && ((key.0 == key.0) && (packet.0 == owner))) (list_any p rest)
-    (λ e. both_true (from == from) ((key.0 == key.0) && (packet.0 == owner)) (eq_same from) (both_true (key.0 == key.0) (packet.0 == owner) (eq_same key.0) e))
-    (λ later. any_behind p (fault_told from from packet.0 packet.1) (sent_told from key sent) (sent_there from owner key sent later)) there
 
 begin_fair : (lost : ℕ → Bool) (records : List Rec) (machine : Machine) (call : Call) (sent : List (ℕ × Fate)) → IsNumbered 0 machine.unfinished machine.begun → call.tx ≡ next_of machine → call.lost ≡ 0 → list_any (λ (packet : ℕ × Fate). packet.0 == call.owner) sent ≡ true → AreApart (map (λ (packet : ℕ × Fate). packet.0) sent) → AllFair lost records machine
     → AllByRecursion (FairCall (λ tx. cond (machine.begun + 1 == tx) (loses_to call.owner sent) (lost tx)) (records ++ sent_told call.from (next_of machine) sent)) (machine.unfinished ++ call ∷ [])
@@ -352,17 +316,10 @@ begin_fair lost records machine call sent numbered number fresh there apart h =
 -- ---- a copy that comes
 
 -- a copy of the reply comes only to a call that it ends
-found_by : {X : Type 0} (p : X → Bool) (x y : X) (rest : Option X) (b : Bool) → (rest ≡ Some x → p x ≡ false) → cond b (Some y) rest ≡ Some x → p y ≡ false → p x ≡ false
-found_by {X} p x y rest true later same none = subst (λ (z : X). p z ≡ false) (some_is y x same) none
-found_by p x y rest false later same none = later same
-
-found_false : {X : Type 0} (p q : X → Bool) (x : X) (xs : List X) → find q xs ≡ Some x → list_any p xs ≡ false → p x ≡ false
-found_false p q x [] e h = absurd (cc)
-found_false p q x (y ∷ xs) e h = let parts = or_false (p y) (list_any p xs) h in found_by p x y (find q xs) (q y) (λ later. found_false p q x xs later parts.1) e parts.0
 
 no_answer : (o : Option (List ℕ)) (a : Arrival) (reply : Bool) → arrival_back o ≡ a → is_first_reply a ≡ false → (is_some o ≡ false → reply ≡ false) → reply ≡ false
 no_answer None a reply e f none = none refl
-no_answer (Some bytes) a reply e f none = absurd (both_ways (is_first_reply a) (ap is_first_reply (sym e)) f)
+no_answer (Some bytes) a reply e f none = absurd (both_ways (is_first_reply a) f (ap is_first_reply (sym e)))
 
 request_by : (b : Bool) (copy : PacketCopy) (call : Call) (a : Arrival) → copy.reply ≡ b → arrival_of copy (Some call) ≡ a → is_first_reply a ≡ false → (is_some call.reply ≡ false → copy.reply ≡ false) → copy.reply ≡ false
 request_by false copy call a is e f none = is
@@ -374,10 +331,7 @@ is_request machine counts number copy call a sound found known e f =
     let here = found_sound (IsSound _ counts.faults machine.copies) (is_call copy.tx) call machine.unfinished known sound.calls in
     let same : (copy.tx.0 == call.tx.0) ≡ true = subst (λ (n : ℕ). (copy.tx.0 == n) ≡ true) (sym (eqb-true call.tx.0 copy.tx.0 (found_is copy.tx call machine.unfinished known))) (eq_same copy.tx.0) in
     request_by copy.reply copy call a refl (sym (ap (arrival_of copy) known) ∙ e) f
-    (λ none. sym (ap (λ (b : Bool). b && copy.reply) same) ∙ found_false (is_reply_of call) (is_copy number) copy machine.copies found (here.replies none))
-
-each_same : (P Q : Call → Type 0) (tx : TxNo) (last : ℕ) (calls : List Call) → IsNumbered 0 calls last → ((call : Call) → is_call tx call ≡ false → P call → Q call) → ((found : Call) → find (is_call tx) calls ≡ Some found → P found → Q found) → AllByRecursion P calls → AllByRecursion Q calls
-each_same P Q tx last calls numbered other this h = subst (AllByRecursion Q) (changed_same (is_call tx) calls) (each_changed P Q tx (λ call. call) 0 last calls numbered other this h)
+    (λ none. sym (ap (λ (b : Bool). b && copy.reply) same) ∙ found_none (is_reply_of call) (is_copy number) copy machine.copies found (here.replies none))
 
 -- what a copy brings, and what is lost with it
 more_lost : (l b c : Bool) → b ≡ false → once_if (l || (b && c)) ≤ once_if l
@@ -395,12 +349,12 @@ second_less : (b c : Bool) → once_if (b && c) ≤ once_if c
 second_less true c = omega arith
 second_less false c = omega arith
 
-and_left : (a b c : Bool) → a ≡ false → ((a && b) && c) ≡ false
-and_left true b c h = absurd (cc)
-and_left false b c h = refl
+three_off : (a b c : Bool) → a ≡ false → ((a && b) && c) ≡ false
+three_off true b c h = absurd (cc)
+three_off false b c h = refl
 
 and_middle : (a b c : Bool) → b ≡ false → ((a && b) && c) ≡ false
-and_middle true b c h = first_false b c h
+and_middle true b c h = and_left b c h
 and_middle false b c h = refl
 
 module _ (lost : ℕ → Bool) (records : List Rec) (machine : Machine) (counts : Counts) (number : CopyNo) (copy : PacketCopy) (given : Fate) (sound : Holds machine counts) (found : copy_of machine number ≡ Some copy) where
@@ -416,9 +370,9 @@ module _ (lost : ℕ → Bool) (records : List Rec) (machine : Machine) (counts 
       let faults = again_are a copy.to given o in
       let rest = again_told a copy.to given o in
       call_on lost (flag a) records (told a o) call
-      (or_none ((copy.to == call.from) && false) (list_any (is_at call.from (is_send_to call.tx.0 call.owner)) rest) (and_none (copy.to == call.from) false refl) (faults_none (is_send_to call.tx.0 call.owner) call.from rest (no_send call.tx.0 call.owner) faults))
-      (count_none (is_at call.from (is_expire call.tx.0)) (told a o) (or_none ((copy.to == call.from) && false) (list_any (is_at call.from (is_expire call.tx.0)) rest) (and_none (copy.to == call.from) false refl) (faults_none (is_expire call.tx.0) call.from rest (no_expire call.tx.0) faults)))
-      (or_none (is_at call.from (is_reply_from call.tx.0 call.owner) (record { kernel = copy.to; event = delivery copy })) (list_any (is_at call.from (is_reply_from call.tx.0 call.owner)) rest) (and_none (copy.to == call.from) (is_reply_from call.tx.0 call.owner (delivery copy)) none) (faults_none (is_reply_from call.tx.0 call.owner) call.from rest (no_reply call.tx.0 call.owner) faults))
+      (or_none ((copy.to == call.from) && false) (list_any (is_at call.from (is_send_to call.tx.0 call.owner)) rest) (and_right (copy.to == call.from) false refl) (faults_none (is_send_to call.tx.0 call.owner) call.from rest (no_send call.tx.0 call.owner) faults))
+      (count_none (is_at call.from (is_expire call.tx.0)) (told a o) (or_none ((copy.to == call.from) && false) (list_any (is_at call.from (is_expire call.tx.0)) rest) (and_right (copy.to == call.from) false refl) (faults_none (is_expire call.tx.0) call.from rest (no_expire call.tx.0) faults)))
+      (or_none (is_at call.from (is_reply_from call.tx.0 call.owner) (record { kernel = copy.to; event = delivery copy })) (list_any (is_at call.from (is_reply_from call.tx.0 call.owner)) rest) (and_right (copy.to == call.from) (is_reply_from call.tx.0 call.owner (delivery copy)) none) (faults_none (is_reply_from call.tx.0 call.owner) call.from rest (no_reply call.tx.0 call.owner) faults))
       more h
 
   other_on : (a : Arrival) (o : Option Call) (call : Call) → is_call copy.tx call ≡ false → FairCall lost records call → FairCall (flag a) (records ++ told a o) call
@@ -429,7 +383,7 @@ module _ (lost : ℕ → Bool) (records : List Rec) (machine : Machine) (counts 
   this_on : (a : Arrival) (call : Call) → arrival machine copy ≡ a → is_first_reply a ≡ false → call_of machine copy.tx ≡ Some call → FairCall lost records call → FairCall (flag a) (records ++ told a (Some call)) call
   this_on a call e f known h =
       let request = is_request machine counts number copy call a sound found known e f in
-      copy_on a (Some call) call (and_left copy.reply (copy.tx.0 == call.tx.0) (copy.from == call.owner) request) (more_back a call) h
+      copy_on a (Some call) call (three_off copy.reply (copy.tx.0 == call.tx.0) (copy.from == call.owner) request) (more_back a call) h
     where
       more_back : (a : Arrival) (call : Call) → once_if (flag a call.tx.0) ≤ once_if (lost call.tx.0) + losses call.from call.owner (told a (Some call))
       more_back a call =
@@ -460,7 +414,7 @@ deliver_fair (Some copy) lost records machine counts number given found sound h 
 came_unsent : (o : Option PacketCopy) (machine : Machine) (given : Fate) (kernel tx to : ℕ) → list_any (is_at kernel (is_send_to tx to)) (came_told machine given o) ≡ false
 came_unsent None machine given kernel tx to = refl
 came_unsent (Some copy) machine given kernel tx to =
-    or_none ((copy.to == kernel) && false) _ (and_none (copy.to == kernel) false refl) (faults_none (is_send_to tx to) kernel (again_told (arrival machine copy) copy.to given (call_of machine copy.tx)) (no_send tx to) (again_are (arrival machine copy) copy.to given (call_of machine copy.tx)))
+    or_none ((copy.to == kernel) && false) _ (and_right (copy.to == kernel) false refl) (faults_none (is_send_to tx to) kernel (again_told (arrival machine copy) copy.to given (call_of machine copy.tx)) (no_send tx to) (again_are (arrival machine copy) copy.to given (call_of machine copy.tx)))
 
 -- ---- an answer
 
@@ -478,17 +432,13 @@ answered_fair lost records machine tx given numbered h =
 
 -- ---- a timer that fires
 
-one_more : (count : ℕ) (tries : Tries) (over : ℕ) → is_last_of tries over ≡ false → IsTried count tries over → IsTried (count + 1) tries (lost_more tries over)
-one_more count Eight over last h = (let same = h.0 in let few : over < 7 = grind (arith, nat_tests) in let least : min (over + 1) 7 ≡ over + 1 = grind arith in (omega arith, omega arith))
-one_more count Always over last h = tt
-
 -- the timer of another call fires
 other_fires : (lost later : ℕ → Bool) (records : List Rec) (key : TxNo) (at : ℕ) (b : Bool) (rest : List Rec) (call : Call) → (key.0 == call.tx.0) ≡ false → AreFaults rest → once_if (later call.tx.0) ≤ once_if (lost call.tx.0) → FairCall lost records call → FairCall later (records ++ record { kernel = at; event = events.Expire key b } ∷ rest) call
 other_fires lost later records key at b rest call apart faults less h =
     call_on lost later records (record { kernel = at; event = events.Expire key b } ∷ rest) call
-    (or_none ((at == call.from) && false) (list_any (is_at call.from (is_send_to call.tx.0 call.owner)) rest) (and_none (at == call.from) false refl) (faults_none (is_send_to call.tx.0 call.owner) call.from rest (no_send call.tx.0 call.owner) faults))
-    (count_none (is_at call.from (is_expire call.tx.0)) (record { kernel = at; event = events.Expire key b } ∷ rest) (or_none ((at == call.from) && (key.0 == call.tx.0)) (list_any (is_at call.from (is_expire call.tx.0)) rest) (and_none (at == call.from) (key.0 == call.tx.0) apart) (faults_none (is_expire call.tx.0) call.from rest (no_expire call.tx.0) faults)))
-    (or_none ((at == call.from) && false) (list_any (is_at call.from (is_reply_from call.tx.0 call.owner)) rest) (and_none (at == call.from) false refl) (faults_none (is_reply_from call.tx.0 call.owner) call.from rest (no_reply call.tx.0 call.owner) faults))
+    (or_none ((at == call.from) && false) (list_any (is_at call.from (is_send_to call.tx.0 call.owner)) rest) (and_right (at == call.from) false refl) (faults_none (is_send_to call.tx.0 call.owner) call.from rest (no_send call.tx.0 call.owner) faults))
+    (count_none (is_at call.from (is_expire call.tx.0)) (record { kernel = at; event = events.Expire key b } ∷ rest) (or_none ((at == call.from) && (key.0 == call.tx.0)) (list_any (is_at call.from (is_expire call.tx.0)) rest) (and_right (at == call.from) (key.0 == call.tx.0) apart) (faults_none (is_expire call.tx.0) call.from rest (no_expire call.tx.0) faults)))
+    (or_none ((at == call.from) && false) (list_any (is_at call.from (is_reply_from call.tx.0 call.owner)) rest) (and_right (at == call.from) false refl) (faults_none (is_reply_from call.tx.0 call.owner) call.from rest (no_reply call.tx.0 call.owner) faults))
     (omega arith) h
 
 -- the call's own timer fires, and it is sent again
@@ -496,7 +446,7 @@ again_fair : (tx from owner : ℕ) (key : TxNo) (tries : Tries) (over : ℕ) (se
 again_fair tx from owner key tries over sent between same last h = record {
   enough = (let e = more in let l = count_on (has_event (is_loss from owner)) between told in let one = count_on (has_event (is_loss from owner)) (record { kernel = from; event = events.Expire key false } ∷ []) (faults_told from sent) in let some = faults_lost sent from owner in let old = h.enough in omega arith);
   counted = subst (λ (n : ℕ). IsTried n tries (lost_more tries over)) (sym more) (one_more (expiries from tx between) tries over last h.counted);
-  unanswered = none_on (is_at from (is_reply_from tx owner)) between told h.unanswered (or_none ((from == from) && false) (list_any (is_at from (is_reply_from tx owner)) (faults_told from sent)) (and_none (from == from) false refl) (faults_none (is_reply_from tx owner) from (faults_told from sent) (no_reply tx owner) (faults_are from sent)));
+  unanswered = none_on (is_at from (is_reply_from tx owner)) between told h.unanswered (or_none ((from == from) && false) (list_any (is_at from (is_reply_from tx owner)) (faults_told from sent)) (and_right (from == from) false refl) (faults_none (is_reply_from tx owner) from (faults_told from sent) (no_reply tx owner) (faults_are from sent)));
 }
   where
     told : List Rec
@@ -518,7 +468,7 @@ this_fires lost later records key sent call same last was is h =
       behind_more (is_at call.from (is_send_to call.tx.0 call.owner)) (Fair (lost call.tx.0) call.tx.0 call.from call.owner call.tries call.lost) (Fair (later call.tx.0) call.tx.0 call.from call.owner call.tries (lost_more call.tries call.lost)) records told
           (λ between k. subst (λ (b : Bool). Fair b call.tx.0 call.from call.owner call.tries (lost_more call.tries call.lost) (between ++ told)) (sym is)
           (again_fair call.tx.0 call.from call.owner key call.tries call.lost sent between same last (subst (λ (b : Bool). Fair b call.tx.0 call.from call.owner call.tries call.lost between) was k)))
-          (or_none ((call.from == call.from) && false) (list_any (is_at call.from (is_send_to call.tx.0 call.owner)) (faults_told call.from sent)) (and_none (call.from == call.from) false refl) (faults_none (is_send_to call.tx.0 call.owner) call.from (faults_told call.from sent) (no_send call.tx.0 call.owner) (faults_are call.from sent))) h.0,
+          (or_none ((call.from == call.from) && false) (list_any (is_at call.from (is_send_to call.tx.0 call.owner)) (faults_told call.from sent)) (and_right (call.from == call.from) false refl) (faults_none (is_send_to call.tx.0 call.owner) call.from (faults_told call.from sent) (no_send call.tx.0 call.owner) (faults_are call.from sent))) h.0,
       any_first (is_at call.from (is_send_to call.tx.0 call.owner)) records told h.1,
     )
 
@@ -555,15 +505,7 @@ expire_fair (Some call) lost records machine old new key sent known asks was num
 fired_unsent : (o : Option Call) (key : TxNo) (sent : List (ℕ × Fate)) (kernel tx to : ℕ) → list_any (is_at kernel (is_send_to tx to)) (fired_told key sent o) ≡ false
 fired_unsent None key sent kernel tx to = refl
 fired_unsent (Some call) key sent kernel tx to =
-    or_none ((call.from == kernel) && false) _ (and_none (call.from == kernel) false refl) (faults_none (is_send_to tx to) kernel (cond {A = List Rec} (is_last call) [] (faults_told call.from sent)) (no_send tx to) (rest_are (is_last call) call.from sent))
-
-fired_begun : (o : Option Call) (key : TxNo) (sent : List (ℕ × Fate)) (machine : Machine) → (expired_by key o sent machine).begun ≡ machine.begun
-fired_begun None key sent machine = refl
-fired_begun (Some call) key sent machine = by_last (is_last call)
-  where
-    by_last : (b : Bool) → (cond b (gave_call_up key machine) (resent key (Some call) sent machine)).begun ≡ machine.begun
-    by_last true = refl
-    by_last false = refl
+    or_none ((call.from == kernel) && false) _ (and_right (call.from == kernel) false refl) (faults_none (is_send_to tx to) kernel (cond {A = List Rec} (is_last call) [] (faults_told call.from sent)) (no_send tx to) (rest_are (is_last call) call.from sent))
 
 -- ---- each act of the wire
 
@@ -577,7 +519,7 @@ fair_after : (lost : ℕ → Bool) (records : List Rec) (machine : Machine) (old
 fair_after lost records machine old (Begin from port servers owner body tries about before sent) new may sound due h = record {
   calls = begin_fair lost records machine (new_call machine from port servers owner body tries about before) sent sound.numbered refl refl (sym (any_map (λ (packet : ℕ × Fate). packet.0) owner sent) ∙ ap (list_any (λ (n : ℕ). n == owner)) may.5 ∙ may.2) (subst AreApart (sym may.5) may.1) h;
   none = unsent_on records (sent_told from (next_of machine) sent) machine.begun (machine.begun + 1) (omega arith)
-      (λ kernel tx to past. sent_none (is_send_to tx to) kernel from (next_of machine) sent (no_send tx to) (λ s. first_false (machine.begun + 1 == tx) (s == to) (later_number machine.begun tx past))) h.none;
+      (λ kernel tx to past. sent_none (is_send_to tx to) kernel from (next_of machine) sent (no_send tx to) (λ s. and_left (machine.begun + 1 == tx) (s == to) (later_number machine.begun tx past))) h.none;
 }
 fair_after lost records machine old (Deliver number given) new may sound due h = record {
   calls = deliver_fair (copy_of machine number) lost records machine old number given refl sound h.calls;
@@ -600,7 +542,7 @@ fair_after lost records machine old (Silence tx at) new may sound due h = record
 }
 fair_after lost records machine old (Expire key sent) new may sound due h = record {
   calls = expire_fair (call_of machine key) lost records machine old new key sent refl may.1 (due key may.0) sound.numbered h.calls;
-  none = subst (λ (n : ℕ). (kernel tx to : ℕ) → n < tx → list_any (is_at kernel (is_send_to tx to)) (records ++ fired_told key sent (call_of machine key)) ≡ false) (sym (fired_begun (call_of machine key) key sent machine))
+  none = subst (λ (n : ℕ). (kernel tx to : ℕ) → n < tx → list_any (is_at kernel (is_send_to tx to)) (records ++ fired_told key sent (call_of machine key)) ≡ false) (sym (expired_begun (call_of machine key) key sent machine))
       (unsent_on records (fired_told key sent (call_of machine key)) machine.begun machine.begun (omega arith) (λ kernel tx to past. fired_unsent (call_of machine key) key sent kernel tx to) h.none);
 }
 
@@ -651,15 +593,7 @@ count_link test looks (r ∷ trace) = count_link_by test looks r trace (is_of_li
 
 -- a test of events at a kernel, and one wherever it is
 at_link : (p : Event → Bool) (kernel : ℕ) → ((e : Event) → p (bare_event e) ≡ p e) → ((e : Event) → is_of_link e ≡ false → p e ≡ false) → LooksAtLink (is_at kernel p)
-at_link p kernel same other = record { same = λ r. ap (λ (b : Bool). (r.kernel == kernel) && b) (same r.event); other = λ r is. and_none (r.kernel == kernel) (p r.event) (other r.event is) }
-
-expire_bare : (tx : ℕ) (e : Event) → is_expire tx (bare_event e) ≡ is_expire tx e
-expire_bare tx (events.Send t to about kind) = refl
-expire_bare tx e = refl
-
-expire_other : (tx : ℕ) (e : Event) → is_of_link e ≡ false → is_expire tx e ≡ false
-expire_other tx (events.Expire t last) is = absurd (cc)
-expire_other tx e is = refl
+at_link p kernel same other = record { same = λ r. ap (λ (b : Bool). (r.kernel == kernel) && b) (same r.event); other = λ r is. and_right (r.kernel == kernel) (p r.event) (other r.event is) }
 
 reply_bare : (tx owner : ℕ) (e : Event) → is_reply_from tx owner (bare_event e) ≡ is_reply_from tx owner e
 reply_bare tx owner (events.Send t to about kind) = refl
@@ -679,21 +613,15 @@ loss_other a b e is = refl
 
 -- ---- it was given up
 
-nat_le_so : (a b : ℕ) → a ≤ b → nat_le a b ≡ true
-nat_le_so a b h = grind (arith, nat_tests)
-
-eq_so : (a b : ℕ) → a ≡ b → (a == b) ≡ true
-eq_so a b h = subst (λ (n : ℕ). (a == n) ≡ true) h (eq_same a)
-
 not_so : (b : Bool) → b ≡ false → not b ≡ true
 not_so b h = ap not h
 
 given_up_here : (kernel tx to : ℕ) (key : TxNo) (between more : List Rec) → key.0 ≡ tx → expiries kernel tx between ≡ 7 → 8 ≤ losses kernel to between → came_back kernel tx to between ≡ false → gave_up_from kernel tx to between (record { kernel = kernel; event = events.Expire key true } ∷ more) ≡ true
 given_up_here kernel tx to key between more same seven_over eight none =
-    let last : ((kernel == kernel) && ((key.0 == tx) && true)) ≡ true = both_true (kernel == kernel) ((key.0 == tx) && true) (eq_same kernel) (both_true (key.0 == tx) true (eq_so key.0 tx same) refl) in
-    let lost : lost_eight kernel tx to between ≡ true = both_true (nat_le 8 (losses kernel to between)) (not (came_back kernel tx to between)) (nat_le_so 8 (losses kernel to between) eight) (not_so (came_back kernel tx to between) none) in
+    let last : ((kernel == kernel) && ((key.0 == tx) && true)) ≡ true = both_true (kernel == kernel) ((key.0 == tx) && true) (eq_same kernel) (both_true (key.0 == tx) true (eq-eqb key.0 tx same) refl) in
+    let lost : lost_eight kernel tx to between ≡ true = both_true (nat_le 8 (losses kernel to between)) (not (came_back kernel tx to between)) (le-leb 8 (losses kernel to between) eight) (not_so (came_back kernel tx to between) none) in
     ap (λ (b : Bool). b || gave_up_from kernel tx to (between ++ record { kernel = kernel; event = events.Expire key true } ∷ []) more)
-    (both_true (((kernel == kernel) && ((key.0 == tx) && true)) && (expiries kernel tx between == 7)) (lost_eight kernel tx to between) (both_true ((kernel == kernel) && ((key.0 == tx) && true)) (expiries kernel tx between == 7) last (eq_so (expiries kernel tx between) 7 seven_over)) lost)
+    (both_true (((kernel == kernel) && ((key.0 == tx) && true)) && (expiries kernel tx between == 7)) (lost_eight kernel tx to between) (both_true ((kernel == kernel) && ((key.0 == tx) && true)) (expiries kernel tx between == 7) last (eq-eqb (expiries kernel tx between) 7 seven_over)) lost)
 
 gave_up_later : (rest : List Rec) (kernel tx to : ℕ) (so_far more : List Rec) → gave_up_from kernel tx to (so_far ++ rest) more ≡ true → gave_up_from kernel tx to so_far (rest ++ more) ≡ true
 gave_up_later [] kernel tx to so_far more h = subst (λ (rs : List Rec). gave_up_from kernel tx to rs more ≡ true) (append-nil so_far) h
@@ -712,7 +640,7 @@ given_up_behind_sends first steps trace before between more tx call about kind r
     let fair : FairCall ends.lost (told_of all_told_by idle steps) call = found_sound (FairCall ends.lost (told_of all_told_by idle steps)) (is_call tx) call machine.unfinished known ends.fair.calls in
     let parted : told_of all_told_by idle steps ≡ of_link before ++ bare send ∷ of_link between = sym told ∙ (ap of_link written ∙ link_on before (send ∷ between)) in
     let passes : ((call.from == call.from) && ((tx.0 == call.tx.0) && (call.owner == call.owner))) ≡ true =
-    both_true (call.from == call.from) ((tx.0 == call.tx.0) && (call.owner == call.owner)) (eq_same call.from) (both_true (tx.0 == call.tx.0) (call.owner == call.owner) (eq_so tx.0 call.tx.0 (sym same)) (eq_same call.owner)) in
+    both_true (call.from == call.from) ((tx.0 == call.tx.0) && (call.owner == call.owner)) (eq_same call.from) (both_true (tx.0 == call.tx.0) (call.owner == call.owner) (eq-eqb tx.0 call.tx.0 (sym same)) (eq_same call.owner)) in
     let here : Fair (ends.lost call.tx.0) call.tx.0 call.from call.owner call.tries call.lost (of_link between) =
     behind_at (is_at call.from (is_send_to call.tx.0 call.owner)) (Fair (ends.lost call.tx.0) call.tx.0 call.from call.owner call.tries call.lost) (of_link before) (bare send) (of_link between) passes
     (subst (Behind (is_at call.from (is_send_to call.tx.0 call.owner)) (Fair (ends.lost call.tx.0) call.tx.0 call.from call.owner call.tries call.lost)) parted fair.0) in
@@ -726,18 +654,10 @@ given_up_behind_sends first steps trace before between more tx call about kind r
     (sym (any_link (is_at call.from (is_reply_from call.tx.0 call.owner)) (at_link (is_reply_from call.tx.0 call.owner) call.from (reply_bare call.tx.0 call.owner) (reply_other call.tx.0 call.owner)) between) ∙ here.unanswered)))
 
 -- and it was sent to its owner
-send_bare : (tx to : ℕ) (e : Event) → is_send_to tx to (bare_event e) ≡ is_send_to tx to e
-send_bare tx to (events.Send t s about kind) = refl
-send_bare tx to e = refl
-
-send_other : (tx to : ℕ) (e : Event) → is_of_link e ≡ false → is_send_to tx to e ≡ false
-send_other tx to (events.Send t s about kind) is = absurd (cc)
-send_other tx to e is = refl
-
 pub sent_to_owner : (first : Counts) (steps : List (Act × Counts)) (trace : List Rec) (tx : TxNo) (call : Call) → IsRun idle first steps → of_link trace ≡ told_of all_told_by idle steps → call_of (reached idle steps) tx ≡ Some call → list_any (is_at call.from (is_send_to call.tx.0 call.owner)) trace ≡ true
 sent_to_owner first steps trace tx call run told known =
     let machine = reached idle steps in
     let ends = fair_run steps (λ n. false) [] idle first run record { numbered = omega arith; flying = tt; calls = tt } (lost_before_expiry first steps run) record { calls = tt; none = λ kernel n to past. refl } in
     let fair : FairCall ends.lost (told_of all_told_by idle steps) call = found_sound (FairCall ends.lost (told_of all_told_by idle steps)) (is_call tx) call machine.unfinished known ends.fair.calls in
-    sym (any_link (is_at call.from (is_send_to call.tx.0 call.owner)) (at_link (is_send_to call.tx.0 call.owner) call.from (send_bare call.tx.0 call.owner) (send_other call.tx.0 call.owner)) trace)
+    sym (any_link (is_at call.from (is_send_to call.tx.0 call.owner)) (at_link (is_send_to call.tx.0 call.owner) call.from (bare_same call.tx.0 call.owner) (other_none call.tx.0 call.owner)) trace)
     ∙ (ap (list_any (is_at call.from (is_send_to call.tx.0 call.owner))) told ∙ fair.1)

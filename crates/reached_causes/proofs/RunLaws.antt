@@ -1,14 +1,9 @@
 -- Each reached cluster's wire is one that a run reaches whose acts its trace tells; and how far remote calls are numbered.
-use Rattle.std.proofs.Common.{arith, ◌≡◌, ℕ, ◌+◌, ◌≤◌, Bool, true, false, cond, List, [], ◌∷◌, length, Option, Some, None, refl, sym, ap, subst}
-use Rattle.sprite_ids.specs.declared.TxNo.{TxNo}
-use Rattle.link_plan.specs.declared.Fate.{Fate}
-use Rattle.kernel_rpc.specs.declared.Call.{Call}
+use Rattle.std.proofs.Common.{arith, ◌≡◌, ℕ, ◌+◌, ◌≤◌, true, List, [], ◌∷◌, length, refl, sym, ap, subst}
 use Rattle.kernel_rpc.specs.Histories.{reached}
-use Rattle.kernel_rpc.specs.Machine.{Machine, call_of, copy_of, gave_up, is_last, resent}
-use Rattle.kernel_rpc.specs.Runs.{Act, Begin, Deliver, Answer, Silence, Expire, Counts, after, expired_by}
+use Rattle.kernel_rpc.specs.Machine.{Machine}
+use Rattle.kernel_rpc.specs.Runs.{Act, Counts, after}
 use Rattle.kernel_rpc.specs.Sound.{Wired}
-use Rattle.kernel_rpc.proofs.RunLaws.{unfinished_replied}
-use Rattle.kernel_rpc.proofs.TryLaws.{delivered_begun}
 use Rattle.kernel_steps.specs.declared.Out.{Out}
 use Rattle.kernel_steps.specs.declared.Sending.{Sending}
 use Rattle.unix_calls.specs.declared.Description.{Description}
@@ -21,22 +16,19 @@ use Rattle.cluster_wire_laws.specs.Traces.{ReachedSo}
 use Rattle.cluster_wire_laws.proofs.EndingLaws.{ending_so}
 use Rattle.cluster_wire_laws.proofs.TraceLaws.{turn_keeps}
 use Rattle.cluster_wire_laws.proofs.TurnLaws.{happening_so}
+use Rattle.cluster_wire_laws.proofs.SixLaws.{begun_grows}
 use Rattle.cluster_kernels.specs.declared.State.{State}
 use Rattle.cluster_steps.specs.Steps.{GoesOut}
 use Rattle.cluster_bursts.specs.declared.Burst.{Burst}
 use Rattle.cluster_bursts.specs.declared.BurstOutcome.{BurstOutcome}
 use Rattle.cluster_bursts.specs.declared.BurstOutcome.TheVariants as outcome
-use Rattle.cluster_bursts.specs.Bursts.{EndsAs, has_counted}
+use Rattle.cluster_bursts.specs.Bursts.{EndsAs}
 use Rattle.sprite_cluster.specs.Reached.{At, Reached}
 use Rattle.sprite_cluster.specs.Steps.{begun_turn}
 use Rattle.sprite_cluster.proofs.ReachedLaws.{Lasts, lasts_on}
+use Rattle.reached_prefixes.proofs.KnownLaws.{not_counted}
 
 -- ---- runs
-
-pub not_counted : (what : BurstOutcome) → false ≡ has_counted what → what ≡ outcome.Stale
-not_counted outcome.Stale e = refl
-not_counted outcome.Done e = absurd (cc)
-not_counted (outcome.Took said) e = absurd (cc)
 
 -- a burst that is lost leaves the wire
 lost_wire : (what : BurstOutcome) {L : Type 0} (faults asked : L → ℕ → ℕ → ℕ) (c : Description) (kernel : ℕ) (b : Burst) (old new : Wired L) (s t : State) → what ≡ outcome.Stale → EndsAs faults asked c kernel b what old new s t → new ≡ old
@@ -71,24 +63,9 @@ reached_so {L} faults asked c begun now reached = lasts_on faults asked c begun 
 
 -- ---- how many calls were begun
 
-fired_begun : (o : Option Call) (key : TxNo) (sent : List (ℕ × Fate)) (machine : Machine) → (expired_by key o sent machine).begun ≡ machine.begun
-fired_begun None key sent machine = refl
-fired_begun (Some call) key sent machine = by_last (is_last call)
-  where
-    by_last : (b : Bool) → (cond b (gave_up key machine) (resent key (Some call) sent machine)).begun ≡ machine.begun
-    by_last true = refl
-    by_last false = refl
-
-pub more_begun : (machine : Machine) (act : Act) → machine.begun ≤ (after machine act).begun
-more_begun machine (Begin from port servers owner body tries about before sent) = omega arith
-more_begun machine (Deliver number given) = (let same = delivered_begun (copy_of machine number) given machine in omega arith)
-more_begun machine (Answer tx body given) = (let same = (unfinished_replied (call_of machine tx) given machine).1 in omega arith)
-more_begun machine (Silence tx at) = omega arith
-more_begun machine (Expire key sent) = (let same = fired_begun (call_of machine key) key sent machine in omega arith)
-
 run_begun : (steps : List (Act × Counts)) (machine : Machine) → machine.begun ≤ (reached machine steps).begun
 run_begun [] machine = omega arith
-run_begun (step ∷ steps) machine = (let one = more_begun machine step.0 in let rest = run_begun steps (after machine step.0) in omega arith)
+run_begun (step ∷ steps) machine = (let one = begun_grows machine step.0 in let rest = run_begun steps (after machine step.0) in omega arith)
 
 -- one for each that goes out
 each_begun : (sendings : List Sending) (c : Description) (kernel : ℕ) (machine : Machine) (steps : List (Act × Counts)) → EachDone (λ (machine : Machine) (sending : Sending). goes c kernel sending) (IsBegin kernel) sendings machine steps → machine.begun + length sendings ≤ (reached machine steps).begun

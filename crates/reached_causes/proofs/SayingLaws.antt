@@ -16,6 +16,7 @@ use Rattle.cause_entries.specs.Causes.{is_unreachable_event, unreachable_by, unr
 use Rattle.cause_entries.specs.Sayings.{IsBelow, IsFor, IsSaid, OperationSaid, RowsSaid, SaysSo, awaited, kind_of}
 use Rattle.cause_entries.specs.Waits.{Parts}
 use Rattle.cause_entries.proofs.CauseLaws.{none_by}
+use Rattle.cause_entries.proofs.SaidLaws.{below_more}
 
 -- ---- lists
 
@@ -59,11 +60,6 @@ fault_for : (number : ℕ) (about : About) (kind : SendKind) (event : Event) →
 fault_for number about kind (events.Send tx to whose what) h = absurd (cc)
 fault_for number about kind event h = tt
 
-below_later : (next now : ℕ) (event : Event) → next ≤ now → IsBelow next event → IsBelow now event
-below_later next now (events.Send tx to about kind) less h = omega arith
-below_later next now (events.Enter entry) less h = tt
-below_later next now event less h = tt
-
 -- ---- operations
 
 module _ (asks : Parts → Bool) where
@@ -82,7 +78,7 @@ module _ (asks : Parts → Bool) where
 
   pub says_later : (told : List Event) (next now : ℕ) (rows : List (ℕ × Pending)) → next ≤ now → SaysSo asks told next rows → SaysSo asks told now rows
   says_later told next now rows less h = record {
-    told_below = each_weaken (IsBelow next) (IsBelow now) told (λ event k. below_later next now event less k) h.told_below;
+    told_below = each_weaken (IsBelow next) (IsBelow now) told (λ event k. below_more next now event less k) h.told_below;
     rows_said = rows_by rows told told next now less (λ number about kind k. k) h.rows_said;
   }
 

@@ -79,8 +79,10 @@ use Rattle.cause_entries.specs.Sayings.{SaysSo}
 use Rattle.cause_entries.proofs.CauseLaws.{clients_call, is_loud, not_loud, one_more, unreachable_append}
 use Rattle.cause_entries.proofs.ServerCauses.{servers_call}
 use Rattle.cause_entries.proofs.SaidLaws.{clients_say, quiet_said}
-use Rattle.reached_causes.proofs.RunLaws.{more_begun, out_begun}
+use Rattle.reached_causes.proofs.RunLaws.{out_begun}
 use Rattle.reached_causes.proofs.SayingLaws.{says_later, says_with, says_without, unreachable_without}
+use Rattle.reached_domains.proofs.TurnLaws.{message_is, not_again}
+use Rattle.cluster_wire_laws.proofs.SixLaws.{begun_grows}
 
 -- ---- a kernel
 
@@ -248,9 +250,6 @@ all_faulted : (packets : List (ℕ × Fate)) (kernel : ℕ) (told : List Event) 
 all_faulted [] kernel told = refl
 all_faulted (packet ∷ packets) kernel told = all_faulted packets kernel (faulted kernel packet.0 packet.1 told) ∙ one_faulted packet.1 kernel packet.0 told
 
-message_is : (one other : Input) → arrived.Message one ≡ arrived.Message other → one ≡ other
-message_is one other e = cc
-
 replied_is : (tx other : TxNo) (from source : ℕ) (body reply : ReplyBody) → inputs.Replied tx from body ≡ inputs.Replied other source reply → body ≡ reply
 replied_is tx other from source body reply e = cc
 
@@ -288,9 +287,6 @@ reply_leads (Some call) c machine tx message path known leads reads is = by_repl
     by_reply : (o : Option (List ℕ)) → call.reply ≡ o → IsMessage reading o message → is_domain c path ≡ true
     by_reply None e reads = absurd reads
     by_reply (Some reply) e reads = leads tx call reply message path known e reads is
-
-not_again : (input : Input) (from to : ℕ) (given : Fate) → arrived.Message input ≡ arrived.Again from to given → ⊥
-not_again input from to given e = absurd (cc)
 
 comes_calm : (a : Arrival) (c : Description) (machine : Machine) (copy : PacketCopy) (input : Input) → Leads c machine → Brings a machine copy (arrived.Message input) → IsCalm c input
 comes_calm FirstRequest c machine copy input leads b = request_calm c copy.tx b.0.from b.0.body input b.2
@@ -404,7 +400,7 @@ module _ (c : Description) (root : is_domain c [] ≡ true) (kernel : ℕ) (low 
     took_calm input said old new s t so calm turned = (took_so input said old new s t so calm.safe calm.redirected turned.0, took_entries input said old new s t so calm.safe turned.1 ∙ calm.none (client_at kernel s))
 
     acted : (act : Act) (old new : Wired L) (s : State) → IsStep faults asked old act new → Still old.machine s → Still new.machine s
-    acted act old new s step turned = (later old.machine new.machine s (let more = more_begun old.machine act in let same = ap (λ (machine : Machine). machine.begun) step.1 in omega arith) turned.0, turned.1)
+    acted act old new s step turned = (later old.machine new.machine s (let more = begun_grows old.machine act in let same = ap (λ (machine : Machine). machine.begun) step.1 in omega arith) turned.0, turned.1)
 
     still_noted : (event : Event) (machine : Machine) (s : State) → is_loud event ≡ false → Still machine s → Still machine (noted_step kernel event s)
     still_noted event machine s quiet turned = (noted event machine s quiet turned.0, noted_calm event s quiet turned.1)

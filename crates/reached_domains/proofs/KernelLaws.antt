@@ -1,5 +1,5 @@
 -- What each kernel of a cluster waits for and keeps, by what the wire's calls ask; and that a step of it leaves that so.
-use Rattle.std.proofs.Common.{arith, ◌≡◌, ℕ, zero, suc, ◌+◌, ◌-◌, ◌≤◌, ◌<◌, Bool, true, false, nat_lt, cond, List, [], ◌∷◌, length, slice_get, Option, Some, None, option_map, inl, inr, refl, sym, ap, subst, ◌∙◌}
+use Rattle.std.proofs.Common.{arith, ◌≡◌, ℕ, zero, suc, ◌+◌, ◌-◌, ◌≤◌, ◌<◌, Bool, true, false, nat_lt, cond, List, [], ◌∷◌, length, slice_get, Option, Some, None, option_map, inl, inr, refl, sym, ap, subst, ◌∙◌, le_trans}
 use Rattle.std.proofs.lemmas.Bool.{ltb-true}
 use Rattle.std.specs.List.{AllByRecursion}
 use Rattle.sprite_ids.specs.declared.FileId.{FileId}
@@ -71,13 +71,10 @@ abbrev pub Fits : Description → Machine → ℕ → KernelState → Type 0
 Fits c machine kernel (kernels.Client client) = FitsClient c machine kernel client
 Fits c machine kernel (kernels.Server server) = FitsServer c machine kernel server
 
-within : (a b c : ℕ) → a ≤ b → b ≤ c → a ≤ c
-within a b c low more = omega (arith, low, more)
-
 kept_on : (old new : Machine) (rows : List (FileId × Asked)) → KeepsBodies old new → AllKept (KeptAt old) rows → AllKept (KeptAt new) rows
 kept_on old new rows keeps h =
     each_weaken (λ (row : FileId × Asked). KeptAt old row.1) (λ (row : FileId × Asked). KeptAt new row.1) rows
-    (λ row k. record { begun = within row.1.tx.0 old.begun new.begun k.begun keeps.more; asks = λ bytes e. k.asks bytes (keeps.same row.1.tx bytes k.begun e); other = k.other }) h
+    (λ row k. record { begun = le_trans k.begun keeps.more; asks = λ bytes e. k.asks bytes (keeps.same row.1.tx bytes k.begun e); other = k.other }) h
 
 -- it stays so on the way of the wire
 pub fits_on : (c : Description) (old new : Machine) (kernel : ℕ) (state : KernelState) → KeepsBodies old new → Fits c old kernel state → Fits c new kernel state

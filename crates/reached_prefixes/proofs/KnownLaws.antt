@@ -90,7 +90,7 @@ same_known s now old new same written k = subst (λ (trace : List Rec). Knows no
   low = k.low;
 })
 
-not_counted : (what : BurstOutcome) → false ≡ has_counted what → what ≡ outcome.Stale
+pub not_counted : (what : BurstOutcome) → false ≡ has_counted what → what ≡ outcome.Stale
 not_counted outcome.Stale e = refl
 not_counted outcome.Done e = absurd (cc)
 not_counted (outcome.Took said) e = absurd (cc)

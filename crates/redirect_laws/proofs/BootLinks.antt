@@ -1,6 +1,7 @@
 -- Where other domains hang in those of a server as it begins.
 use Rattle.std.proofs.Common.{◌≡◌, ℕ, ◌==◌, Bool, true, false, ◌||◌, cond, List, [], ◌∷◌, ◌++◌, length, Option, Some, Result, Ok, Err, refl, ap, subst, ◌∙◌}
 use Rattle.std.specs.List.{AllByRecursion, filter}
+use mathlib.Core.Bool.{or-true}
 use Rattle.sprite_ids.specs.declared.Errno.TheVariants as errnos
 use Rattle.sprite_ids.proofs.ListLaws.{each_push}
 use Rattle.unix_calls.specs.declared.Description.{Description}
@@ -125,14 +126,10 @@ module _ (leads : Parts → Bool) (all : List Parts) where
 
 -- ---- each of the paths begins a domain
 
-or_true : (a : Bool) → (a || true) ≡ true
-or_true true = refl
-or_true false = refl
-
 lead_all : (rest roots : List Parts) → ((path : Parts) → begins_domain rest path ≡ true → begins_domain roots path ≡ true) → Lead (begins_domain roots) roots rest
 lead_all [] roots inside = tt
 lead_all (root ∷ rest) roots inside =
-    (inside root (ap (λ b. b || begins_domain rest root) (path_itself root)), lead_all rest roots (λ path k. inside path (ap (λ b. same_path path root || b) k ∙ or_true (same_path path root))))
+    (inside root (ap (λ b. b || begins_domain rest root) (path_itself root)), lead_all rest roots (λ path k. inside path (ap (λ b. same_path path root || b) k ∙ or-true (same_path path root))))
 
 pub servers_begin_linked : ServersBeginLinked
 servers_begin_linked c kernel s e = begun_hung (begins_domain (roots_of c.kernels)) (roots_of c.kernels) c kernel s (lead_all (roots_of c.kernels) (roots_of c.kernels) (λ path k. k)) refl e

@@ -92,7 +92,7 @@ knows_set v kernel d a i e one m size blocks r n = (
 knows_plain : (v : View) (kernel : ℕ) (d : Client) → Knows v → IsClient (length v.clients) kernel → d.version ≡ (client v kernel).version → Knows (set_client v kernel d)
 knows_plain v kernel d a i e = knows_set v kernel d a i (λ one m q size blocks r. e)
 
-left_removed : (v : View) (one x : FileCall) → In x (things (remove_call v one.number)) → In x (things v)
+pub left_removed : (v : View) (one x : FileCall) → In x (things (remove_call v one.number)) → In x (things v)
 left_removed v one x m = elim (in_join x (map as_call v.carried) (without_call one.number v.calls) m) [ inl a ↦ in_left x (map as_call v.carried) v.calls a | inr a ↦ call_in_things v x (in_without one.number x v.calls a).0 ]
 
 knows_removed : (v : View) (one : FileCall) → Knows v → Knows (remove_call v one.number)

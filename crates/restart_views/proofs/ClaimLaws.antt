@@ -1,6 +1,7 @@
 -- A claim leaves the bytes that the file stands for.
 use Rattle.std.proofs.Common.{◌≡◌, ◌≢◌, ◌≤◌, ◌<◌, ℕ, ◌-◌, ◌==◌, Bool, true, false, cond, not, ◌&&◌, List, [], ◌∷◌, length, Option, Some, None, refl, sym, ap, ap₂, ◌∙◌, inl, inr, arith, slice_set, slice_index_or, get_or-set_same, get_or-set_other}
 use Rattle.std.proofs.lemmas.Bool.Decides.{eqb_tells}
+use Rattle.std.proofs.lemmas.Bool.{or_parts}
 use Rattle.file_views.specs.declared.opens.Open.{Open}
 use Rattle.file_views.specs.declared.view.View.{View}
 use Rattle.file_views.specs.Setting.{Setting, sprite_setting}
@@ -17,8 +18,7 @@ use Rattle.restart_views.specs.Restarts.{kept_at, is_unclaimed, keeps_blocks, is
 use Rattle.restart_views.specs.RunBytes.{due_kept, due, NoneOld, OldAt, OneOld}
 use Rattle.restart_views.proofs.ServerMoveLaws.{served_bytes}
 use Rattle.restart_views.proofs.CoolLaws.{cold_stood}
-use Rattle.restart_views.proofs.RestartLaws.{Warm, any_kept, kept_in, warm_tried, none_left}
-use Rattle.restart_views.proofs.ViewLaws.{neither}
+use Rattle.restart_views.proofs.RestartLaws.{Warm, any_kept, kept_in, warm_tried}
 use Rattle.restart_views.proofs.DueLaws.{due_none, due_at, due_old, none_blocks}
 
 some_bytes : 0 < sprite_setting.block
@@ -49,7 +49,7 @@ again_stays v kept = choose_by (Stays v) (stays_uncached v kept) v (record v { u
 
 again_stood : (clients : ℕ) (v : View) (kept : List (Option Kept)) → Warm clients v → stands_for sprite_setting (cached_again v kept).view ≡ v.bytes
 again_stood clients v kept w = choose_by (λ u. stands_for sprite_setting u ≡ v.bytes) (stays_uncached v kept) v (record v { uncached = false }) (λ e. stood) (λ e.
-    let p = neither (is_any v.opens) (busy v) (none_left (is_unclaimed kept) _ e) in
+    let p = or_parts (is_any v.opens) (busy v) (or_parts (is_unclaimed kept) _ e).1 in
     served_bytes sprite_setting v Cache some_bytes (ap₂ (λ a b. not a && not b) p.0 p.1) w.sound ∙ stood)
   where
     stood : stands_for sprite_setting v ≡ v.bytes

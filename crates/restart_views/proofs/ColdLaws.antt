@@ -1,5 +1,5 @@
 -- Where no client may cache a file, and nobody uses its cache of it or is about to, each step keeps that.
-use Rattle.std.proofs.Common.{◌≡◌, ◌<◌, ◌⊎◌, ℕ, zero, suc, ◌+◌, ◌-◌, ◌==◌, nat_le, nat_lt, Bool, true, false, cond, not, ◌&&◌, ◌||◌, List, [], ◌∷◌, ◌++◌, length, map, Option, Some, None, refl, sym, ap, ap₂, ◌∙◌, subst, inl, inr, leb-false, slice_set, slice_index_or}
+use Rattle.std.proofs.Common.{◌≡◌, ◌<◌, ◌⊎◌, ℕ, zero, suc, ◌+◌, ◌-◌, ◌==◌, nat_le, Bool, true, false, cond, not, ◌&&◌, ◌||◌, List, [], ◌∷◌, ◌++◌, length, map, Option, Some, None, refl, sym, ap, ap₂, ◌∙◌, subst, inl, inr, leb-false, slice_set, slice_index_or}
 use Rattle.std.specs.List.{list_any}
 use Rattle.std.proofs.lemmas.Bool.{and_parts}
 use Rattle.sprite_ids.specs.declared.StreamNo.{StreamNo}
@@ -9,7 +9,6 @@ use Rattle.sprite_ids.specs.declared.CallKind.{CallKind}
 use Rattle.sprite_ids.specs.declared.CallKind.TheVariants.{Recall, Stop}
 use Rattle.sprite_ids.specs.declared.errno.Errno.TheVariants as errno
 use Rattle.file_views.specs.declared.grant.FileGrant.{FileGrant}
-use Rattle.file_views.specs.declared.body.Access.{Access}
 use Rattle.file_views.specs.declared.body.Access.TheVariants as access
 use Rattle.file_views.specs.declared.body.FileBody.{FileBody}
 use Rattle.file_views.specs.declared.body.FileBody.TheVariants as form
@@ -51,7 +50,10 @@ use Rattle.file_views.proofs.PartLaws.{Parts, part_after}
 use Rattle.file_views.proofs.ServeLaws.{Serves, serves_notes, serves_request}
 use Rattle.file_views.proofs.SizeMoveLaws.{flushed_all}
 use Rattle.file_views.proofs.SoundLaws.{sound_stays}
+use Rattle.file_views.proofs.StampServeLaws.{op_arrival}
+use Rattle.file_views.proofs.ModeLaws.{off_of}
 use Rattle.restart_views.specs.ColdSteps.{uncached_setting, Cold}
+use Rattle.restart_views.proofs.AnsweredLaws.{left_removed}
 
 -- nothing but calls changes
 cold_from : {clients : ℕ} (v w : View) → Cold clients v → w.holder ≡ None → w.modes ≡ v.modes → w.clients ≡ v.clients → ((one : FileCall) → In one (things w) → (grant : FileGrant) → arrival one.reply ≡ Some grant → grant.on ≡ false) → Cold clients w
@@ -84,9 +86,6 @@ cold_set v kernel d c i o = record {
   later = c.later;
 }
 
-left_removed : (v : View) (one x : FileCall) → In x (things (remove_call v one.number)) → In x (things v)
-left_removed v one x m = elim (in_join x (map as_call v.carried) (without_call one.number v.calls) m) [ inl a ↦ in_left x (map as_call v.carried) v.calls a | inr a ↦ call_in_things v x (in_without one.number x v.calls a).0 ]
-
 cold_removed : {clients : ℕ} (v : View) (one : FileCall) → Cold clients v → Cold clients (remove_call v one.number)
 cold_removed v one c = cold_fewer v (remove_call v one.number) c c.unheld refl refl (λ x m. inl (left_removed v one x m))
 
@@ -106,11 +105,8 @@ off_after : (mode : CacheMode) (kind : CallKind) → is_on mode ≡ false → is
 off_after mode Recall e = e
 off_after mode Stop e = refl
 
-off_mode : (b : Bool) → b ≡ false → is_on (mode_of b) ≡ false
-off_mode b e = ap (λ x. is_on (mode_of x)) e
-
 taken_off : (c : Client) (grant : FileGrant) → is_on c.mode ≡ false → grant.on ≡ false → is_on (take_grant c grant).mode ≡ false
-taken_off c grant o g = choose_by (λ (d : Client). is_on d.mode ≡ false) (nat_le grant.stamp c.stamp) c (granted c grant) (λ e. o) (λ e. off_mode grant.on g)
+taken_off c grant o g = choose_by (λ (d : Client). is_on d.mode ≡ false) (nat_le grant.stamp c.stamp) c (granted c grant) (λ e. o) (λ e. off_of grant.on g)
 
 -- what the server does
 cold_out : {clients : ℕ} (v : View) (kind : CallKind) (kernel : ℕ) → Cold clients v → Cold clients (call_out v kind kernel)
@@ -138,7 +134,7 @@ cold_settles : {clients : ℕ} (z : Setting) (v : View) (one : FileCall) → Set
 cold_settles z v one s c = record {
   count = c.count;
   unheld = unheld_after v.holder (receiver one) _ v.uncached c.unheld u;
-  given = off_set v.modes (receiver one - 1) (mode_of (not v.uncached)) (off_mode (not v.uncached) (ap not u)) c.given;
+  given = off_set v.modes (receiver one - 1) (mode_of (not v.uncached)) (off_of (not v.uncached) (ap not u)) c.given;
   off = c.off;
   later = λ x m grant a. elim (in_with (replied one (granting one.body (grant_of v one))) x (things v) (subst (In x) (things_with v one (replied one (granting one.body (grant_of v one))) s.both.flat.numbered.differ s.there refl) m)) [
     | inl q ↦ c.later x q.0 grant a
@@ -148,11 +144,6 @@ cold_settles z v one s c = record {
   where
     u : v.uncached ≡ true
     u = is_uncached z v one s.told v.uncached refl
-
-op_brings : (z : Setting) (bytes : List ℕ) (way : Access) → arrival (Some (op_reply z bytes way)) ≡ None
-op_brings z bytes (access.Read from many) = refl
-op_brings z bytes (access.Write from new) = refl
-op_brings z bytes (access.Append new) = choose_by (λ (r : FileBody). arrival (Some r) ≡ None) (nat_lt z.most (length bytes + length new)) (form.Refused errno.TooBig) (form.Value (length new) (length bytes + length new) []) (λ e. refl) (λ e. refl)
 
 cold_taken : {clients : ℕ} (v : View) (one : FileCall) → one.reply ≡ None → Cold clients v → Cold clients (to_the_end v one)
 cold_taken v one n c = cold_fewer v (to_the_end v one) c c.unheld refl refl (λ x k. elim (in_join x (map as_call v.carried) (without_call one.number v.calls ++ record one { taken = true } ∷ []) k) [
@@ -173,7 +164,7 @@ serves_cold clients z = record {
   fetched = λ v one block t e c. cold_answer v (answer v one (form.Block _ (block_of (uncached_setting z) v.bytes block))) one _ c c.unheld refl refl (things_with v one (replied one _) t.both.flat.numbered.differ t.there refl) refl;
   refuses = λ v one stamp t e c. cold_answer v (refuse_old v one) one (form.Again (current_grant v one.from)) c c.unheld refl refl (things_with v one (replied one _) t.both.flat.numbered.differ t.there refl) refl;
   stores = λ v one block size piece t e c. cold_answer v (store (uncached_setting z) v one block size piece) one form.Done c c.unheld refl refl (things_with (record v { bytes = put_block (uncached_setting z) v.bytes block.0 size piece }) one (replied one form.Done) t.both.flat.numbered.differ t.there refl) refl;
-  operates = λ v one pid number stream way t e c. cold_answer v (data_op (uncached_setting z) v one way) one (op_reply (uncached_setting z) v.bytes way) c c.unheld refl refl (things_with (record v { bytes = bytes_after (uncached_setting z) v.bytes way }) one (replied one _) t.both.flat.numbered.differ t.there refl) (op_brings (uncached_setting z) v.bytes way);
+  operates = λ v one pid number stream way t e c. cold_answer v (data_op (uncached_setting z) v one way) one (op_reply (uncached_setting z) v.bytes way) c c.unheld refl refl (things_with (record v { bytes = bytes_after (uncached_setting z) v.bytes way }) one (replied one _) t.both.flat.numbered.differ t.there refl) (op_arrival (uncached_setting z) v.bytes way);
   takes = λ v one b stamps m n k c. cold_taken v one n c;
   served = λ v one t x y. y;
   settled = λ v one s x y. y;
@@ -223,7 +214,7 @@ again_off : {clients : ℕ} (z : Setting) (v : View) (one : FileCall) (grant : F
 again_off z v one grant t m r i = choose_by (λ (d : Client). is_on d.mode ≡ false) (nat_le grant.stamp (client v one.from).stamp) (client v one.from) (granted (client v one.from) grant) (λ e. t.cold.off one.from i) (λ e.
     let k : SameNewer one.from (client v one.from).stamp (things v) grant = (t.standing.modes one.from i).again one (call_in_things v one m) refl grant r (leb-false grant.stamp (client v one.from).stamp e) in
     let n : k.newer.on ≡ false = t.cold.later k.call k.is_newer.0 k.newer k.is_newer.1.1 in
-    off_mode grant.on (sym (ap (λ (g : FileGrant). g.on) k.same) ∙ n))
+    off_of grant.on (sym (ap (λ (g : FileGrant). g.on) k.same) ∙ n))
 
 cold_called : {clients : ℕ} (z : Setting) (v : View) (one : FileCall) (stamp : ℕ) (kind : CallKind) → Cooling clients z v → In one v.calls → IsClient (length v.clients) one.to → Cold clients (called_back z v one stamp kind)
 cold_called z v one stamp kind t m i = cold_answer (set_client v one.to d) (called_back z v one stamp kind) one reply (cold_set v one.to d t.cold i (off_after (client v one.to).mode kind (t.cold.off one.to i))) t.cold.unheld refl refl (things_with (set_client v one.to d) one (replied one reply) t.standing.flat.numbered.differ m refl) refl

@@ -1,6 +1,6 @@
 -- A stop of a file's server, and a claim, leave the bytes that the file stands for.
 use Rattle.std.proofs.Common.{◌≡◌, ◌≢◌, ◌≤◌, ◌<◌, ℕ, zero, suc, ◌+◌, ◌-◌, ◌*◌, ◌==◌, nat_lt, Bool, true, false, cond, ◌&&◌, is_some, List, [], ◌∷◌, ◌++◌, length, take, map, Option, Some, None, refl, sym, ap, ◌∙◌, subst, inl, inr, arith, eq-eqb, slice_index_or, length-take}
-use Rattle.std.proofs.lemmas.Bool.{ltb-true, ltb-false}
+use Rattle.std.proofs.lemmas.Bool.{ltb-true, ltb-false, false_from_ne_true}
 use Rattle.std.proofs.lemmas.Bool.Decides.{eqb_tells}
 use Rattle.std.proofs.lemmas.List.{take_all}
 use Rattle.sprite_ids.specs.declared.BlockNo.{BlockNo}
@@ -235,10 +235,6 @@ pub none_blocks : {X : Type 0} (xs : List X) → is_any xs ≡ false → xs ≡ 
 none_blocks [] e = refl
 none_blocks (x ∷ xs) e = absurd (cc (e))
 
-by_bool : (b : Bool) → (b ≡ true → ⊥) → b ≡ false
-by_bool true f = absurd (f refl)
-by_bool false f = refl
-
 -- what a stop leaves stands for the server's bytes
 bare_stood : (s : Restarted) → Restarts sprite_setting s → stands_for sprite_setting (after_stop sprite_setting s).view ≡ s.view.bytes
 bare_stood s r = cold_stood sprite_setting (length s.view.clients) (after_stop sprite_setting s).view some_bytes refl (cold_bare (length s.view.clients) s.view.bytes s.view.version s.view.next) (bare_sound sprite_setting (length s.view.clients) s.view.bytes s.view.version s.view.next r.sound.shapes.items.some r.sound.shapes.items.fifteen r.sound.requests.limit)
@@ -250,7 +246,7 @@ free_place z v kept count place n s a e h = by_test (nat_lt place count) refl
     by_test : (b : Bool) → nat_lt place count ≡ b → keeps_blocks (slice_index_or (keep_to z v kept count) place None) ≡ false
     by_test true q =
         let l : place < count = ltb-true place count q in
-        ap keeps_blocks (keep_at z v kept count place l ∙ ap (λ o. Some (or_kept o (kept_of z v place))) e) ∙ by_bool (is_any (kept_of z v place).blocks) (λ k. h (holding_of z v place (omega (arith, l, n)) s a k).holds)
+        ap keeps_blocks (keep_at z v kept count place l ∙ ap (λ o. Some (or_kept o (kept_of z v place))) e) ∙ false_from_ne_true (is_any (kept_of z v place).blocks) (λ k. h (holding_of z v place (omega (arith, l, n)) s a k).holds)
     by_test false q = none_past z v kept count place (ltb-false place count q)
 
 -- with one version the blocks are stored

@@ -1,7 +1,7 @@
 -- A step of a file that nobody has open, and that no client may cache: nothing takes effect, or an open does.
 use Rattle.std.proofs.Common.{◌≡◌, ◌≤◌, ◌<◌, ◌⊎◌, ℕ, ◌+◌, ◌-◌, ◌==◌, Bool, true, false, cond, not, ◌&&◌, ◌||◌, is_some, List, [], ◌∷◌, length, filter, map, Option, Some, None, refl, sym, ap, ap₂, ◌∙◌, subst, inl, inr, arith, eqb-true, eq-eqb}
 use Rattle.std.specs.List.{list_any}
-use Rattle.std.proofs.lemmas.Bool.{and_parts}
+use Rattle.std.proofs.lemmas.Bool.{and_parts, or_parts, and_right}
 use Rattle.std.proofs.lemmas.List.Folds.{list_any-append}
 use Rattle.sprite_ids.specs.Lists.{total}
 use Rattle.sprite_ids.specs.declared.BlockNo.{BlockNo}
@@ -45,7 +45,7 @@ use Rattle.file_views.proofs.ModeServeLaws.{arrival_open}
 use Rattle.file_views.proofs.DecisionLaws.{busy_there}
 use Rattle.file_views.proofs.WorkLaws.{choose_two}
 use Rattle.restart_views.specs.ColdSteps.{is_open_step, read_opens, Cold}
-use Rattle.restart_views.proofs.ViewLaws.{neither, any_none}
+use Rattle.restart_views.proofs.ViewLaws.{any_none}
 use Rattle.restart_views.proofs.CalmLaws.{not_dirty}
 
 -- nobody has the file open, and no callback is out
@@ -72,11 +72,11 @@ is_back one = is_callback one.body
 
 any_filter : {X : Type 0} (p q : X → Bool) (xs : List X) → list_any p xs ≡ false → list_any p (filter q xs) ≡ false
 any_filter p q [] e = refl
-any_filter p q (x ∷ xs) e = let n = neither (p x) (list_any p xs) e in choose_by (λ ys. list_any p ys ≡ false) (q x) (x ∷ filter q xs) (filter q xs) (λ k. ap₂ (λ a b. a || b) n.0 (any_filter p q xs n.1)) (λ k. any_filter p q xs n.1)
+any_filter p q (x ∷ xs) e = let n = or_parts (p x) (list_any p xs) e in choose_by (λ ys. list_any p ys ≡ false) (q x) (x ∷ filter q xs) (filter q xs) (λ k. ap₂ (λ a b. a || b) n.0 (any_filter p q xs n.1)) (λ k. any_filter p q xs n.1)
 
 any_with : (new : FileCall) (calls : List FileCall) → is_callback new.body ≡ false → list_any is_back calls ≡ false → list_any is_back (with_call new calls) ≡ false
 any_with new [] c e = refl
-any_with new (x ∷ xs) c e = let n = neither (is_back x) (list_any is_back xs) e in ap₂ (λ a b. a || b) (choose_by (λ y. is_back y ≡ false) (x.number == new.number) new x (λ k. c) (λ k. n.0)) (any_with new xs c n.1)
+any_with new (x ∷ xs) c e = let n = or_parts (is_back x) (list_any is_back xs) e in ap₂ (λ a b. a || b) (choose_by (λ y. is_back y ≡ false) (x.number == new.number) new x (λ k. c) (λ k. n.0)) (any_with new xs c n.1)
 
 filter_none : {X : Type 0} (p : X → Bool) (xs : List X) → ((x : X) → p x ≡ false) → filter p xs ≡ []
 filter_none p [] f = refl
@@ -186,10 +186,6 @@ raise_by false true false n f e = omega arith
 raise_by false true true n f e = absurd (cc (e))
 raise_by false false h n f e = omega arith
 
-and_false : (b c : Bool) → c ≡ false → (b && c) ≡ false
-and_false true c e = e
-and_false false c e = refl
-
 fresh_opening : (z : Setting) (v w : View) (one : FileCall) (pid number : ℕ) (stream : StreamNo) (mode : Mode) (truncate : Bool) → one.body ≡ form.Opening pid number stream mode truncate → (truncate ≡ true → writes mode ≡ true) → w.version ≡ v.version → w.holder ≡ None → w.uncached ≡ true → w.opens ≡ [] → ((place : ℕ) → is_on (mode_given w place) ≡ false) → Opened v (decide z w one) (enters_deciding one (called_kernels z w one))
 fresh_opening z v w one pid number stream mode truncate e t n h u o g =
     subst (λ c. Opened v (deciding (told w (uncached_after z w one)) one (kind_of_calls (uncached_after z w one)) c) (enters_deciding one c)) (sym called)
@@ -210,7 +206,7 @@ fresh_opening z v w one pid number stream mode truncate e t n h u o g =
     uncached = ap (λ b. b || (not z.cached || (is_any (shared_after w.shared one.body) || (is_write_shared (opens_after w.opens one.from one.body) || (truncates one.body && is_any w.opens))))) u
 
     called : called_kernels z w one ≡ []
-    called = filter_none (is_called (uncached_after z w one) w one) (kernels w) (λ kernel. ap (λ b. is_called b w one kernel) uncached ∙ ap₂ (λ a b. a || b) (g kernel) (and_false (truncates one.body) (has_open w.opens kernel) (ap (λ os. has_open os kernel) o)))
+    called = filter_none (is_called (uncached_after z w one) w one) (kernels w) (λ kernel. ap (λ b. is_called b w one kernel) uncached ∙ ap₂ (λ a b. a || b) (g kernel) (and_right (truncates one.body) (has_open w.opens kernel) (ap (λ os. has_open os kernel) o)))
 
 fresh_move : (z : Setting) (v : View) → Sound z v → Shut v → (one : FileCall) → In one v.calls → one.reply ≡ None → (stream : StreamNo) (place : ℕ) (kept : Bool) (grants : ℕ) → one.body ≡ form.Move stream place kept grants → ⊥
 fresh_move z v s h one m n stream place true grants e =

@@ -1,6 +1,6 @@
 -- A kernel that nothing is on its way from or to is granted a calm file, without its cache.
 use Rattle.std.proofs.Common.{◌≡◌, ◌≢◌, ◌≤◌, ℕ, ◌+◌, ◌-◌, ◌==◌, true, false, not, List, [], ◌∷◌, length, filter, Option, Some, None, refl, sym, ◌∙◌, ap, subst, inl, inr, arith, length-set, get_or-set_same, get_or-set_other}
-use Rattle.std.proofs.lemmas.Bool.{and_parts}
+use Rattle.std.proofs.lemmas.Bool.{and_parts, not-true}
 use Rattle.sprite_ids.specs.declared.CacheMode.{CacheMode}
 use Rattle.sprite_ids.specs.declared.CacheMode.TheVariants as cache
 use Rattle.file_views.specs.declared.grant.FileGrant.{FileGrant}
@@ -25,10 +25,10 @@ use Rattle.file_views.specs.SoundRequests.{Asking, WritingBacks, LocalRequests}
 use Rattle.file_views.specs.SoundContents.{StandsFor}
 use Rattle.file_views.specs.Sound.{Sound}
 use Rattle.file_views.proofs.MemberLaws.{in_filter}
-use Rattle.file_views.proofs.EffectLaws.{client_set, client_other, count_set, by_kernel}
+use Rattle.file_views.proofs.EffectLaws.{client_set, client_other, count_set, by_kernel, places_apart}
 use Rattle.file_views.proofs.StampLaws.{in_things}
 use Rattle.restart_views.specs.ServerMoves.{off_grant, greeted, is_quiet}
-use Rattle.restart_views.proofs.ViewLaws.{any_none, not_is}
+use Rattle.restart_views.proofs.ViewLaws.{any_none}
 use Rattle.restart_views.proofs.CalmLaws.{Calm, still_at, unflushed, idle_contents}
 
 -- one kernel's part of the view, with other things kept of it
@@ -50,9 +50,6 @@ here_with v kernel c current mode given = record {
 same_with : (v : View) (kernel : ℕ) (c d : Client) (current other : ℕ) (mode more : CacheMode) (given last : Option FileGrant) → c ≡ d → current ≡ other → mode ≡ more → given ≡ last → here_with v kernel c current mode given ≡ here_with v kernel d other more last
 same_with v kernel c d current other mode more given last a b e f = ap (λ x. here_with v kernel x current mode given) a ∙ (ap (λ x. here_with v kernel d x mode given) b ∙ (ap (λ x. here_with v kernel d other x given) e ∙ ap (λ x. here_with v kernel d other more x) f))
 
-places_apart : (kernel other : ℕ) → 1 ≤ kernel → 1 ≤ other → other ≢ kernel → other - 1 ≢ kernel - 1
-places_apart kernel other a b d e = d (omega (arith, a, b, e))
-
 given_stamp : (x y : FileGrant) → Some x ≡ Some y → y ≡ x
 given_stamp x y e = cc (e)
 
@@ -65,8 +62,8 @@ quiet_none v kernel q one m =
     let p = and_parts (not (is_any v.carried)) _ q in
     let k = in_filter (about kernel) one (things v) m in
     elim (in_things v one k.0) [
-      | inl r ↦ none_carried v.carried (not_is _ p.0) r.x r.there
-      | inr c ↦ (let n = any_none (about kernel) v.calls (not_is _ p.1) one c in let t = k.1 in cc (n, t))
+      | inl r ↦ none_carried v.carried (not-true _ p.0) r.x r.there
+      | inr c ↦ (let n = any_none (about kernel) v.calls (not-true _ p.1) one c in let t = k.1 in cc (n, t))
     ]
 
 inactive : (v : View) (kernel : ℕ) → is_quiet v kernel ≡ true → Active kernel (last_stamp v + 1) cache.Off (filter (about kernel) (things v)) → ⊥

@@ -4,6 +4,7 @@ use Rattle.std.specs.List.{list_any}
 use Rattle.std.proofs.lemmas.List.{append-nil, map-append}
 use Rattle.std.proofs.lemmas.List.Elements.{filter-append}
 use Rattle.std.proofs.lemmas.List.Folds.{list_any-append}
+use Rattle.std.proofs.lemmas.Bool.{or_parts}
 use Rattle.sprite_ids.specs.Lists.{total}
 use Rattle.sprite_ids.specs.declared.StreamNo.{StreamNo}
 use Rattle.file_views.specs.declared.call.FileCall.{FileCall}
@@ -32,7 +33,7 @@ use Rattle.file_views.proofs.EffectLaws.{client_set, client_other, count_set, by
 use Rattle.file_views.proofs.CountLaws.{total_last, same_is, same_by, copies_last, has_last, has_not_last}
 use Rattle.file_views.proofs.StampLaws.{in_things}
 use Rattle.restart_views.specs.ServerMoves.{reopened}
-use Rattle.restart_views.proofs.ViewLaws.{neither, any_none, get_in}
+use Rattle.restart_views.proofs.ViewLaws.{any_none, get_in}
 use Rattle.restart_views.proofs.CalmLaws.{Calm, Still, still_at, unflushed, idle_contents}
 
 -- one kernel's part of the view, with another client and other opens
@@ -56,18 +57,18 @@ pub record Unnamed (v : View) (stream : StreamNo) : Type 0 where
 
 pub unnamed_of : (v : View) (stream : StreamNo) → is_named v stream ≡ false → Unnamed v stream
 unnamed_of v stream e =
-    let a = neither (has_stream stream v.shared) _ e in
-    let b = neither (list_any (λ (x : Open). same_stream stream x.stream) v.opens) _ a.1 in
-    let c = neither (list_any (λ (x : FileCall). is_about stream x.body) v.calls) _ b.1 in
-    let d = neither (list_any (λ (x : Carry). same_stream stream x.stream) v.carried) _ c.1 in
+    let a = or_parts (has_stream stream v.shared) _ e in
+    let b = or_parts (list_any (λ (x : Open). same_stream stream x.stream) v.opens) _ a.1 in
+    let c = or_parts (list_any (λ (x : FileCall). is_about stream x.body) v.calls) _ b.1 in
+    let d = or_parts (list_any (λ (x : Carry). same_stream stream x.stream) v.carried) _ c.1 in
     let each : (kernel : ℕ) → IsClient (length v.clients) kernel → (has_stream stream (client v kernel).streams || list_any (works_on stream) (client v kernel).waiting) ≡ false = λ kernel i. any_none (λ (x : Client). has_stream stream x.streams || list_any (works_on stream) x.waiting) v.clients d.1 (client v kernel) (get_in v.clients (kernel - 1) new_client (omega (arith, i.0, i.1))) in
     record {
       shared = a.0;
       opens = any_none (λ (x : Open). same_stream stream x.stream) v.opens b.0;
       calls = any_none (λ (x : FileCall). is_about stream x.body) v.calls c.0;
       carried = any_none (λ (x : Carry). same_stream stream x.stream) v.carried d.0;
-      installed = λ kernel i. (neither (has_stream stream (client v kernel).streams) _ (each kernel i)).0;
-      waiting = λ kernel i. any_none (works_on stream) (client v kernel).waiting (neither (has_stream stream (client v kernel).streams) _ (each kernel i)).1;
+      installed = λ kernel i. (or_parts (has_stream stream (client v kernel).streams) _ (each kernel i)).0;
+      waiting = λ kernel i. any_none (works_on stream) (client v kernel).waiting (or_parts (has_stream stream (client v kernel).streams) _ (each kernel i)).1;
     }
 
 -- a stream that nothing names is another one

@@ -1,7 +1,7 @@
 -- What each step of a file whose server may stop keeps.
 use Rattle.std.proofs.Common.{◌≡◌, ◌≤◌, ◌<◌, ◌⊎◌, ℕ, zero, suc, ◌+◌, ◌-◌, ◌*◌, ◌==◌, Bool, true, false, cond, ◌&&◌, ◌||◌, is_some, List, [], ◌∷◌, length, Option, Some, None, refl, sym, ap, ◌∙◌, subst, inl, inr, arith, eqb-true, slice_set, slice_index_or, length-set, length-append}
 use Rattle.std.specs.List.{list_any}
-use Rattle.std.proofs.lemmas.Bool.{and_parts}
+use Rattle.std.proofs.lemmas.Bool.{and_parts, or_parts}
 use Rattle.sprite_ids.specs.declared.BlockNo.{BlockNo}
 use Rattle.sprite_ids.specs.declared.CacheMode.TheVariants as cache
 use Rattle.file_views.specs.declared.body.FileBody.{FileBody}
@@ -211,13 +211,9 @@ no_opens : (opens : List Open) (b : Bool) → (is_any opens || b) ≡ false → 
 no_opens [] b e = (refl, e)
 no_opens (one ∷ rest) b e = absurd (cc (e))
 
-pub none_left : (a b : Bool) → (a || b) ≡ false → b ≡ false
-none_left true b e = absurd (cc (e))
-none_left false b e = e
-
 again_keeps : (clients : ℕ) (v : View) (kept : List (Option Kept)) → length kept ≡ clients → Warm clients v → ((one : Kept) → In (Some one) kept → Fits sprite_setting one) → Restarts sprite_setting (cached_again v kept)
 again_keeps clients v kept l w f = record {
-  sound = choose_by (Sound sprite_setting) (stays_uncached v kept) v (record v { uncached = false }) (λ e. w.sound) (λ e. let p = no_opens v.opens (busy v) (none_left (is_unclaimed kept) _ e) in calm_cached sprite_setting v p.1 p.0 w.sound);
+  sound = choose_by (Sound sprite_setting) (stays_uncached v kept) v (record v { uncached = false }) (λ e. w.sound) (λ e. let p = no_opens v.opens (busy v) (or_parts (is_unclaimed kept) _ e).1 in calm_cached sprite_setting v p.1 p.0 w.sound);
   uncached = λ e. subst (λ b. (cond (b || (is_any v.opens || busy v)) v (record v { uncached = false })).uncached ≡ true) (sym e) w.uncached;
   cold = λ e. subst (λ b. Cold (length kept) (cond (b || (is_any v.opens || busy v)) v (record v { uncached = false }))) (sym e) (subst (λ n. Cold n v) (sym l) w.cold);
   fits = f;

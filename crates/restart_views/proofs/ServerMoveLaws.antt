@@ -1,7 +1,7 @@
 -- The moves of a server that comes back from a stop.
 use Rattle.std.proofs.Common.{◌≡◌, ◌<◌, ◌-◌, ◌==◌, eqb-true, Bool, true, false, not, is_none, List, [], ◌∷◌, length, Option, Some, None, refl, sym, ap, ◌∙◌, inl, inr, arith, leb-true}
 use Rattle.std.specs.List.{list_all}
-use Rattle.std.proofs.lemmas.Bool.{and_parts}
+use Rattle.std.proofs.lemmas.Bool.{and_parts, not-true}
 use Rattle.file_views.specs.declared.client.Client.{Client}
 use Rattle.file_views.specs.declared.call.FileCall.{FileCall}
 use Rattle.file_views.specs.declared.view.View.{View}
@@ -27,10 +27,6 @@ all_there p [] e x m = absurd m
 all_there p (y ∷ ys) e x (inl q) = ap p q ∙ (and_parts (p y) (list_all p ys) e).0
 all_there p (y ∷ ys) e x (inr m) = all_there p ys (and_parts (p y) (list_all p ys) e).1 x m
 
-off_by : (b : Bool) → not b ≡ true → b ≡ false
-off_by true e = absurd (cc (e))
-off_by false e = refl
-
 none_by : {X : Type 0} (o : Option X) → is_none o ≡ true → o ≡ None
 none_by (Some x) e = absurd (cc (e))
 none_by None e = refl
@@ -47,8 +43,8 @@ calm_of v e =
     record {
       uncached = a.0;
       unheld = none_by v.holder b.0;
-      off = λ kernel i. off_by (is_on (client v kernel).mode) (all_there (λ (c : Client). not (is_on c.mode)) v.clients c.0 (client v kernel) (get_in v.clients (kernel - 1) new_client (omega (arith, i.0, i.1))));
-      later = λ one m grant g. off_by grant.on (sym (ap (λ o. not (on_in o)) g) ∙ all_there (λ (x : FileCall). not (on_in (arrival x.reply))) (things v) c.1 one m);
+      off = λ kernel i. not-true (is_on (client v kernel).mode) (all_there (λ (c : Client). not (is_on c.mode)) v.clients c.0 (client v kernel) (get_in v.clients (kernel - 1) new_client (omega (arith, i.0, i.1))));
+      later = λ one m grant g. not-true grant.on (sym (ap (λ o. not (on_in o)) g) ∙ all_there (λ (x : FileCall). not (on_in (arrival x.reply))) (things v) c.1 one m);
     }
 
 pub served_sound : (z : Setting) (v : View) (one : ServerMove) → may_serve z v one ≡ true → Sound z v → Sound z (after_serve v one)
@@ -60,8 +56,8 @@ served_sound z v (Greet kernel) e s =
 served_sound z v (Reopen one) e s =
     let p = and_parts (is_calm v) _ e in
     let q = and_parts (is_client v one.kernel) _ p.1 in
-    let r = and_parts (one.count == 1) _ q.1 in reopened_sound z v one (calm_of v p.0) (client_is v one.kernel q.0) (eqb-true one.count 1 r.0) (unnamed_of v one.stream (off_by (is_named v one.stream) r.1)) s
-served_sound z v Cache e s = let p = and_parts (not (is_any v.opens)) _ e in calm_cached z v (off_by (busy v) p.1) (empty_by v.opens p.0) s
+    let r = and_parts (one.count == 1) _ q.1 in reopened_sound z v one (calm_of v p.0) (client_is v one.kernel q.0) (eqb-true one.count 1 r.0) (unnamed_of v one.stream (not-true (is_named v one.stream) r.1)) s
+served_sound z v Cache e s = let p = and_parts (not (is_any v.opens)) _ e in calm_cached z v (not-true (busy v) p.1) (empty_by v.opens p.0) s
 
 pub calm_stood : (z : Setting) (v : View) → 0 < z.block → is_calm v ≡ true → Sound z v → stands_for z v ≡ v.bytes
 calm_stood z v p e s = calm_bytes z v v.bytes v.version p (calm_of v e) (omega arith) s.requests.limit s
@@ -83,6 +79,6 @@ served_bytes z v (Reopen one) p e s =
     stands_is z (reopened v one) (layers_of z (reopened v one) (served_sound z v (Reopen one) e s)) p g.0 ∙ (g.1 ∙ sym (calm_stood z v p a.0 s))
 served_bytes z v Cache p e s =
     let q = and_parts (not (is_any v.opens)) _ e in
-    let t : Sound z (record v { uncached = false }) = calm_cached z v (off_by (busy v) q.1) (empty_by v.opens q.0) s in
+    let t : Sound z (record v { uncached = false }) = calm_cached z v (not-true (busy v) q.1) (empty_by v.opens q.0) s in
     let g = cached_contents z v s.contents in
     stands_is z (record v { uncached = false }) (layers_of z (record v { uncached = false }) t) p g.0 ∙ g.1 ∙ sym (stands_is z v (layers_of z v s) p s.contents)

@@ -1,6 +1,7 @@
 -- What of a view's layers stays where the server's own part changes.
-use Rattle.std.proofs.Common.{◌≡◌, ◌∙◌, ap, Bool, true, false, not, ◌||◌, ℕ, List, length, slice_index_or, ◌<◌, zero, suc, [], ◌∷◌, inl, inr, refl, subst, arith}
+use Rattle.std.proofs.Common.{◌≡◌, ◌∙◌, ap, Bool, false, ℕ, List, length, slice_index_or, ◌<◌, zero, suc, [], ◌∷◌, inl, inr, refl, subst, arith}
 use Rattle.std.specs.List.{list_any}
+use Rattle.std.proofs.lemmas.Bool.{or_parts}
 use Rattle.file_views.specs.declared.view.View.{View}
 use Rattle.file_views.specs.Setting.{Setting}
 use Rattle.file_views.specs.Views.{things}
@@ -24,15 +25,7 @@ get_in [] i d l = absurd (omega (arith, l))
 get_in (x ∷ xs) zero d l = inl refl
 get_in (x ∷ xs) (suc i) d l = inr (get_in xs i d (omega (arith, l)))
 
-pub not_is : (b : Bool) → not b ≡ true → b ≡ false
-not_is true e = absurd (cc (e))
-not_is false e = refl
-
-pub neither : (a b : Bool) → (a || b) ≡ false → (a ≡ false) × (b ≡ false)
-neither true b e = absurd (cc (e))
-neither false b e = (refl, e)
-
 pub any_none : {X : Type 0} (p : X → Bool) (xs : List X) → list_any p xs ≡ false → (x : X) → In x xs → p x ≡ false
 any_none p [] h x m = absurd m
-any_none p (y ∷ ys) h x (inl e) = ap p e ∙ (neither (p y) (list_any p ys) h).0
-any_none p (y ∷ ys) h x (inr m) = any_none p ys (neither (p y) (list_any p ys) h).1 x m
+any_none p (y ∷ ys) h x (inl e) = ap p e ∙ (or_parts (p y) (list_any p ys) h).0
+any_none p (y ∷ ys) h x (inr m) = any_none p ys (or_parts (p y) (list_any p ys) h).1 x m

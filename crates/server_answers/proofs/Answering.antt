@@ -3,7 +3,6 @@ use Rattle.std.proofs.Common.{◌≡◌, ℕ, zero, suc, Bool, true, false, ◌|
 use Rattle.std.specs.List.{AllByRecursion, find, list_any, position}
 use Rattle.sprite_ids.specs.declared.FileId.{FileId}
 use Rattle.sprite_ids.specs.declared.TxNo.{TxNo}
-use Rattle.sprite_ids.specs.Lists.{less}
 use Rattle.sprite_ids.proofs.ListLaws.{each_push, some_is}
 use Rattle.packet_bodies.specs.declared.ReplyBody.{ReplyBody}
 use Rattle.packet_bodies.specs.declared.ReplyBody.TheVariants as bodies
@@ -24,6 +23,7 @@ use Rattle.server_kernel.specs.Waits.{first_about, is_about, less_about}
 use Rattle.server_walks.specs.Sorts.{fits}
 use Rattle.server_walks.proofs.Bearing.{Bears, Seen}
 use Rattle.server_walks.proofs.Deeds.{LeadsSo, changed_at_path, changed_in, has_root, may_wait}
+use Rattle.server_walks.proofs.ListLaws.{each_less}
 
 -- the call may be answered by all that such a request may have
 abbrev pub FreeFor : (TxNo → ReplyBody → Type 0) → TxNo → Request → Type 0
@@ -64,10 +64,6 @@ pub roots_set : (domains : List Domain) (at : ℕ) (domain new : Domain) → sli
 roots_set [] at domain new e same = refl
 roots_set (first ∷ rest) zero domain new e same = ap (λ (root : Parts). root ∷ map (λ (d : Domain). d.root) rest) (same ∙ ap (λ (d : Domain). d.root) (sym (some_is first domain e)))
 roots_set (first ∷ rest) (suc at) domain new e same = ap (λ (roots : List Parts). first.root ∷ roots) (roots_set rest at domain new e same)
-
-each_less : {X : Type 0} (F : X → Type 0) (p : X → Bool) (xs : List X) → AllByRecursion F xs → AllByRecursion F (less p xs)
-each_less F p [] h = tt
-each_less F p (x ∷ xs) h = elim (p x) as (λ b. AllByRecursion F (cond b xs (x ∷ less p xs))) [ true ↦ h.1 | false ↦ (h.0, each_less F p xs h.1) ]
 
 found_by : (F : Asked → Type 0) (b : Bool) (row : FileId × Asked) (rest : Option (FileId × Asked)) (request : Asked) → F row.1 → (option_map (λ (row : FileId × Asked). row.1) rest ≡ Some request → F request) → option_map (λ (row : FileId × Asked). row.1) (cond b (Some row) rest) ≡ Some request → F request
 found_by F true row rest request here later e = subst F (some_is row.1 request e) here

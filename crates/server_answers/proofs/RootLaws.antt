@@ -1,5 +1,6 @@
 -- Where a server's domains hang: as it begins, and from then on.
 use Rattle.std.proofs.Common.{◌≡◌, ℕ, Bool, true, false, ◌||◌, List, [], ◌∷◌, ◌++◌, map, Some, refl, sym, ap, ◌∙◌}
+use mathlib.Core.Bool.{or-true}
 use Rattle.unix_calls.specs.declared.Description.{Description}
 use Rattle.unix_calls.specs.Domains.{begins_domain}
 use Rattle.unix_calls.specs.Tree.{same_path}
@@ -21,10 +22,6 @@ roots_in s = map (λ (domain : Domain). domain.root) s.domains
 abbrev Mine : List Parts → Server → Type 0
 Mine serves s = ((path : Parts) → is_root path s ≡ true → begins_domain serves path ≡ true) × (s.asking ≡ []) × (s.waiting ≡ [])
 
-or_right : (a : Bool) → (a || true) ≡ true
-or_right true = refl
-or_right false = refl
-
 push_by : (path root : Parts) (a b : Bool) (serves : List Parts) → (b ≡ true → begins_domain serves path ≡ true) → (a ≡ true → begins_domain serves path ≡ true) → (a || b) ≡ true → begins_domain serves path ≡ true
 push_by path root true b serves later here e = here refl
 push_by path root false b serves later here e = later e
@@ -33,7 +30,7 @@ mine_push : (serves : List Parts) (path : Parts) (domains : List Domain) (new : 
 mine_push serves path [] new is old e = push_by path new.root (same_path path new.root) false serves (λ k. absurd (cc)) is e
 mine_push serves path (domain ∷ domains) new is old e =
     push_by path domain.root (same_path path domain.root) (has_root path (domains ++ new ∷ [])) serves
-    (mine_push serves path domains new is (λ k. old (ap (λ b. same_path path domain.root || b) k ∙ or_right (same_path path domain.root))))
+    (mine_push serves path domains new is (λ k. old (ap (λ b. same_path path domain.root || b) k ∙ or-true (same_path path domain.root))))
     (λ k. old (ap (λ b. b || has_root path domains) k)) e
 
 -- ---- as the cluster begins

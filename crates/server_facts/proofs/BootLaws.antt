@@ -47,7 +47,7 @@ begun c kernel s e = server_begins c kernel (λ s. seen s ≡ nothing) (none_kep
 
 -- ---- from then on
 
-always : (Fact : Server → Type 0) → StepKeeps Fact → (inputs : List (Input × TxNo)) (s : Server) → Fact s → Fact (after inputs s)
+pub always : (Fact : Server → Type 0) → StepKeeps Fact → (inputs : List (Input × TxNo)) (s : Server) → Fact s → Fact (after inputs s)
 always Fact keeps [] s h = h
 always Fact keeps (one ∷ rest) s h = always Fact keeps rest (server_step s one.0 one.1).0 (keeps s one.0 one.1 h)
 

@@ -2,6 +2,8 @@
 use Rattle.std.proofs.Common.{◌≡◌, ◌<◌, ◌≤◌, ℕ, zero, suc, ◌-◌, Bool, true, false, ◌&&◌, not, cond, List, [], ◌∷◌, length, slice_set, fold, Option, Some, None, is_some, option_map, refl, sym, ap, subst, arith, ◌∙◌, true≢false}
 use Rattle.std.specs.List.{find, list_any}
 use Rattle.std.specs.Map.{lookup}
+use Rattle.std.proofs.lemmas.Bool.Decides.{same_from_decides}
+use Rattle.std.proofs.lemmas.Bool.{not-true, and_parts}
 use Rattle.sprite_ids.specs.declared.Callback.{Callback}
 use Rattle.sprite_ids.specs.declared.FileId.{FileId}
 use Rattle.sprite_ids.specs.declared.Flushed.{Flushed}
@@ -36,7 +38,7 @@ use Rattle.server_facts.proofs.CallLaws.{Ascend, Calls, answered_calls, ascends,
 use Rattle.server_walks.proofs.Deeds.{Every, Keeps}
 use Rattle.server_walks.proofs.ServeWalk.{grants_asked, puts_all, serves}
 use Rattle.server_walks.proofs.StepWalk.{turns}
-use Rattle.server_facts.proofs.Tables.{both_ways, by_file, file_gone, file_left, file_other, none_found, once_put, turned}
+use Rattle.server_facts.proofs.Tables.{by_file, file_gone, file_left, file_other, none_found, once_put, turned}
 
 -- a busy file has a callback out
 abbrev Called : Files → Type 0
@@ -152,11 +154,6 @@ not_ready true true e k = refl
 not_ready true false e k = absurd (cc)
 not_ready false out e k = absurd (cc)
 
-ready_busy : (busy out : Bool) → (busy && not out) ≡ true → out ≡ false
-ready_busy true true e = absurd (cc)
-ready_busy true false e = refl
-ready_busy false out e = absurd (cc)
-
 settled_by : (o : Option Asking) (asked : Asked) (file : FileId) (s : Server) → (files.kept_of file s).asking ≡ o → is_some o ≡ true → P (waiting.with_settled file s) → P (waiting.settles_by asked file (tables.settling_grant (files.kept_of file s) o) s)
 settled_by (Some asking) asked file s e busy p =
     let grant : Grant = tables.grant_of (files.kept_of file s) asking.action in
@@ -170,7 +167,7 @@ settles file s busy asks calls others = by_ready (tables.is_ready (files.kept_of
   where
     settled : tables.is_ready (files.kept_of file s) ≡ true → P (waiting.with_settled file s)
     settled ready =
-        let none_out = ready_busy (tables.is_busy (files.kept_of file s)) (tables.is_any_out (files.kept_of file s)) ready in (
+        let none_out = not-true (tables.is_any_out (files.kept_of file s)) (and_parts (tables.is_busy (files.kept_of file s)) (not (tables.is_any_out (files.kept_of file s))) ready).1 in (
           settled_calls file s (unmarked (files.kept_of file s).out none_out) calls,
           put_called s.versions.files file (tables.settled (files.kept_of file s)) (λ still. absurd (true≢false (sym still ∙ settled_free (files.kept_of file s) (files.kept_of file s).asking refl))) others,
         )
@@ -228,7 +225,7 @@ takes input s asks p = p.1
 
 pub busy_so : (s : Server) → AskingStands s → CallsStand s → Called s.versions.files → BusyStands s
 busy_so s asking calls called = record {
-  busy = λ file. both_ways (files.is_busy file s) (tables.is_any_out (files.kept_of file s)) (called file) (λ any. busy_by (files.is_busy file s) file any refl);
+  busy = λ file. same_from_decides {P = tables.is_any_out (files.kept_of file s) ≡ true} (files.is_busy file s) (tables.is_any_out (files.kept_of file s)) (called file, λ any. busy_by (files.is_busy file s) file any refl) (λ h. h, λ h. h);
   asking = asking;
   calls = calls;
 }

@@ -1,8 +1,8 @@
 -- Every step keeps which callbacks are out.
-use Rattle.std.proofs.Common.{◌≡◌, ◌<◌, ◌≤◌, ℕ, zero, suc, ◌+◌, ◌-◌, ◌==◌, Bool, true, false, ◌&&◌, ◌||◌, not, cond, List, [], ◌∷◌, ◌++◌, length, replicate, slice_get, slice_set, fold, Option, Some, None, is_some, option_map, refl, sym, ap, subst, arith, ◌∙◌, true≢false, eqb-true, eq-eqb, ne_eqb}
+use Rattle.std.proofs.Common.{◌≡◌, ◌<◌, ◌≤◌, ℕ, zero, suc, ◌+◌, ◌-◌, ◌==◌, Bool, true, false, ◌||◌, not, cond, List, [], ◌∷◌, ◌++◌, length, replicate, slice_get, slice_set, fold, Option, Some, None, is_some, option_map, refl, sym, ap, subst, arith, ◌∙◌, true≢false, eqb-true, eq-eqb, ne_eqb}
 use Rattle.std.specs.List.{AllByRecursion, find, list_any}
 use Rattle.std.specs.Map.{lookup}
-use Rattle.std.proofs.lemmas.Bool.{and_parts, and_from, eqb-false}
+use Rattle.std.proofs.lemmas.Bool.{and_parts, and_from, eqb-false, and_left, and_right}
 use Rattle.sprite_ids.specs.declared.BlockNo.{BlockNo}
 use Rattle.sprite_ids.specs.declared.CallKind.{CallKind}
 use Rattle.sprite_ids.specs.declared.Callback.{Callback}
@@ -13,6 +13,7 @@ use Rattle.sprite_ids.specs.declared.StreamNo.{StreamNo}
 use Rattle.sprite_ids.specs.declared.TxNo.{TxNo}
 use Rattle.sprite_ids.specs.Lists.{less}
 use Rattle.sprite_ids.proofs.ListLaws.{each_push, get_set_other, get_set_same}
+use Rattle.sprite_ids.proofs.OnceLaws.{not_less}
 use Rattle.packet_bodies.specs.declared.ReplyBody.{ReplyBody}
 use Rattle.packet_bodies.specs.declared.ReplyBody.TheVariants as bodies
 use Rattle.kernel_steps.specs.declared.Input.{Input}
@@ -41,7 +42,8 @@ use Rattle.server_facts.specs.Steps.{StepKeeps}
 use Rattle.server_walks.proofs.Deeds.{Every, Keeps}
 use Rattle.server_walks.proofs.ServeWalk.{grants_asked, serves}
 use Rattle.server_walks.proofs.StepWalk.{turns}
-use Rattle.server_facts.proofs.Tables.{any_last, any_none, by_file, each_less, file_gone, file_left, file_other, first_goes, found_any, found_each, itself, most_less, none_found, none_less, most_other, once_left, once_put, part_put, removed_one, removed_other, turned}
+use Rattle.server_walks.proofs.ListLaws.{each_less}
+use Rattle.server_facts.proofs.Tables.{any_last, any_none, by_file, file_gone, file_left, file_other, first_goes, found_any, found_each, itself, most_less, none_found, most_other, once_left, once_put, part_put, removed_one, removed_other, turned}
 
 abbrev pub busy_in : Files → FileId → Bool
 busy_in table file = tables.is_busy (file_of table file)
@@ -204,19 +206,11 @@ record Held (file : FileId) (out : List Bool) (rows : List (TxNo × CallOut)) : 
 is_there : (file : FileId) (row : TxNo × CallOut) (at : ℕ) → row.1.file ≡ file → row.1.kernel ≡ suc at → is_to file at row ≡ true
 is_there file row at named to = and_from (files.is_that file row.1.file) (row.1.kernel == suc at) (subst (λ (f : FileId). files.is_that file f ≡ true) (sym named) (itself file)) (eq-eqb row.1.kernel (suc at) to)
 
-right_no : (a b : Bool) → b ≡ false → (a && b) ≡ false
-right_no true b e = e
-right_no false b e = refl
-
-left_no : (a b : Bool) → a ≡ false → (a && b) ≡ false
-left_no true b e = absurd (cc)
-left_no false b e = refl
-
 is_elsewhere : (file : FileId) (row : TxNo × CallOut) (at to : ℕ) → row.1.kernel ≡ suc to → (to ≡ at → ⊥) → is_to file at row ≡ false
-is_elsewhere file row at to e off = right_no (files.is_that file row.1.file) (row.1.kernel == suc at) (ne_eqb row.1.kernel (suc at) (λ same. off (omega arith)))
+is_elsewhere file row at to e off = and_right (files.is_that file row.1.file) (row.1.kernel == suc at) (ne_eqb row.1.kernel (suc at) (λ same. off (omega arith)))
 
 is_anothers : (file other : FileId) (row : TxNo × CallOut) (at : ℕ) → row.1.file ≡ file → is_file file other ≡ false → is_to other at row ≡ false
-is_anothers file other row at named off = left_no (files.is_that other row.1.file) (row.1.kernel == suc at) (subst (λ (f : FileId). files.is_that other f ≡ false) (sym named) off)
+is_anothers file other row at named off = and_left (files.is_that other row.1.file) (row.1.kernel == suc at) (subst (λ (f : FileId). files.is_that other f ≡ false) (sym named) off)
 
 by_place : (one other : ℕ) (G : Type 0) → (one ≡ other → G) → ((one ≡ other → ⊥) → G) → G
 by_place one other G here there = by_test (one == other) refl
@@ -451,7 +445,7 @@ flushes_first : (o : Option (TxNo × CallOut)) (q : TxNo × CallOut → Bool) (r
 flushes_first (Some row) q rows flushed s found same h =
     let kept = stored flushed.blocks row.1.file flushed.size s in
     hears rows q row (waiting.puts_all row.1.file flushed.size flushed.blocks s) found (kept.1 ∙ same) (subst (λ (table : Files). Calls table rows) (sym kept.0) h)
-flushes_first None q rows flushed s found same h = subst (Calls s.versions.files) (sym (same ∙ none_less q rows (none_found q (λ (row : TxNo × CallOut). row) rows (ap (option_map (λ (row : TxNo × CallOut). row)) found)))) h
+flushes_first None q rows flushed s found same h = subst (Calls s.versions.files) (sym (same ∙ not_less q rows (none_found q (λ (row : TxNo × CallOut). row) rows (ap (option_map (λ (row : TxNo × CallOut). row)) found)))) h
 
 -- ---- a step
 

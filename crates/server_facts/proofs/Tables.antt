@@ -2,7 +2,7 @@
 use Rattle.std.proofs.Common.{rules, tests, ◌≡◌, ℕ, zero, suc, ◌≤◌, ◌==◌, Bool, true, false, ◌&&◌, ◌||◌, cond, List, [], ◌∷◌, ◌++◌, length, Option, Some, None, option_map, refl, sym, ap, subst, arith, ◌∙◌, true≢false}
 use Rattle.std.specs.List.{AllByRecursion, find, list_any}
 use Rattle.std.specs.Map.{lookup}
-use Rattle.std.proofs.lemmas.Bool.{and_parts, eqb-true}
+use Rattle.std.proofs.lemmas.Bool.{and_parts, eqb-true, or_right, or_left}
 use Rattle.sprite_ids.specs.declared.FileId.{FileId}
 use Rattle.sprite_ids.specs.Lists.{less}
 use Rattle.sprite_ids.proofs.ListLaws.{some_is}
@@ -13,11 +13,6 @@ use Rattle.version_table.proofs.FileLaws.{file_put}
 use Rattle.server_facts.specs.Asking.{AreFilesOnce, AtMost}
 
 -- ---- tests
-
-pub both_ways : (a b : Bool) → (a ≡ true → b ≡ true) → (b ≡ true → a ≡ true) → a ≡ b
-both_ways true b f g = sym (f refl)
-both_ways false true f g = g refl
-both_ways false false f g = refl
 
 pub unless : (a b : Bool) → (a ≡ true → b ≡ true) → b ≡ false → a ≡ false
 unless true b f e = sym (f refl) ∙ e
@@ -128,19 +123,11 @@ pub any_push : {X : Type 0} (p : X → Bool) (xs : List X) (y : X) → list_any 
 any_push p [] y = or_false (p y)
 any_push p (x ∷ xs) y = any_by (p x) p xs y (any_push p xs y)
 
-left_in : (a b : Bool) → a ≡ true → (a || b) ≡ true
-left_in true b e = refl
-left_in false b e = absurd (cc)
-
-right_in : (a b : Bool) → b ≡ true → (a || b) ≡ true
-right_in true b e = refl
-right_in false b e = e
-
 pub any_left : {X : Type 0} (p : X → Bool) (xs : List X) (y : X) → list_any p xs ≡ true → list_any p (xs ++ y ∷ []) ≡ true
-any_left p xs y e = any_push p xs y ∙ left_in (list_any p xs) (p y) e
+any_left p xs y e = any_push p xs y ∙ or_left (list_any p xs) (p y) e
 
 pub any_last : {X : Type 0} (p : X → Bool) (xs : List X) (y : X) → p y ≡ true → list_any p (xs ++ y ∷ []) ≡ true
-any_last p xs y e = any_push p xs y ∙ right_in (list_any p xs) (p y) e
+any_last p xs y e = any_push p xs y ∙ or_right (list_any p xs) (p y) e
 
 pub any_none : {X : Type 0} (p : X → Bool) (xs : List X) (y : X) → p y ≡ false → list_any p (xs ++ y ∷ []) ≡ list_any p xs
 any_none p xs y e = any_push p xs y ∙ (ap (λ b. list_any p xs || b) e ∙ or_false (list_any p xs))
@@ -235,8 +222,8 @@ none_found p f (x ∷ xs) e = none_by (p x) p f x xs (none_found p f xs) e
 -- ---- an item is taken out
 
 some_by : {X : Type 0} (b : Bool) (p : X → Bool) (x y : X) (xs : List X) (rest : Option X) → p y ≡ true → (rest ≡ Some y → list_any p xs ≡ true) → cond b (Some x) rest ≡ Some y → (p x || list_any p xs) ≡ true
-some_by true p x y xs rest passes later e = left_in (p x) (list_any p xs) (subst (λ z. p z ≡ true) (sym (some_is x y e)) passes)
-some_by false p x y xs rest passes later e = right_in (p x) (list_any p xs) (later e)
+some_by true p x y xs rest passes later e = or_left (p x) (list_any p xs) (subst (λ z. p z ≡ true) (sym (some_is x y e)) passes)
+some_by false p x y xs rest passes later e = or_right (p x) (list_any p xs) (later e)
 
 -- what is found is there
 pub found_any : {X : Type 0} (p q : X → Bool) (xs : List X) (y : X) → find q xs ≡ Some y → p y ≡ true → list_any p xs ≡ true
@@ -251,10 +238,6 @@ found_each F q (x ∷ xs) y e h = by_test (q x) (found_each F q xs y) e
     by_test : (b : Bool) → (find q xs ≡ Some y → AllByRecursion F xs → F y) → cond b (Some x) (find q xs) ≡ Some y → F y
     by_test true later e = subst F (some_is x y e) h.0
     by_test false later e = later e h.1
-
-pub each_less : {X : Type 0} (F : X → Type 0) (p : X → Bool) (xs : List X) → AllByRecursion F xs → AllByRecursion F (less p xs)
-each_less F p [] h = tt
-each_less F p (x ∷ xs) h = elim (p x) as (λ b. AllByRecursion F (cond b xs (x ∷ less p xs))) [ true ↦ h.1 | false ↦ (h.0, each_less F p xs h.1) ]
 
 other_by : {X : Type 0} (b : Bool) (p q : X → Bool) (x y : X) (xs : List X) (rest : Option X) → p y ≡ false → (rest ≡ Some y → list_any p (less q xs) ≡ list_any p xs) → cond b (Some x) rest ≡ Some y → list_any p (cond b xs (x ∷ less q xs)) ≡ (p x || list_any p xs)
 other_by true p q x y xs rest off later e = sym (ap (λ b. b || list_any p xs) (subst (λ z. p z ≡ false) (sym (some_is x y e)) off))
@@ -291,13 +274,6 @@ most_less p q (x ∷ xs) h = by_tests (q x) (p x) refl (most_less p q xs)
     by_tests true false u later = (one_by (p x) p x xs h refl).1 u
     by_tests false true u later = subst (λ c. list_any p (cond c (less q xs) (x ∷ less p (less q xs))) ≡ false) (sym u) (less_none p q xs ((one_by (p x) p x xs h refl).0 u))
     by_tests false false u later = subst (λ c. list_any p (cond c (less q xs) (x ∷ less p (less q xs))) ≡ false) (sym u) (ap (λ b. b || list_any p (less p (less q xs))) u ∙ later ((one_by (p x) p x xs h refl).1 u))
-
--- where none passes, none is taken out
-pub none_less : {X : Type 0} (p : X → Bool) (xs : List X) → list_any p xs ≡ false → less p xs ≡ xs
-none_less p [] e = refl
-none_less p (x ∷ xs) e =
-    let parts = first_by (p x) x p xs e refl in
-    ap (λ b. cond b xs (x ∷ less p xs)) parts.0 ∙ ap (λ l. x ∷ l) (none_less p xs parts.1)
 
 -- ---- what is found
 

@@ -2,6 +2,7 @@
 use Rattle.std.proofs.Common.{◌≡◌, ◌≤◌, ℕ, suc, ◌+◌, Bool, true, false, ◌&&◌, not, cond, List, [], ◌∷◌, ◌++◌, Option, Some, None, is_some, Ok, refl, sym, ap, subst, arith, ◌∙◌, true≢false}
 use Rattle.std.specs.List.{list_any, position}
 use Rattle.std.specs.Map.{lookup}
+use Rattle.std.proofs.lemmas.Bool.{and_parts}
 use Rattle.sprite_ids.specs.declared.Callback.{Callback}
 use Rattle.sprite_ids.specs.declared.FileId.{FileId}
 use Rattle.sprite_ids.specs.declared.StreamNo.{StreamNo}
@@ -398,10 +399,6 @@ calls_all : (calls : List Callback) (asked : Asked) (s : Server) → P s → P (
 calls_all [] asked s p = p
 calls_all (call ∷ calls) asked s p = calls_all calls asked (grants.calls_one asked call s) p
 
-last_parts : (a b : Bool) → (a && b) ≡ true → b ≡ true
-last_parts true b e = e
-last_parts false b e = absurd (cc)
-
 keeps_names : Keeps Every P
 keeps_names = record {
   notes = λ s event told p. p;
@@ -419,14 +416,10 @@ keeps_names = record {
   granted = λ s file action free e p. put_opens s.domains s.next_file s.unlinked s.store.files s.versions.files file _ (λ some. granted_opens s.versions.cached (files.kept_of file s) action e) (granted_leads s.versions.cached (files.kept_of file s) action e) p;
   asks = λ s asked file action call calls k may free e p. calls_all (call ∷ calls) asked (grants.asks asked file (grants.with_decided file action s)) (put_opens s.domains s.next_file s.unlinked s.store.files s.versions.files file _ (λ some. ap is_any (asked_opens s.versions.cached (files.kept_of file s) action call calls e) ∙ p.opens file some) (asked_leads s.versions.cached (files.kept_of file s) action call calls e) p);
   closes = λ s file kernel stream many mode free there last p. closing_names (lookup (is_file file) s.versions.files) s.domains s.next_file s.unlinked s.store.files s.versions.files file kernel stream many refl last p;
-  closes_last = λ s file kernel stream many mode free there last p. last_names s file kernel stream many (last_parts (tables.is_closed (files.kept_of file s) kernel stream many) (list_any (is_that file) s.unlinked) last) p;
+  closes_last = λ s file kernel stream many mode free there last p. last_names s file kernel stream many (and_parts (tables.is_closed (files.kept_of file s) kernel stream many) (list_any (is_that file) s.unlinked) last).1 p;
 }
 
 -- ---- a step
-
-busy_part : (a b : Bool) → (a && b) ≡ true → a ≡ true
-busy_part true b e = refl
-busy_part false b e = absurd (cc)
 
 steps_keep : KeepsSteps Every P
 steps_keep = record {
@@ -439,7 +432,7 @@ steps_keep = record {
   hears = λ s call busy p. put_opens s.domains s.next_file s.unlinked s.store.files s.versions.files call.file (tables.answered (files.kept_of call.file s) call.kernel) (λ some. p.opens call.file some) (p.waits call.file) p;
   settles = λ s file ready p.
       let kept : Versioned = files.kept_of file s in
-      let busy : is_some kept.asking ≡ true = busy_part (tables.is_busy kept) (not (tables.is_any_out kept)) ready in
+      let busy : is_some kept.asking ≡ true = (and_parts (tables.is_busy kept) (not (tables.is_any_out kept)) ready).0 in
       put_opens s.domains s.next_file s.unlinked s.store.files s.versions.files file (tables.settled kept) (λ some. settled_opens kept.asking kept (p.waits file) busy) (settled_leads kept.asking kept busy) p;
 }
 

@@ -2,6 +2,7 @@
 use Rattle.std.proofs.Common.{◌≡◌, ℕ, zero, suc, ◌+◌, ◌-◌, ◌==◌, nat_le, Bool, true, false, ◌&&◌, ◌||◌, cond, List, [], ◌∷◌, ◌++◌, length, slice_get, slice_set, Option, Some, None, Result, Ok, Err, refl, sym, ap, subst, ◌∙◌}
 use Rattle.std.specs.List.{position}
 use Rattle.std.proofs.lemmas.Bool.{and_parts}
+use mathlib.Core.Bool.{or-true}
 use Rattle.sprite_ids.specs.declared.FileId.{FileId}
 use Rattle.sprite_ids.proofs.ListLaws.{some_is}
 use Rattle.unix_calls.specs.declared.Description.{Description}
@@ -41,10 +42,6 @@ then_some : {A B : Type 0} (o : Option A) (f : A → Option B) (y : B) → booti
 then_some (Some x) f y e = (x, refl, e)
 then_some None f y e = absurd (cc)
 
-or_right : (a : Bool) → (a || true) ≡ true
-or_right true = refl
-or_right false = refl
-
 module _ (serves : List Parts) (P : Server → Type 0) (keeps : KeepsBoot serves P) where
   -- ---- domains
 
@@ -60,7 +57,7 @@ module _ (serves : List Parts) (P : Server → Type 0) (keeps : KeepsBoot serves
   hung_each [] parts s next inside e p = subst P (some_is s next e) p
   hung_each (root ∷ rest) parts s next inside e p =
       let got = then_some (booting.hangs_one parts root s) (λ (mid : Server). booting.hangs_all parts rest mid) next e in
-      hung_each rest parts got.0 next (λ path k. inside path (ap (λ b. same_path path root || b) k ∙ or_right (same_path path root))) got.2
+      hung_each rest parts got.0 next (λ path k. inside path (ap (λ b. same_path path root || b) k ∙ or-true (same_path path root))) got.2
       (hung_by (length root == parts) root s got.0 (λ path k. inside path (ap (λ b. b || begins_domain rest path) k)) got.1 p)
 
   hung_all : (done : ℕ) (s next : Server) → booting.all_hung serves done s ≡ Some next → P s → P next

@@ -5,3 +5,4 @@ pub mod StepWalk
 pub mod Bearing
 pub mod TellingLaws
 pub mod BootWalk
+pub mod ListLaws

@@ -1,7 +1,7 @@
 -- What a path names at its domain's server against the one-kernel Unix.
 use Rattle.std.proofs.Common.{◌≡◌, ◌==◌, ℕ, Bool, true, false, cond, List, [], ◌∷◌, ◌++◌, length, Option, Some, None, Result, Ok, Err, refl, sym, ap, ap₂, subst, ◌∙◌, arith, length-append, append_assoc}
 use Rattle.std.specs.Option.{option_map}
-use Rattle.std.proofs.lemmas.Bool.{cond-false}
+use Rattle.std.proofs.lemmas.Bool.{cond-false, ne_eqb}
 use Rattle.sprite_ids.specs.declared.Errno.{Errno}
 use Rattle.sprite_paths.specs.Path.{IsPrefix}
 use Rattle.unix_calls.specs.declared.state.Node.{Node as UnixNode}
@@ -17,7 +17,7 @@ use Rattle.server_names.specs.declared.Entry.TheVariants.{Node as Named, Link}
 use Rattle.server_names.specs.Names.{Tree, count, count_answer, count_found, entry_in, found, goes_on, named, walked}
 use Rattle.tree_laws.specs.Trees.{AreNames, IsOwn, Parts, Ties, plain, told}
 use Rattle.tree_laws.specs.Laws.{AnswersAs, CountsAsOne, FindsAsOne, GivesAs}
-use Rattle.tree_laws.proofs.WalkLaws.{WalksAs, above_is, last_is, not_root, own_on, walks_as}
+use Rattle.tree_laws.proofs.WalkLaws.{WalksAs, above_is, last_is, own_on, walks_as}
 
 -- ---- what is found
 
@@ -48,7 +48,7 @@ tells_then wanted roots root d (Err NoMemory) w next other h more = tt
 pub found_by : (tree : Tree) (directory : Parts) (part : List ℕ) → found tree (directory ++ part ∷ []) ≡ goes_on (walked tree [] directory) (named (entry_in tree directory part))
 found_by tree directory part =
     let path = directory ++ part ∷ [] in
-    let some : (length path == 0) ≡ false = not_root path (let more = length-append directory (part ∷ []) in omega arith) in
+    let some : (length path == 0) ≡ false = ne_eqb (length path) 0 (λ e. let more = length-append directory (part ∷ []) in omega arith) in
     cond-false (length path == 0) _ _ some
     ∙ ap₂ (λ (d : Parts) (p : List ℕ). goes_on (walked tree [] d) (named (entry_in tree d p))) (above_is directory part) (last_is directory part)
 

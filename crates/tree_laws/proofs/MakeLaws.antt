@@ -5,7 +5,7 @@ use Rattle.std.specs.Prelude.{nat_eq}
 use Rattle.std.specs.Map.{lookup}
 use Rattle.indexmap.specs.IndexMap.{insert_entry}
 use Rattle.std.specs.Cmp.Lexicographic.{pointwise}
-use Rattle.std.proofs.lemmas.Bool.{cases_Bool, cond-false, true≢false, ltb-true, ltb-false, lt-leb, le-leb}
+use Rattle.std.proofs.lemmas.Bool.{cases_Bool, cond-false, true≢false, ltb-true, ltb-false, lt-leb, le-leb, ne_eqb}
 use Rattle.sprite_ids.specs.declared.Errno.{Errno}
 use Rattle.sprite_ids.specs.declared.Errno.TheVariants as errno
 use Rattle.sprite_paths.specs.Path.{IsPrefix}
@@ -24,7 +24,7 @@ use Rattle.server_names.specs.Names.{Tree, count, entries_in, entry_at, entry_in
 use Rattle.server_names.proofs.FoundLaws.{freed_none, given_here, given_other, goes_parts, look_here, look_on, part_is, part_itself, path_is, path_itself}
 use Rattle.tree_laws.specs.Trees.{AreNamedOnce, AreNames, IsOwn, Parts, Ties, plain, told}
 use Rattle.tree_laws.specs.Laws.{AnswersAs, MadeIsSame, MakesAsOne}
-use Rattle.tree_laws.proofs.WalkLaws.{WalksAs, above_is, last_is, not_root, then_by, walks_as}
+use Rattle.tree_laws.proofs.WalkLaws.{WalksAs, above_is, last_is, then_by, walks_as}
 
 -- a directory's room
 pub room_by : (m n : ℕ) → m ≡ n → AnswersAs {A = Unit {0}} (cond (nat_lt m 256) (Ok tt) (Err (Refused errno.TooMany))) (refusal_if (nat_le 256 n) errno.TooMany)
@@ -62,7 +62,7 @@ makes_among ties roots root nodes tree directory part are below =
     (λ own. subst (λ e. AnswersAs (goes_on (freed e) (roomy tree directory)) (first_of (refusal_if (is_some (node_at nodes path)) errno.Exists) full)) (sym (are.names directory part below own))
     (free_by ties roots path (node_at nodes path) (roomy tree directory) full (room_by (count tree directory) (length (unix_names_in nodes directory)) (are.counts directory below own))))
     in
-    let some : (length path == 0) ≡ false = not_root path (let more = length-append directory (part ∷ []) in omega arith) in
+    let some : (length path == 0) ≡ false = ne_eqb (length path) 0 (λ e. let more = length-append directory (part ∷ []) in omega arith) in
     let lasts = subst (λ p. AnswersAs (goes_on (walked tree [] directory) (goes_on (freed (entry_in tree directory p)) (roomy tree directory))) (first_of (walk_from nodes [] path) (first_of (refusal_if (is_some (node_at nodes path)) errno.Exists) full))) (sym (last_is directory part)) core in
     let aboves = subst (λ d. AnswersAs (goes_on (walked tree [] d) (goes_on (freed (entry_in tree d (last_of path))) (roomy tree d))) (first_of (walk_from nodes [] path) (first_of (refusal_if (is_some (node_at nodes path)) errno.Exists) (refusal_if (is_full nodes d) errno.TooMany)))) (sym (above_is directory part)) lasts in
     subst (λ b. AnswersAs (cond b (Err (Refused errno.Exists)) (goes_on (walked tree [] (parent path)) (goes_on (freed (entry_at tree path)) (roomy tree (parent path))))) (refusal_of nodes path)) (sym some) aboves
@@ -290,7 +290,7 @@ made_among : (ties : Ties) (roots : List Parts) (root : Parts) (nodes : List Nam
 made_among ties roots root nodes tree directory part node are below ok =
     let path = directory ++ part ∷ [] in
     let entry = Named (plain ties node) in
-    let some : (length path == 0) ≡ false = not_root path (let more = length-append directory (part ∷ []) in omega arith) in
+    let some : (length path == 0) ≡ false = ne_eqb (length path) 0 (λ e. let more = length-append directory (part ∷ []) in omega arith) in
     let walk = goes_parts (walked tree [] (parent path)) (goes_on (freed (entry_at tree path)) (roomy tree (parent path))) tt (sym (cond-false (length path == 0) _ _ some) ∙ ok) in
     let last = goes_parts (freed (entry_at tree path)) (roomy tree (parent path)) tt walk.1 in
     let free : entry_in tree directory part ≡ None = sym (ap₂ (λ (d : Parts) (p : List ℕ). entry_in tree d p) (above_is directory part) (last_is directory part)) ∙ freed_none (entry_at tree path) last.0 in

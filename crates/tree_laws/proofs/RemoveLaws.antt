@@ -1,6 +1,6 @@
 -- Taking a name away at its domain's server against the one-kernel Unix.
 use Rattle.std.proofs.Common.{◌≡◌, ◌==◌, ℕ, Bool, true, false, cond, nat_lt, List, [], ◌∷◌, ◌++◌, length, Option, Some, None, Result, Ok, Err, inl, inr, refl, sym, ap, subst, ◌∙◌, arith, length-append}
-use Rattle.std.proofs.lemmas.Bool.{cases_Bool, cond-false, lt-ltb, le-ltb, eqb-true}
+use Rattle.std.proofs.lemmas.Bool.{cases_Bool, cond-false, lt-ltb, le-ltb, eqb-true, ne_eqb}
 use Rattle.sprite_ids.specs.declared.Errno.TheVariants as errno
 use Rattle.sprite_paths.specs.Path.{IsPrefix}
 use Rattle.unix_calls.specs.declared.state.Node.{Node as UnixNode}
@@ -19,7 +19,7 @@ use Rattle.server_names.proofs.FoundLaws.{positive}
 use Rattle.tree_laws.specs.Trees.{AreNames, Parts, Ties, plain, told}
 use Rattle.tree_laws.specs.Laws.{AnswersAs, RemovesAsOne}
 use Rattle.tree_laws.proofs.FindLaws.{found_by, further}
-use Rattle.tree_laws.proofs.WalkLaws.{not_root, own_on, then_by, walks_as}
+use Rattle.tree_laws.proofs.WalkLaws.{own_on, then_by, walks_as}
 
 -- ---- the answers
 
@@ -30,7 +30,7 @@ removes_on tree path directory (Err end) next = refl
 pub removes_by : (tree : Tree) (at : Parts) (part : List ℕ) (directory : Bool) → remove_answer tree (at ++ part ∷ []) directory ≡ goes_on (walked tree [] at) (removable_found tree (at ++ part ∷ []) directory (named (entry_in tree at part)))
 removes_by tree at part directory =
     let path = at ++ part ∷ [] in
-    let some : (length path == 0) ≡ false = not_root path (let more = length-append at (part ∷ []) in omega arith) in
+    let some : (length path == 0) ≡ false = ne_eqb (length path) 0 (λ e. let more = length-append at (part ∷ []) in omega arith) in
     cond-false (length path == 0) _ _ some ∙ ap (removable_found tree path directory) (found_by tree at part) ∙ removes_on tree path directory (walked tree [] at) (named (entry_in tree at part))
 
 -- of a name that isn't a domain's root

@@ -3,7 +3,7 @@ use Rattle.std.proofs.Common.{◌≡◌, ◌==◌, ℕ, suc, Bool, true, false, 
 use Rattle.std.specs.Option.{is_some}
 use Rattle.std.specs.Map.{lookup, remove_entry}
 use Rattle.indexmap.specs.IndexMap.{insert_entry}
-use Rattle.std.proofs.lemmas.Bool.{cases_Bool, cond-false}
+use Rattle.std.proofs.lemmas.Bool.{cases_Bool, cond-false, ne_eqb}
 use Rattle.sprite_ids.specs.declared.Errno.{Errno}
 use Rattle.sprite_ids.specs.declared.Errno.TheVariants as errno
 use Rattle.sprite_paths.specs.Path.{IsPrefix}
@@ -26,7 +26,7 @@ use Rattle.tree_laws.specs.Laws.{AnswersAs}
 use Rattle.tree_laws.specs.Renames.{RenamedIsSame, RenamesAsOne}
 use Rattle.tree_laws.proofs.FindLaws.{found_by}
 use Rattle.tree_laws.proofs.MakeLaws.{entry_more, free_by, look_append, names_more, node_is, once_more, room_by, same_more, told_none, unix_look}
-use Rattle.tree_laws.proofs.WalkLaws.{WalksAs, above_is, last_is, not_root, then_by, walks_as}
+use Rattle.tree_laws.proofs.WalkLaws.{WalksAs, above_is, last_is, then_by, walks_as}
 use Rattle.tree_laws.proofs.GoneLaws.{IsLess, named_told, names_less, none_either, once_without, same_less, set_entries, there_of, without_look}
 
 -- ---- the answer
@@ -35,7 +35,7 @@ done_on : (r : Result (Unit {0}) NameEnd) (next : Result Node NameEnd) (target :
 done_on (Ok tt) next target = refl
 done_on (Err end) next target = refl
 
-done_as : (target : Result (Unit {0}) NameEnd) (node : Node) (rest : Option Errno) → AnswersAs target rest → AnswersAs (done (goes_on target (Ok node))) rest
+pub done_as : (target : Result (Unit {0}) NameEnd) (node : Node) (rest : Option Errno) → AnswersAs target rest → AnswersAs (done (goes_on target (Ok node))) rest
 done_as (Ok tt) node rest h = h
 done_as (Err (Refused e)) node rest h = h
 done_as (Err (Redirect path)) node rest h = h
@@ -53,7 +53,7 @@ renamed_by ties roots path (Some node) target rest h =
     kind (DeviceNode place) = done_as target (Device (ties.device place)) rest h
 
 -- the new name's directory has room, where it isn't the old name's
-room_apart : (same : Bool) (m n : ℕ) → m ≡ n
+pub room_apart : (same : Bool) (m n : ℕ) → m ≡ n
     → AnswersAs {A = Unit {0}} (cond same (Ok tt) (cond (nat_lt m 256) (Ok tt) (Err (Refused errno.TooMany)))) (refusal_if (not same && nat_le 256 n) errno.TooMany)
 room_apart true m n e = refl
 room_apart false m n e = room_by m n e
@@ -61,7 +61,7 @@ room_apart false m n e = room_by m n e
 target_by : (tree : Tree) (from at : Parts) (x part : List ℕ) → rename_target tree (from ++ x ∷ []) (at ++ part ∷ []) ≡ goes_on (walked tree [] at) (goes_on (freed (entry_in tree at part)) (cond (is_at from at) (Ok tt) (roomy tree at)))
 target_by tree from at x part =
     let path = at ++ part ∷ [] in
-    let some : (length path == 0) ≡ false = not_root path (let more = length-append at (part ∷ []) in omega arith) in
+    let some : (length path == 0) ≡ false = ne_eqb (length path) 0 (λ e. let more = length-append at (part ∷ []) in omega arith) in
     cond-false (length path == 0) _ _ some
     ∙ ap₂ (λ (d : Parts) (p : List ℕ). goes_on (walked tree [] d) (goes_on (freed (entry_in tree d p)) (cond (is_at (parent (from ++ x ∷ [])) d) (Ok tt) (roomy tree d)))) (above_is at part) (last_is at part)
     ∙ ap (λ (k : Parts). goes_on (walked tree [] at) (goes_on (freed (entry_in tree at part)) (cond (is_at k at) (Ok tt) (roomy tree at)))) (above_is from x)
@@ -186,7 +186,7 @@ once_listed tree at from part entry none once =
       | inr off ↦ subst (λ o. AreOnce (or_empty o)) (sym (given_other (is_at from) tree at more off)) (once from)
     ]
 
-named_plain : (ties : Ties) (roots : List Parts) (path : Parts) (node : Node) (x : UnixNode) → told ties roots path (Some x) ≡ Some (Named node) → plain ties x ≡ node
+pub named_plain : (ties : Ties) (roots : List Parts) (path : Parts) (node : Node) (x : UnixNode) → told ties roots path (Some x) ≡ Some (Named node) → plain ties x ≡ node
 named_plain ties roots path node x h = by (begins_domain roots path) h
   where
     by : (b : Bool) → (◌≡◌ {A = Option Entry} (Some (cond b (Link path) (Named (plain ties x)))) (Some (Named node))) → plain ties x ≡ node

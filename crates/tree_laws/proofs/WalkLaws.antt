@@ -1,6 +1,6 @@
 -- Paths with one part more, and walks along them.
-use Rattle.std.proofs.Common.{◌≡◌, ◌<◌, ◌-◌, ◌==◌, ℕ, Bool, true, false, cond, List, [], ◌∷◌, ◌++◌, length, take, drop, slice_get, Option, Some, None, Result, Ok, Err, inl, inr, ◌⊎◌, refl, sym, ap, ap₂, subst, ◌∙◌, arith, length-append, append_assoc, append-nil}
-use Rattle.std.proofs.lemmas.Bool.{true≢false, ne_eqb}
+use Rattle.std.proofs.Common.{◌≡◌, ◌-◌, ℕ, Bool, true, false, cond, List, [], ◌∷◌, ◌++◌, length, take, drop, slice_get, Option, Some, None, Result, Ok, Err, inl, inr, ◌⊎◌, refl, sym, ap, ap₂, subst, ◌∙◌, arith, length-append, append_assoc, append-nil}
+use Rattle.std.proofs.lemmas.Bool.{true≢false}
 use Rattle.std.proofs.Math.Seq.{take-append_seam}
 use Rattle.sprite_ids.specs.declared.Errno.{Errno}
 use Rattle.sprite_paths.specs.Path.{IsPrefix}
@@ -15,9 +15,6 @@ use Rattle.server_names.specs.declared.Entry.TheVariants.{Node as Named, Link}
 use Rattle.server_names.specs.Names.{Tree, goes_on, last_of, or_none, passed, walked}
 use Rattle.tree_laws.specs.Trees.{AreNames, IsOwn, Parts, Ties, plain, told}
 use Rattle.tree_laws.specs.Laws.{AnswersAs}
-
-pub not_root : (path : List (List ℕ)) → 0 < length path → (length path == 0) ≡ false
-not_root path h = ne_eqb (length path) 0 (λ e. omega arith)
 
 -- ---- paths with one part more
 

@@ -19,6 +19,7 @@ use Rattle.unix_calls.specs.Opening.{cut}
 use Rattle.server_names.proofs.FoundLaws.{path_is, path_itself}
 use Rattle.unix_frames.proofs.ChangeLaws.{Change, Itself, Freed, Doubled, EndedSo, Ticked, Born, WaitedFor, KilledSo, MadeDirectory, RemovedDirectory, Unlinked, Renamed, OpenedFile, OpenedDevice, CreatedFile, MadeDevice, MovedTo, Wrote, Handled}
 use Rattle.unix_frames.proofs.StepLaws.{Step, Calls, Asks, Fetches, Dies, entered}
+use Rattle.unix_frames.proofs.EntryLaws.{none_there, no_fact}
 use Rattle.tree_laws.specs.Trees.{Parts}
 use Rattle.tree_laws.specs.Wellnamed.{AreNamedWell, EntriesNameWell}
 use Rattle.tree_laws.proofs.WalkLaws.{above_is, walk_cons}
@@ -27,17 +28,9 @@ use Rattle.tree_laws.proofs.GoneLaws.{none_either, once_without, without_look}
 
 -- ---- refusals that aren't there
 
-first_none : (a b : Option Errno) → first_of a b ≡ None → (a ≡ None) × (b ≡ None)
+pub first_none : (a b : Option Errno) → first_of a b ≡ None → (a ≡ None) × (b ≡ None)
 first_none None b h = (refl, h)
 first_none (Some e) b h = absurd (cc)
-
-no_fact : (fact : Bool) (e : Errno) → refusal_if fact e ≡ None → fact ≡ false
-no_fact true e h = absurd (cc)
-no_fact false e h = refl
-
-nothing_there : (o : Option UnixNode) → is_some o ≡ false → o ≡ None
-nothing_there None h = refl
-nothing_there (Some node) h = absurd (true≢false h)
 
 -- ---- paths
 
@@ -68,7 +61,7 @@ walks_to nodes here (part ∷ rest) last there h =
 -- ---- one name more
 
 -- what stood there still does
-still_there : (n : NamedNode) (nodes : List NamedNode) (q : Parts) (node : UnixNode) → looked_up nodes n.path ≡ None → node_at nodes q ≡ Some node → node_at (with_name n nodes) q ≡ Some node
+pub still_there : (n : NamedNode) (nodes : List NamedNode) (q : Parts) (node : UnixNode) → looked_up nodes n.path ≡ None → node_at nodes q ≡ Some node → node_at (with_name n nodes) q ≡ Some node
 still_there n nodes [] node none h = h
 still_there n nodes (x ∷ q) node none h =
     elim (cases_Bool (same_path n.path (x ∷ q))) [
@@ -148,14 +141,14 @@ empty_childless : (nodes : List NamedNode) (path : Parts) (p : List ℕ) → nat
 empty_childless nodes path p h =
     elim (cases_Bool (is_some (node_at nodes (path ++ p ∷ [])))) [
       | inl some ↦ absurd (true≢false (sym (lt-ltb 0 (length (names_in nodes path)) (below_some nodes path p (ap (λ o. is_some o) (sym (node_is nodes path p)) ∙ some))) ∙ h))
-      | inr none ↦ nothing_there (node_at nodes (path ++ p ∷ [])) none
+      | inr none ↦ none_there (node_at nodes (path ++ p ∷ [])) none
     ]
 
 other_childless : (nodes : List NamedNode) (path : Parts) (p : List ℕ) → AreNamedWell nodes → a_directory (node_at nodes path) ≡ None → node_at nodes (path ++ p ∷ []) ≡ None
 other_childless nodes path p h no_directory =
     elim (cases_Bool (is_some (node_at nodes (path ++ p ∷ [])))) [
       | inl some ↦ absurd (let two : Some errno.IsDir ≡ None = sym (ap a_directory (h.hang path p some)) ∙ no_directory in cc)
-      | inr none ↦ nothing_there (node_at nodes (path ++ p ∷ [])) none
+      | inr none ↦ none_there (node_at nodes (path ++ p ∷ [])) none
     ]
 
 -- ---- a name that is renamed
@@ -183,7 +176,7 @@ fresh : (u : Unix) (path : Parts) → new_refusal u path ≡ None → (walk u.no
 fresh u path h =
     let one = first_none (walk u.nodes path) (first_of (refusal_if (is_some (node_at u.nodes path)) errno.Exists) (refusal_if (is_full u.nodes (above path)) errno.TooMany)) h in
     let two = first_none (refusal_if (is_some (node_at u.nodes path)) errno.Exists) (refusal_if (is_full u.nodes (above path)) errno.TooMany) one.1 in
-    (one.0, nothing_there (node_at u.nodes path) (no_fact (is_some (node_at u.nodes path)) errno.Exists two.0))
+    (one.0, none_there (node_at u.nodes path) (no_fact (is_some (node_at u.nodes path)) errno.Exists two.0))
 
 by_nodes : (later w : Unix) → later.nodes ≡ w.nodes → AreNamedWell w.nodes → AreNamedWell later.nodes
 by_nodes later w e h = subst AreNamedWell (sym e) h
@@ -230,7 +223,7 @@ changed_well u p called later (Renamed old new r is free still e) h =
         let f = first_none (a_directory stood) (first_of (walk u.nodes new) (first_of (refusal_if (is_some there) errno.Exists) room)) d.1 in
         let g = first_none (walk u.nodes new) (first_of (refusal_if (is_some there) errno.Exists) room) f.1 in
         let i = first_none (refusal_if (is_some there) errno.Exists) room g.1 in
-        renamed_well u.nodes old new node f.0 is g.0 (nothing_there there (no_fact (is_some there) errno.Exists i.0)) h
+        renamed_well u.nodes old new node f.0 is g.0 (none_there there (no_fact (is_some there) errno.Exists i.0)) h
 changed_well u p called later (OpenedFile path fd name truncates appends m r is found free leads e) h = by_nodes later u (ap (λ (x : Unix). x.nodes) e ∙ by truncates) h
   where
     by : (b : Bool) → (cut b name u).nodes ≡ u.nodes

@@ -123,7 +123,7 @@ pub record Makes (u : Unix) (p : Process) (called : Call) (o : Outcome) : Type 0
 alike : (p : Process) → Alike p p
 alike p = record { pid = refl; parent = refl; ending = refl; waited = refl; killed = refl }
 
-still_replied : (c : Description) (p : Process) (reply : Reply) → Still p (replied c p reply)
+pub still_replied : (c : Description) (p : Process) (reply : Reply) → Still p (replied c p reply)
 still_replied c p reply = record { alike = record { pid = refl; parent = refl; ending = refl; waited = refl; killed = refl }; descriptors = refl }
 
 made_refuses : (c : Description) (u : Unix) (p : Process) (called : Call) (e : Errno) → Makes u p called (refuses c u p e)
@@ -186,7 +186,7 @@ made_rexec c u p called name (Some program) =
     made_unless c u p called (move_refusal c u p name) _
     (λ e. record { does = Itself (record p { image = fresh_machine program 0; calls = p.calls + 1 }) (record { alike = record { pid = refl; parent = refl; ending = refl; waited = refl; killed = refl }; descriptors = refl }) refl })
 
-each_among : (ps : List Process) → AllByRecursion (λ (q : Process). IsAmong q ps) ps
+pub each_among : (ps : List Process) → AllByRecursion (λ (q : Process). IsAmong q ps) ps
 each_among [] = tt
 each_among (p ∷ ps) = (inl refl, each_weaken (λ (q : Process). IsAmong q ps) (λ (q : Process). IsAmong q (p ∷ ps)) ps (λ q h. inr h) (each_among ps))
 

@@ -2,7 +2,7 @@
 use Rattle.std.proofs.Common.{◌≡◌, ℕ, ◌+◌, Bool, true, false, ◌&&◌, not, cond, Option, Some, None, refl, sym, ap, ◌∙◌}
 use Rattle.std.specs.Prelude.{◌==◌}
 use Rattle.std.specs.Option.{option_map, option_and_then, is_some}
-use Rattle.std.proofs.lemmas.Bool.{true≢false, eqb-true}
+use Rattle.std.proofs.lemmas.Bool.{true≢false, eqb-true, not-true, and_parts}
 use Rattle.sprite_ids.specs.declared.Errno.{Errno}
 use Rattle.sprite_ids.specs.declared.Ending.TheVariants as ending
 use Rattle.sprite_ids.proofs.ListLaws.{some_is}
@@ -24,6 +24,7 @@ use Rattle.unix_calls.specs.DeviceCalls.{answer_for}
 use Rattle.unix_calls.specs.Same.{same_call, same_reply}
 use Rattle.unix_calls.specs.After.{after, after_ask, after_living, after_of, after_part, after_whole, answer_due, asked, at_image, at_program, counted, done_at, done_with, failed, fetched, is_death, is_death_part, may_fail, next_is, outcome, with_reply}
 use Rattle.unix_calls.proofs.SameLaws.{call_is, reply_is}
+use Rattle.unix_calls.specs.NameCalls.{refusal_if}
 
 -- the entry's process lives, its next call has the entry's number and is the entry's, and q is it with its image at that call
 pub record IsAt (c : Description) (u : Unix) (e : Entry) (q : Process) (called : Call) : Type 0 where
@@ -73,6 +74,10 @@ led_reply c u e q called Waits reply is at whole given idle = led_failed c u e q
 pub none_there : {A : Type 0} (o : Option A) → is_some o ≡ false → o ≡ None
 none_there None h = refl
 none_there (Some x) h = absurd (true≢false h)
+
+pub no_fact : (fact : Bool) (e : Errno) → refusal_if fact e ≡ None → fact ≡ false
+no_fact true e h = absurd (cc)
+no_fact false e h = refl
 
 led_whole : (c : Description) (u : Unix) (e : Entry) (q : Process) (called : Call) (reply : Reply) → IsAt c u e q called → e.part ≡ part.Whole → e.reply ≡ Some reply → Led c u e (after_whole c (with_process q u) q called reply)
 led_whole c u e q called reply at whole given = by (is_some q.asking) refl
@@ -166,24 +171,12 @@ death_is part.Whole reply h = absurd (true≢false (sym h))
 death_is part.Ask reply h = absurd (true≢false (sym h))
 death_is part.Done reply h = absurd (true≢false (sym h))
 
-pub both_left : (a b : Bool) → (a && b) ≡ true → a ≡ true
-both_left true b h = refl
-both_left false b h = absurd (true≢false (sym h))
-
-pub both_right : (a b : Bool) → (a && b) ≡ true → b ≡ true
-both_right true b h = h
-both_right false b h = absurd (true≢false (sym h))
-
-pub not_so : (b : Bool) → not b ≡ true → b ≡ false
-not_so true h = absurd (true≢false (sym h))
-not_so false h = refl
-
 led_living : (c : Description) (u : Unix) (e : Entry) (p : Process) (claimed : Option Call) → process_at u.processes e.pid ≡ Some p → lives p ≡ true → e.call ≡ claimed → Led c u e (after_living c u p e claimed)
 led_living c u e p None there alive is =
     led_if c u e (is_death e) _
     (λ dead. let d = death_is e.part e.reply dead in
     led_if c u e (p.killed && not (is_some p.asking)) _
-    (λ may. There _ (Dies p there alive (both_left p.killed (not (is_some p.asking)) may) (none_there p.asking (not_so (is_some p.asking) (both_right p.killed (not (is_some p.asking)) may))) d.kind_is is d.reply_is refl)))
+    (λ may. There _ (Dies p there alive (and_parts p.killed (not (is_some p.asking)) may).0 (none_there p.asking (not-true (is_some p.asking) (and_parts p.killed (not (is_some p.asking)) may).1)) d.kind_is is d.reply_is refl)))
 led_living c u e p (Some claimed) there alive is =
     led_if c u e (e.number == p.calls + 1) _
     (λ number. led_program c u e p claimed (program_at c.programs p.image.number) refl there alive is (eqb-true e.number (p.calls + 1) number))

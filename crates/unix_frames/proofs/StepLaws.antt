@@ -1,5 +1,5 @@
 -- An entry is a call that makes a change, an ask, a done or a death.
-use Rattle.std.proofs.Common.{◌≡◌, ℕ, true, Some, None, refl, subst}
+use Rattle.std.proofs.Common.{◌≡◌, ℕ, true, Some, None, subst}
 use Rattle.sprite_ids.specs.declared.Ending.TheVariants as ending
 use Rattle.process_machine.specs.declared.call.Call.{Call}
 use Rattle.process_machine.specs.declared.call.Reply.{Reply}
@@ -13,7 +13,7 @@ use Rattle.unix_calls.specs.declared.state.Process.{Process}
 use Rattle.unix_calls.specs.State.{Unix, device_at, lives, no_descriptors, process_at, with_process}
 use Rattle.unix_calls.specs.Answers.{replied}
 use Rattle.unix_calls.specs.After.{after, asked, counted, fetched}
-use Rattle.unix_frames.proofs.ChangeLaws.{Change, Itself, Makes, Still, made_outcome}
+use Rattle.unix_frames.proofs.ChangeLaws.{Change, Itself, Makes, made_outcome, still_replied}
 use Rattle.unix_frames.proofs.EntryLaws.{Enters, IsAt, opened}
 use Rattle.unix_frames.proofs.EntryLaws as entry
 
@@ -35,15 +35,12 @@ pub data Step (c : Description) (u : Unix) (e : Entry) (later : Unix) : Type 0 w
 at_of : (c : Description) (u : Unix) (e : Entry) (q : Process) (called : Call) → IsAt c u e q called → At u e.pid q
 at_of c u e q called at = record { before = at.before; image = at.image; there = at.there; alive = at.alive; whole = at.whole }
 
-still_failed : (c : Description) (q : Process) (reply : Reply) → Still q (replied c q reply)
-still_failed c q reply = record { alike = record { pid = refl; parent = refl; ending = refl; waited = refl; killed = refl }; descriptors = refl }
-
 -- what makes an entry one of the one-kernel Unix tells what it does
 step_of : (c : Description) (u : Unix) (e : Entry) (later : Unix) → Enters c u e later → Step c u e later
 step_of c u e later (entry.Answers q called reply at whole given idle is) =
     Calls q called (at_of c u e q called at) at.claimed whole (subst (Makes (with_process q u) q called) is (made_outcome c (with_process q u) q called)).does
 step_of c u e later (entry.Fails q called error at whole given idle may is) =
-    Calls q called (at_of c u e q called at) at.claimed whole (Itself (replied c q (Error error)) (still_failed c q (Error error)) is)
+    Calls q called (at_of c u e q called at) at.claimed whole (Itself (replied c q (Error error)) (still_replied c q (Error error)) is)
 step_of c u e later (entry.Asks q called place device at ask given idle goes there is) = Asks q called place device (at_of c u e q called at) at.claimed ask there is
 step_of c u e later (entry.Fetches q called place device reply at done given busy there due is) = Fetches q called device reply (at_of c u e q called at) at.claimed done is
 step_of c u e later (entry.Dies p there alive killed idle death none given is) = Dies p there alive none death is

@@ -1,8 +1,9 @@
 -- Each process's home is a client.
-use Rattle.std.proofs.Common.{◌≡◌, ◌≤◌, ◌<◌, ◌+◌, ℕ, Bool, true, false, ◌&&◌, cond, List, [], ◌∷◌, length, Option, Some, None, refl, sym, ap, ◌∙◌, arith}
+use Rattle.std.proofs.Common.{◌≡◌, ◌≤◌, ◌+◌, ℕ, Bool, true, ◌&&◌, List, [], ◌∷◌, length, Option, Some, None, sym, ap, ◌∙◌, arith}
 use Rattle.std.specs.Prelude.{◌==◌, nat_lt, ◌^◌}
 use Rattle.std.specs.List.{AllByRecursion, list_all}
 use Rattle.std.proofs.lemmas.List.Sums.{count_by-le-length}
+use Rattle.std.proofs.lemmas.Bool.{and_parts}
 use Rattle.sprite_ids.specs.Pid.{home_of}
 use Rattle.process_machine.specs.declared.program.Program.{Program}
 use Rattle.process_machine.specs.Fresh.{fresh_machine}
@@ -22,7 +23,7 @@ use Rattle.unix_calls.proofs.HistoryLaws.{kept}
 use Rattle.unix_calls.proofs.LawfulLaws.{lawful_begins_within}
 use Rattle.unix_frames.proofs.OrderLaws.{length_put, next_home}
 use Rattle.unix_laws.specs.Clients.{ProcessesAreOfClients}
-use Rattle.unix_frames.proofs.EntryLaws.{both_left, both_right, opened}
+use Rattle.unix_frames.proofs.EntryLaws.{opened}
 use Rattle.unix_laws.proofs.SpreadLaws.{Doubles, Frees, Keeps, Opens, Own, Spreads, Stops, enters_each}
 
 abbrev IsOfClient : Description → Process → Type 0
@@ -55,13 +56,13 @@ started_clients c ps [] few fit h = h
 started_clients c ps (line ∷ lines) few fit h = by (program_at c.programs line.program) (λ qs. started_clients c qs lines)
   where
     first : is_start c line ≡ true
-    first = both_left (is_start c line) (list_all (is_start c) lines) fit
+    first = (and_parts (is_start c line) (list_all (is_start c) lines) fit).0
 
     has_program : Bool
     has_program = holds (λ (line : ProgramLine). true) (numbered c.programs line.program)
 
     host : is_client_at c.kernels line.host ≡ true
-    host = both_left (is_client_at c.kernels line.host) has_program (both_left (is_client_at c.kernels line.host && has_program) (nat_lt line.arg (2 ^ 63)) first)
+    host = (and_parts (is_client_at c.kernels line.host) has_program (and_parts (is_client_at c.kernels line.host && has_program) (nat_lt line.arg (2 ^ 63)) first).0).0
 
     count : births ps line.host ≤ length ps
     count = count_by-le-length (λ (p : Process). home_of p.pid == line.host) ps
@@ -70,10 +71,10 @@ started_clients c ps (line ∷ lines) few fit h = by (program_at c.programs line
     home = next_home line.host (births ps line.host) (omega (arith, few, count))
 
     by : (found : Option Program) → ((qs : List Process) → length qs + length lines ≤ 200 → list_all (is_start c) lines ≡ true → AllByRecursion (IsOfClient c) qs → AllByRecursion (IsOfClient c) (started c.programs qs lines)) → AllByRecursion (IsOfClient c) (started c.programs (started_by line ps found) lines)
-    by None rest = rest ps (omega (arith, few)) (both_right (is_start c line) (list_all (is_start c) lines) fit) h
+    by None rest = rest ps (omega (arith, few)) (and_parts (is_start c line) (list_all (is_start c) lines) fit).1 h
     by (Some program) rest =
         let new = new_process (next_pid ps line.host) (fresh_machine program line.arg) in
-        rest (put_process new ps) (omega (arith, few, length_put new ps)) (both_right (is_start c line) (list_all (is_start c) lines) fit)
+        rest (put_process new ps) (omega (arith, few, length_put new ps)) (and_parts (is_start c line) (list_all (is_start c) lines) fit).1
         (each_put (IsOfClient c) new ps (ap (is_client_at c.kernels) home ∙ host) h)
 
 pub processes_are_of_clients : ProcessesAreOfClients

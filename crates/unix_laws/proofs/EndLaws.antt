@@ -3,7 +3,7 @@ use Rattle.std.proofs.Common.{◌≡◌, ℕ, Bool, true, false, ◌&&◌, ◌||
 use Rattle.std.specs.Prelude.{◌==◌}
 use Rattle.std.specs.List.{AllByRecursion, list_any}
 use Rattle.std.specs.Option.{is_some, option_map}
-use Rattle.std.proofs.lemmas.Bool.{true≢false, eq-eqb, ne_eqb}
+use Rattle.std.proofs.lemmas.Bool.{true≢false, eq-eqb, ne_eqb, and_parts}
 use Rattle.sprite_ids.specs.declared.Ending.{Ending}
 use Rattle.sprite_ids.specs.declared.Ending.TheVariants as ending
 use Rattle.sprite_ids.specs.declared.Errno.{Errno}
@@ -23,7 +23,7 @@ use Rattle.unix_calls.specs.Laws.{is_last, is_last_call, is_last_part}
 use Rattle.unix_calls.proofs.ProcessLaws.{Ascending, Behind, Compared, Same, Less, More, at_other, compared, found_each, found_pid, put_again, put_more, put_others, put_same, put_there}
 use Rattle.unix_frames.proofs.FrameLaws.{numbered_of}
 use Rattle.unix_laws.specs.Ends.{DeathsTakeAway, DiesInFull, EndsInFull, EndsTakeAway, KilledMayDie}
-use Rattle.unix_frames.proofs.EntryLaws.{Answers, Asks, Dies, Enters, Fails, Fetches, IsAt, both_right, opened}
+use Rattle.unix_frames.proofs.EntryLaws.{Answers, Asks, Dies, Enters, Fails, Fetches, IsAt, opened}
 
 -- ---- masters behind an end
 
@@ -79,7 +79,7 @@ last_sure q _ last = absurd (true≢false (sym last))
 
 sure_fails : (q : Process) (called : Call) (error : Errno) → Sure q called → may_fail q called error ≡ true → ⊥
 sure_fails q called errno.Unreachable sure may = true≢false (sym may ∙ sure.miss)
-sure_fails q called errno.Interrupted sure may = true≢false (sym (both_right q.killed (may_break called) may) ∙ sure.break)
+sure_fails q called errno.Interrupted sure may = true≢false (sym (and_parts q.killed (may_break called) may).1 ∙ sure.break)
 sure_fails q called _ sure may = true≢false (sym may)
 
 -- one that has ended takes its process's place

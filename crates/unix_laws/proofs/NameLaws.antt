@@ -1,10 +1,10 @@
 -- A file and a device has one name at most.
-use Rattle.std.proofs.Common.{◌≡◌, ◌<◌, ◌+◌, ℕ, Bool, true, false, not, cond, List, [], ◌∷◌, ◌++◌, filter, Some, refl, sym, ap, subst, ◌∙◌, arith, inl, inr}
-use Rattle.std.specs.Prelude.{◌==◌}
+use Rattle.std.proofs.Common.{◌≡◌, ◌<◌, ◌+◌, ℕ, Bool, true, false, not, cond, List, [], ◌∷◌, ◌++◌, filter, Some, refl, sym, ap, subst, ◌∙◌, arith, rules, tests}
 use Rattle.std.specs.List.{AllByRecursion}
 use Rattle.std.specs.Option.{is_some}
-use Rattle.std.proofs.lemmas.Bool.{cases_Bool, true≢false, eqb-true, eq-eqb, ne_eqb}
+use Rattle.std.proofs.lemmas.Bool.{true≢false, ne_eqb}
 use Rattle.std.specs.Cmp.Lexicographic.{pointwise_decides, bytes_decides}
+use Rattle.std.proofs.lemmas.Bool.Decides.{eqb_tells}
 use Rattle.sprite_ids.proofs.ListLaws.{each_filter, each_weaken}
 use Rattle.unix_calls.specs.declared.Description.{Description}
 use Rattle.unix_calls.specs.declared.Entry.{Entry}
@@ -27,16 +27,9 @@ use Rattle.unix_laws.proofs.BootLaws.{boot_each}
 
 -- ---- sameness
 
-sym_eq : (a b : ℕ) → (a == b) ≡ (b == a)
-sym_eq a b =
-    elim (cases_Bool (a == b)) [
-      | inl same ↦ same ∙ sym (eq-eqb b a (sym (eqb-true a b same)))
-      | inr off ↦ off ∙ sym (ne_eqb b a (λ same. true≢false (sym (eq-eqb a b (sym same)) ∙ off)))
-    ]
-
 sym_file : (a b : FileName) → same_file a b ≡ same_file b a
-sym_file (Boot i) (Boot j) = sym_eq i j
-sym_file (Made i) (Made j) = sym_eq i j
+sym_file (Boot i) (Boot j) = search (rules, tests, eqb_tells i j, eqb_tells j i)
+sym_file (Made i) (Made j) = search (rules, tests, eqb_tells i j, eqb_tells j i)
 sym_file (Boot i) (Made j) = refl
 sym_file (Made i) (Boot j) = refl
 
@@ -49,7 +42,7 @@ sym_thing (FileNode name) (FileNode other) = sym_file name other
 sym_thing (FileNode name) (DeviceNode place) = refl
 sym_thing (DeviceNode place) Directory = refl
 sym_thing (DeviceNode place) (FileNode name) = refl
-sym_thing (DeviceNode place) (DeviceNode other) = sym_eq place other
+sym_thing (DeviceNode place) (DeviceNode other) = search (rules, tests, eqb_tells place other, eqb_tells other place)
 
 abbrev Differs : Node → Named → Type 0
 Differs node n = same_thing node n.node ≡ false

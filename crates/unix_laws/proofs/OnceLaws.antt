@@ -3,7 +3,7 @@ use Rattle.std.proofs.Common.{◌≡◌, ◌≢◌, ◌≤◌, ◌+◌, ℕ, Boo
 use Rattle.std.specs.Prelude.{◌⊎◌, ◌==◌}
 use Rattle.std.specs.List.{AllByRecursion, list_any}
 use Rattle.std.specs.Option.{is_some}
-use Rattle.std.proofs.lemmas.Bool.{cases_Bool, true≢false, eqb-true, eq-eqb, ne_eqb}
+use Rattle.std.proofs.lemmas.Bool.{cases_Bool, true≢false, eqb-true, eq-eqb, ne_eqb, or_parts}
 use Rattle.sprite_ids.specs.Pid.{home_of}
 use Rattle.sprite_ids.proofs.ListLaws.{each_weaken, some_is}
 use Rattle.process_machine.specs.declared.call.Call.{Call}
@@ -30,7 +30,7 @@ use Rattle.unix_frames.proofs.FrameLaws.{leaves_by}
 use Rattle.unix_laws.specs.Asks.{Fetches, Leaves, Moves, Queues, Stays, Takes, ask_in, answered_of, asking_of, hand, is_ask, is_inside, is_master_in, line_of, made_by}
 use Rattle.unix_laws.specs.Once.{AsksAreAnsweredOnce, AsksStandOnce, TheDeadStayDead, answers_of, asks_of, inside_of}
 use Rattle.unix_laws.specs.Streams.{is_living_holder, leads_to}
-use Rattle.unix_frames.proofs.EntryLaws.{Answers, Asks, Dies, Enters, Fails, IsAt, none_there, opened}
+use Rattle.unix_frames.proofs.EntryLaws.{Answers, Asks, Dies, Enters, Fails, IsAt, opened}
 use Rattle.unix_frames.proofs.EntryLaws as entry
 use Rattle.unix_laws.proofs.AnswerLaws.{said}
 use Rattle.unix_laws.proofs.ReplyLaws.{Answer as Told, each_call}
@@ -39,19 +39,11 @@ use Rattle.unix_laws.proofs.StreamLaws.{Each, IsBare, IsFree, Sound, alive_same,
 use Rattle.unix_laws.proofs.BootLaws.{boot_processes}
 use Rattle.unix_laws.proofs.DeviceLaws.{GoesOn, answers_in, device_place, enters_none, enters_on}
 
-or_left : (a b : Bool) → (a || b) ≡ false → a ≡ false
-or_left true b h = absurd (true≢false h)
-or_left false b h = refl
-
-or_right : (a b : Bool) → (a || b) ≡ false → b ≡ false
-or_right true b h = absurd (true≢false h)
-or_right false b h = h
-
 -- ---- the dead stay dead
 
 all_false : (test : Process → Bool) (ps : List Process) → list_any test ps ≡ false → AllByRecursion (λ (p : Process). test p ≡ false) ps
 all_false test [] h = tt
-all_false test (p ∷ ps) h = (or_left (test p) (list_any test ps) h, all_false test ps (or_right (test p) (list_any test ps) h))
+all_false test (p ∷ ps) h = ((or_parts (test p) (list_any test ps) h).0, all_false test ps (or_parts (test p) (list_any test ps) h).1)
 
 -- a descriptor leads elsewhere
 abbrev LeadsOn : ℕ → ℕ → Option ℕ → Type 0
@@ -59,7 +51,7 @@ LeadsOn place home d = leads_to place d ≡ false
 
 none_leads : (place : ℕ) (ds : List (Option ℕ)) → list_any (leads_to place) ds ≡ false → (home : ℕ) → AllByRecursion (LeadsOn place home) ds
 none_leads place [] h home = tt
-none_leads place (d ∷ ds) h home = (or_left (leads_to place d) (list_any (leads_to place) ds) h, none_leads place ds (or_right (leads_to place d) (list_any (leads_to place) ds) h) home)
+none_leads place (d ∷ ds) h home = ((or_parts (leads_to place d) (list_any (leads_to place) ds) h).0, none_leads place ds (or_parts (leads_to place d) (list_any (leads_to place) ds) h).1 home)
 
 leads_none : (place home : ℕ) (ds : List (Option ℕ)) → AllByRecursion (LeadsOn place home) ds → list_any (leads_to place) ds ≡ false
 leads_none place home [] h = refl
@@ -197,13 +189,13 @@ any_again_by : (test : Process → Bool) (q p x : Process) (ps : List Process) �
 any_again_by test q p x ps (Same e) same there h rest =
     let both : (test q || list_any test ps) ≡ false = sym (ap (list_any test) (put_same q x ps e)) ∙ h in
     let is : x ≡ p = some_is x p (sym (at_same x ps q.pid (sym e)) ∙ there) in
-    ap₂ (λ a b. a || b) (ap test is ∙ sym same ∙ or_left (test q) (list_any test ps) both) (or_right (test q) (list_any test ps) both)
+    ap₂ (λ a b. a || b) (ap test is ∙ sym same ∙ (or_parts (test q) (list_any test ps) both).0) (or_parts (test q) (list_any test ps) both).1
 any_again_by test q p x ps (Less e) same there h rest =
-    or_right (test q) (list_any test (x ∷ ps)) (sym (ap (list_any test) (put_less q x ps e)) ∙ h)
+    (or_parts (test q) (list_any test (x ∷ ps)) (sym (ap (list_any test) (put_less q x ps e)) ∙ h)).1
 any_again_by test q p x ps (More e) same there h rest =
     let both : (test x || list_any test (put_process q ps)) ≡ false = sym (ap (list_any test) (put_more q x ps e)) ∙ h in
     let further : process_at ps q.pid ≡ Some p = sym (at_other x ps q.pid (λ (other : x.pid ≡ q.pid). omega (arith, other, e))) ∙ there in
-    ap₂ (λ a b. a || b) (or_left (test x) (list_any test (put_process q ps)) both) (rest further (or_right (test x) (list_any test (put_process q ps)) both))
+    ap₂ (λ a b. a || b) (or_parts (test x) (list_any test (put_process q ps)) both).0 (rest further (or_parts (test x) (list_any test (put_process q ps)) both).1)
 
 any_again : (test : Process → Bool) (q p : Process) (ps : List Process) → test q ≡ test p → process_at ps q.pid ≡ Some p → list_any test (put_process q ps) ≡ false → list_any test ps ≡ false
 any_again test q p [] same there h = absurd (cc)

@@ -2,7 +2,7 @@
 use Rattle.std.proofs.Common.{◌≡◌, ◌≤◌, ◌+◌, ◌==◌, ℕ, zero, suc, Bool, true, false, ◌&&◌, ◌||◌, not, cond, List, [], ◌∷◌, ◌++◌, length, take, drop, nat_le, nat_lt, Option, Some, None, refl, sym, ap, subst, ◌∙◌, arith}
 use Rattle.std.specs.Prelude.{slice_set}
 use Rattle.std.specs.Option.{is_some}
-use Rattle.std.proofs.lemmas.Bool.{true≢false, eq-eqb, ltb-false}
+use Rattle.std.proofs.lemmas.Bool.{true≢false, eq-eqb, ltb-false, and_parts}
 use Rattle.sprite_ids.specs.Pid.{home_of}
 use Rattle.sprite_ids.specs.Errno.{errno_number}
 use Rattle.sprite_ids.specs.declared.Ending.TheVariants as ending
@@ -41,7 +41,7 @@ use Rattle.unix_calls.specs.StreamCalls.{begins_at, dup_at, read_object, read_st
 use Rattle.unix_calls.specs.DeviceCalls.{answer_of, asked_bytes, get_from, ioctl_object, put_to, puts, takes_first}
 use Rattle.unix_calls.specs.After.{may_break, may_fail, may_miss, outcome}
 use Rattle.unix_laws.specs.Replies.{Fits, RepliesFit, may_refuse}
-use Rattle.unix_frames.proofs.EntryLaws.{Answers, Asks, Dies, Enters, Fails, Fetches, both_right, opened}
+use Rattle.unix_frames.proofs.EntryLaws.{Answers, Asks, Dies, Enters, Fails, Fetches, opened, no_fact}
 use Rattle.unix_laws.proofs.AnswerLaws.{Only, Refuses, Says, only_a_directory, only_first, only_if, only_missing, only_no_directory, only_none, only_some, only_walk, said, says_at_master, says_at_path, says_at_stream, says_if, says_refuses, says_unless, says_with_file}
 
 -- the reply fits the call, and its caller is put last, in no ask where it was in none
@@ -146,10 +146,6 @@ so_rename c u p one two old new =
 first_none : (a b : Option Errno) → first_of a b ≡ None → b ≡ None
 first_none None b h = h
 first_none (Some e) b h = absurd (cc)
-
-no_fact : (fact : Bool) (e : Errno) → refusal_if fact e ≡ None → fact ≡ false
-no_fact true e h = absurd (cc)
-no_fact false e h = refl
 
 so_list : (c : Description) (u : Unix) (p : Process) (text : List ℕ) (path : List (List ℕ)) (max : ℕ) → Says (Answer (call.List text max) p) (list c u p path max)
 so_list c u p text path max =
@@ -334,7 +330,7 @@ breaks _ h = absurd (true≢false (sym h))
 
 fails_so : (q : Process) (called : Call) (error : Errno) → may_fail q called error ≡ true → may_refuse called error ≡ true
 fails_so q called errno.Unreachable may = misses q called may
-fails_so q called errno.Interrupted may = breaks called (both_right q.killed (may_break called) may)
+fails_so q called errno.Interrupted may = breaks called (and_parts q.killed (may_break called) may).1
 fails_so q called _ may = absurd (true≢false (sym may))
 
 enters_fits : (c : Description) (u later : Unix) (e : Entry) (called : Call) (reply : Reply) → e.part ≡ part.Whole → e.call ≡ Some called → e.reply ≡ Some reply → Enters c u e later → Fits called reply

@@ -1,9 +1,9 @@
 -- Which streams and devices are there, who holds a stream, and who is a device's master.
-use Rattle.std.proofs.Common.{◌≡◌, ◌≢◌, ◌≤◌, ◌<◌, ◌+◌, ℕ, Bool, true, false, ◌&&◌, ◌||◌, not, cond, List, [], ◌∷◌, ◌++◌, Option, Some, None, refl, sym, ap, ap₂, subst, ◌∙◌, arith, inl, inr}
+use Rattle.std.proofs.Common.{◌≡◌, ◌≢◌, ◌≤◌, ◌<◌, ◌+◌, ℕ, Bool, true, false, ◌&&◌, ◌||◌, not, cond, List, [], ◌∷◌, Option, Some, None, refl, sym, ap, ap₂, subst, ◌∙◌, arith, inl, inr}
 use Rattle.std.specs.Prelude.{◌⊎◌, ◌==◌, slice_get, slice_set}
 use Rattle.std.specs.List.{AllByRecursion, list_any}
 use Rattle.std.specs.Option.{is_some, option_map, option_and_then}
-use Rattle.std.proofs.lemmas.Bool.{cases_Bool, true≢false, eqb-true, eq-eqb, ne_eqb}
+use Rattle.std.proofs.lemmas.Bool.{cases_Bool, true≢false, eqb-true, eq-eqb, ne_eqb, or_left}
 use Rattle.sprite_ids.specs.Pid.{home_of}
 use Rattle.sprite_ids.proofs.ListLaws.{each_get, each_replicate, each_set, each_weaken}
 use Rattle.unix_calls.specs.declared.Description.{Description}
@@ -119,10 +119,6 @@ beside : (a b : Bool) → (a || (b && false)) ≡ a
 beside true b = refl
 beside false true = refl
 beside false false = refl
-
-or_left : (a b : Bool) → a ≡ true → (a || b) ≡ true
-or_left true b h = refl
-or_left false b h = absurd (true≢false (sym h))
 
 -- the shape behind a new stream
 new_shape : (objects later : ℕ → Option Object) (devices made : ℕ → Bool) (nodes : List Named) (entries : ℕ) (object : Object) → IsFit nodes entries object → AllByRecursion (λ (n : Named). IsThere devices n.node) nodes

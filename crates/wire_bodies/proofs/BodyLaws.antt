@@ -1,7 +1,7 @@
 -- Each call of the wire keeps what remote calls ask.
 use Rattle.std.proofs.Common.{arith, ◌≡◌, ℕ, ◌+◌, ◌≤◌, ◌==◌, Bool, true, false, cond, List, [], ◌∷◌, ◌++◌, Option, Some, None, refl, sym, ap, ◌∙◌}
 use Rattle.std.specs.List.{find}
-use Rattle.std.proofs.lemmas.Bool.Decides.{nat_tests}
+use Rattle.std.proofs.lemmas.Bool.{ne_eqb}
 use Rattle.sprite_ids.specs.declared.TxNo.{TxNo}
 use Rattle.sprite_ids.specs.Lists.{changed, less}
 use Rattle.sprite_ids.proofs.OnceLaws.{nothing_found}
@@ -103,13 +103,10 @@ answered_stays : (o : Option Call) (tx : TxNo) (body : List ℕ) (given : Fate) 
 answered_stays None tx body given machine new same is = stays_changed machine new (is_call tx) (answered body) (λ call. refl) (λ call. refl) same is
 answered_stays (Some call) tx body given machine new same is = stays_changed machine new (is_call tx) (answered body) (λ call. refl) (λ call. refl) same is
 
-new_apart : (begun tx : ℕ) → tx ≤ begun → (begun + 1 == tx) ≡ false
-new_apart begun tx low = grind (arith, nat_tests)
-
 pub after_stays : (machine : Machine) (act : Act) → Ordered machine → KeepsBodies machine (after machine act)
 after_stays machine (Begin from port servers owner body tries about before sent) h =
     let new : Call = new_call machine from port servers owner body tries about before in
-    record { more = omega arith; same = λ tx request low e. sym (body_pushed tx new machine.unfinished (new_apart machine.begun tx.0 low)) ∙ e }
+    record { more = omega arith; same = λ tx request low e. sym (body_pushed tx new machine.unfinished (ne_eqb (machine.begun + 1) tx.0 (λ same. omega arith))) ∙ e }
 after_stays machine (Deliver number given) h = delivered_stays (copy_of machine number) given machine h
 after_stays machine (Answer tx body given) h = answered_stays (call_of machine tx) tx body given machine (after machine (Answer tx body given)) refl refl
 after_stays machine (Silence tx kernel) h = stays_changed machine (after machine (Silence tx kernel)) (is_call tx) (further kernel Silent) (λ call. refl) (λ call. refl) refl refl

@@ -1,6 +1,6 @@
 -- Eight packets of a call were lost before it is given up.
-use Rattle.std.proofs.Common.{arith, ◌≡◌, ℕ, ◌+◌, ◌≤◌, ◌==◌, Bool, true, false, ◌&&◌, ◌||◌, cond, List, [], ◌∷◌, Option, Some, None, refl, sym, ap, subst, ◌∙◌}
-use Rattle.std.proofs.lemmas.Bool.{eqb-true}
+use Rattle.std.proofs.Common.{arith, ◌≡◌, ℕ, ◌+◌, ◌≤◌, ◌==◌, Bool, true, false, ◌&&◌, ◌||◌, cond, List, [], ◌∷◌, Option, Some, None, refl, ap, subst}
+use Rattle.std.proofs.lemmas.Bool.{eqb-true, and_parts}
 use Rattle.sprite_ids.specs.declared.TxNo.{TxNo}
 use Rattle.link_plan.specs.declared.Fate.{Fate}
 use Rattle.kernel_rpc.specs.declared.call.Call.{Call}
@@ -48,13 +48,9 @@ counted (Expire key sent) before lost count machine old new tx may due h =
     let owner = owner_of (call_of machine key) in
     counted_fire (key.0 == tx) (lost tx) (times_expired tx before) (count tx) (lost_to owner sent) (loses_to owner sent) (fires_lost lost machine key tx due may.0) h (some_lost owner sent)
 
-both_first : (a b : Bool) → (a && b) ≡ true → a ≡ true
-both_first true b e = refl
-both_first false b e = absurd (cc)
-
 number_given_up : (tx : ℕ) (key : TxNo) (o : Option Call) → gives_up_by tx key o ≡ true → (key.0 == tx) ≡ true
 number_given_up tx key None e = absurd (cc)
-number_given_up tx key (Some call) e = both_first (key.0 == tx) (is_last call) e
+number_given_up tx key (Some call) e = (and_parts (key.0 == tx) (is_last call) e).0
 
 given_up_lost : (act : Act) (lost : ℕ → Bool) (machine : Machine) (old new : Counts) (tx : ℕ) → MayAct machine old act new → IsLostWhereDue lost machine → gives_up tx machine act ≡ true → lost tx ≡ true
 given_up_lost (Begin from port servers owner body tries about first sent) lost machine old new tx may due e = absurd (cc)
