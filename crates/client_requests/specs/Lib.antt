@@ -1,0 +1,4 @@
+pub mod Kept
+pub mod Rows
+pub mod Requests
+pub mod Owed

@@ -1,0 +1,4 @@
+pub mod EndLaws
+pub mod ServedLaws
+pub mod StepLaws
+pub mod CallbackLaws
