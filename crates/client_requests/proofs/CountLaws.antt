@@ -1,15 +1,14 @@
 -- Rows that are counted, and how the counts may go on: no more is kept, no answer is taken back, and what isn't kept any more is answered.
-use Rattle.std.proofs.Common.{arith, ◌≡◌, ℕ, ◌+◌, ◌≤◌, Bool, true, false, cond, List, [], ◌∷◌, ◌++◌, Option, Some, None, option_map, refl, sym, ap, ◌∙◌, subst}
+use Rattle.std.proofs.Common.{arith, ◌≡◌, ℕ, ◌+◌, ◌≤◌, Bool, true, false, cond, List, [], ◌∷◌, ◌++◌, Option, Some, None, option_map, refl}
 use Rattle.std.specs.List.{find}
-use Rattle.sprite_ids.specs.Lists.{less, one_if, total}
+use Rattle.sprite_ids.specs.Lists.{less, total}
 use Rattle.sprite_ids.specs.declared.TxNo.{TxNo}
-use Rattle.sprite_ids.proofs.ListLaws.{some_is}
 use Rattle.kernel_steps.specs.Rows.{first_under, is_under}
 use Rattle.packet_bodies.specs.declared.ReplyBody.{ReplyBody}
 use Rattle.unix_calls.specs.declared.About.{About}
 use Rattle.client_homes.specs.declared.client.ClientProcs.{ClientProcs}
 use Rattle.client_homes.specs.declared.client.Parked.{Parked}
-use Rattle.client_requests.specs.Kept.{answer_of, ask_of, one_for, wait_of}
+use Rattle.client_requests.specs.Kept.{answer_of, ask_of, wait_of}
 
 -- ---- rows
 

@@ -1,5 +1,5 @@
 -- What is done at homes and with kills: who waits there goes on waiting, or is answered.
-use Rattle.std.proofs.Common.{◌≡◌, refl, sym, ap, subst, ◌∙◌, ℕ, ◌+◌, ◌==◌, Bool, true, false, ◌&&◌, ◌||◌, not, cond, List, [], ◌∷◌, ◌++◌, Option, Some, None}
+use Rattle.std.proofs.Common.{◌≡◌, refl, sym, ap, subst, ◌∙◌, ℕ, ◌+◌, ◌==◌, Bool, ◌&&◌, ◌||◌, not, cond, Option, Some, None}
 use Rattle.std.specs.List.{list_any}
 use Rattle.sprite_ids.specs.declared.Errno.TheVariants as errnos
 use Rattle.sprite_ids.specs.declared.TxNo.{TxNo}
@@ -35,7 +35,7 @@ use Rattle.client_homes.specs.Killing as killing
 use Rattle.client_homes.specs.Kills as kills
 use Rattle.client_homes.specs.Pages as pages
 use Rattle.client_homes.specs.Procs as procs_of
-use Rattle.client_homes.specs.Procs.{is_call, is_pid}
+use Rattle.client_homes.specs.Procs.{is_pid}
 use Rattle.client_homes.specs.Says as says
 use Rattle.client_homes.specs.Says.{next_tx, value}
 use Rattle.client_homes.specs.Waits as waiting

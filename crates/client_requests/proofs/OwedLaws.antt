@@ -1,5 +1,5 @@
 -- What a client's kernel owes an answer it gives in the step or keeps.
-use Rattle.std.proofs.Common.{arith, ◌≡◌, ◌⊎◌, ap, ◌∙◌, ℕ, ◌+◌, ◌≤◌, Bool, cond}
+use Rattle.std.proofs.Common.{arith, ◌≡◌, ap, ◌∙◌, ℕ, ◌+◌, ◌≤◌, Bool, cond}
 use Rattle.sprite_ids.specs.Lists.{one_if}
 use Rattle.sprite_ids.specs.declared.TxNo.{TxNo}
 use Rattle.kernel_steps.specs.declared.Input.{Input}

@@ -1,7 +1,7 @@
 -- What a client's kernel takes of other kernels' requests it answers in the step or keeps.
 use Rattle.std.proofs.Common.{arith, ◌≡◌, ◌⊎◌, inl, inr, refl, ap, ap₂, ◌∙◌, ℕ, zero, suc, ◌+◌, ◌≤◌, Bool, true, false, ◌&&◌, cond, not, Option, Some, None}
 use Rattle.sprite_ids.specs.declared.TxNo.{TxNo}
-use Rattle.sprite_ids.specs.Lists.{one_if, total}
+use Rattle.sprite_ids.specs.Lists.{total}
 use Rattle.kernel_steps.specs.declared.Input.{Input}
 use Rattle.kernel_steps.specs.declared.Input.TheVariants as inputs
 use Rattle.kernel_steps.specs.declared.writer.Out.{Out}
@@ -13,7 +13,6 @@ use Rattle.packet_bodies.specs.declared.Request.{Request}
 use Rattle.packet_bodies.specs.declared.Request.TheVariants as requests
 use Rattle.client_files.specs.Turns as file_turns
 use Rattle.client_homes.specs.declared.client.ClientProcs.{ClientProcs}
-use Rattle.client_homes.specs.Procs.{is_call}
 use Rattle.client_homes.specs.Says.{with_files}
 use Rattle.client_homes.specs.Waits.{wait_reply}
 use Rattle.client_procs.specs.Answered.{serves}

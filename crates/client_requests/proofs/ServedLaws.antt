@@ -199,14 +199,14 @@ module _ (tx asker : TxNo) where
       let c : Counts = more_answers one (now tx s) in
       let told : ClientProcs = says.answers asker bodies.Done s in
       subst (λ (b : Bool). Follows c (now tx (cond (not b) s (arriving.takes_in asker (transfer_arrival request) s)))) (sym new)
-      (walks.installed (Holds tx c) no_request (within tx c no_request tt) nothing (process_with (transfer_arrival request) request.image) false request.streams told (answer_made (now tx s) bodies.Done s (follows_same (now tx s))))
+      (walks.installed (Holds tx c) no_request (within tx c no_request tt).apart nothing (process_with (transfer_arrival request) request.image) false request.streams told (answer_made (now tx s) bodies.Done s (follows_same (now tx s))))
 
   pub launch_served : (request : LaunchRequest) (s : ClientProcs) → arriving.is_new request.pid s ≡ true → Follows (more_answers one (now tx s)) (now tx (arriving.arrives asker (requests.Launch request) s))
   launch_served request s new =
       let c : Counts = more_answers one (now tx s) in
       let told : ClientProcs = says.answers asker bodies.Done s in
       subst (λ (b : Bool). Follows c (now tx (cond (not b) s (arriving.takes_in asker (launch_arrival request) s)))) (sym new)
-      (walks.launched (Holds tx c) no_request (within tx c no_request tt) nothing (fresh_image s.programs request.program 0) (launch_arrival request) request.program request.streams told
+      (walks.launched (Holds tx c) no_request (within tx c no_request tt).apart nothing (fresh_image s.programs request.program 0) (launch_arrival request) request.program request.streams told
       (answer_made (now tx s) bodies.Done s (follows_same (now tx s))))
 
   -- Asks of pseudo-devices
@@ -215,7 +215,7 @@ module _ (tx asker : TxNo) where
   ask_served request s =
       let c : Counts = more_asks one (now tx s) in
       let noted : ClientProcs = asking.notes_ask (carried_ask request) (Some asker) s in
-      walks.entered_by (Holds tx c) no_request (within tx c no_request tt) nothing request.device.number (carried_ask request) noted
+      walks.entered_by (Holds tx c) no_request (within tx c no_request tt).apart nothing request.device.number (carried_ask request) noted
       (asks_one (now tx s) (total (ask_of tx) noted.asked) one (total_push (ask_of tx) s.asked (asking.about_ask (carried_ask request), Some asker)))
 
 -- ---- an ask of a device that has no master

@@ -1,5 +1,5 @@
 -- All else that is done within a step: asks of pseudo-devices go on waiting for their answer, or have it.
-use Rattle.std.proofs.Common.{◌≡◌, refl, sym, ap, subst, ◌∙◌, ℕ, ◌+◌, ◌==◌, Bool, true, false, cond, List, [], ◌∷◌, ◌++◌, Option, Some, None, option_map}
+use Rattle.std.proofs.Common.{◌≡◌, sym, subst, ℕ, ◌+◌, List, [], ◌∷◌, Option, Some, None}
 use Rattle.sprite_ids.specs.declared.Errno.{Errno}
 use Rattle.sprite_ids.specs.declared.Errno.TheVariants as errnos
 use Rattle.sprite_ids.specs.declared.TxNo.{TxNo}
@@ -10,8 +10,6 @@ use Rattle.kernel_steps.specs.declared.Input.TheVariants as inputs
 use Rattle.kernel_steps.specs.Rows.{first_under, is_under}
 use Rattle.process_machine.specs.declared.Reply.{Reply}
 use Rattle.process_machine.specs.declared.Reply.TheVariants.{Value, Error}
-use Rattle.packet_bodies.specs.declared.HomeRequest.{HomeRequest}
-use Rattle.packet_bodies.specs.declared.ReplyBody.{ReplyBody}
 use Rattle.packet_bodies.specs.declared.ReplyBody.TheVariants as bodies
 use Rattle.packet_bodies.specs.declared.Request.{Request}
 use Rattle.packet_bodies.specs.declared.Request.TheVariants as requests
@@ -22,7 +20,6 @@ use Rattle.pseudo_device.specs.declared.TakeEnd.TheVariants as takes
 use Rattle.pseudo_device.specs.Device.{Asks, take_refusal, told}
 use Rattle.unix_calls.specs.declared.About.{About}
 use Rattle.unix_calls.specs.declared.Event.TheVariants as events
-use Rattle.client_files.specs.Turns as file_turns
 use Rattle.client_homes.specs.declared.client.ClientProcs.{ClientProcs}
 use Rattle.client_homes.specs.declared.client.Unfinished.TheVariants as unfinished
 use Rattle.client_homes.specs.declared.process.ProcState.TheVariants as states
@@ -39,16 +36,15 @@ use Rattle.client_devices.specs.Getting as getting
 use Rattle.client_devices.specs.Making as making
 use Rattle.client_devices.specs.Masters as masters
 use Rattle.client_devices.specs.Tables as tables
-use Rattle.client_moves.specs.Paging as paging
 use Rattle.client_moves.specs.Returning as returning
 use Rattle.client_procs.specs.Issues as issuing_calls
 use Rattle.client_procs.specs.Launching as launching
-use Rattle.client_walks.proofs.Bearing.{Bears, Seen, seen_of}
-use Rattle.client_walks.proofs.Deeds.{Always, Hand, KeepsCalls, KeepsComings, KeepsDevices, KeepsFiles, KeepsMoves, WalkWithin}
+use Rattle.client_walks.proofs.Bearing.{Bears, Seen}
+use Rattle.client_walks.proofs.Deeds.{Always, Hand, KeepsCalls, KeepsComings, KeepsDevices, KeepsFiles, KeepsMoves, KeepsTurns, WalkWithin}
 use Rattle.client_walks.proofs.NameBearing as files_side
 use Rattle.client_requests.specs.Kept.{answer_of, ask_of, one_for, wait_of}
 use Rattle.client_requests.proofs.CountLaws as numbers
-use Rattle.client_requests.proofs.CountLaws.{Counts, Follows, counts, total_first, total_push, view}
+use Rattle.client_requests.proofs.CountLaws.{Counts, counts, total_first, total_push, view}
 use Rattle.client_requests.proofs.HomeKeeping as home_side
 use Rattle.client_requests.proofs.HomeKeeping.{Since}
 use Rattle.client_requests.proofs.ViewLaws as frames
@@ -172,17 +168,21 @@ module _ (tx : TxNo) (first : Counts) where
   beside : (came : Input) (s : ClientProcs) → Bears came (Beside s)
   beside came s = bears came (total (wait_of tx) s.waits) (total (ask_of tx) s.asked)
 
-  files : (came : Input) → KeepsFiles came Always Holds
+  files : (came : Input) → KeepsFiles Always Holds
   files came = record {
     uses_files = λ s h about call device u p. let used : ClientProcs = procs_of.in_state about.pid states.InFiles s in
         files_side.issues came (Beside used) (beside came used).telling about call device used.files (frames.state_kept (Since tx first) about.pid states.InFiles s p);
     called_back = λ s h asker request u p. files_side.called_back came (Beside s) (beside came s).telling asker request s.files p;
-    answered = λ s h asker source body e owned u p. files_side.answered came (Beside s) (beside came s) asker source body s.files e p;
-    gives_up = λ s h asker e u p. files_side.gives_up came (Beside s) (beside came s).telling asker s.files e p;
     due_goes = λ s h file block u p. files_side.due_goes came (Beside s) (beside came s).telling file block s.files p;
-    goes_on = λ s h e u p. files_side.goes_on came (Beside s) (beside came s).telling s.files p;
     takes_report = λ s h report rest e u p. p;
     takes_reply = λ s h row rest e u p. p;
+  }
+
+  turns : (came : Input) → KeepsTurns came Always Holds
+  turns came = record {
+    answered = λ s h asker source body e owned u p. files_side.answered came (Beside s) (beside came s) asker source body s.files e p;
+    gives_up = λ s h asker e u p. files_side.gives_up came (Beside s) (beside came s).telling asker s.files e p;
+    goes_on = λ s h e u p. files_side.goes_on came (Beside s) (beside came s).telling s.files p;
   }
 
   calls : (came : Input) → KeepsCalls came Always Holds
@@ -234,10 +234,13 @@ module _ (tx : TxNo) (first : Counts) where
   -- the walk, where no request came that may be kept
   pub within : (came : Input) → ComesNone came → WalkWithin Holds came
   within came none = record {
-    files = files came;
-    calls = calls came;
-    home = home_side.at_home tx first came (λ asker source request e. none_asked came none asker source (requests.Home request) e);
-    devices = devices came none;
-    moves = moves;
-    comings = comings came;
+    apart = record {
+      files = files came;
+      calls = calls came;
+      home = home_side.at_home tx first came (λ asker source request e. none_asked came none asker source (requests.Home request) e);
+      devices = devices came none;
+      moves = moves;
+      comings = comings came;
+    };
+    turns = turns came;
   }

@@ -1,5 +1,5 @@
 -- The remote calls of other kernels that a client's kernel keeps, and those that a step of it answers.
-use Rattle.std.specs.Prelude.{◌≡◌, ℕ, ◌+◌, ◌≤◌, Option, Some, None}
+use Rattle.std.specs.Prelude.{ℕ, ◌+◌, ◌≤◌, Option, Some, None}
 use Rattle.sprite_ids.specs.Lists.{one_if, total}
 use Rattle.sprite_ids.specs.declared.TxNo.{TxNo}
 use Rattle.kernel_steps.specs.declared.writer.Out.{Out}

@@ -1,5 +1,5 @@
 -- What a client's kernel takes of other kernels' requests it answers in the step or keeps.
-use Rattle.std.specs.Prelude.{◌≡◌, ◌⊎◌, ℕ, ◌+◌, ◌≤◌, Bool, true, false, not, if◌then◌else◌, [], Option, Some, None}
+use Rattle.std.specs.Prelude.{◌≡◌, ◌⊎◌, ℕ, ◌+◌, ◌≤◌, Bool, true, false, not, if◌then◌else◌, Option, Some, None}
 use Rattle.sprite_ids.specs.Lists.{one_if}
 use Rattle.sprite_ids.specs.declared.TxNo.{TxNo}
 use Rattle.kernel_steps.specs.Outs.{started}

@@ -1,291 +1,48 @@
 -- Calls of the files' side at their issue, and answers to name calls: what they say to the processes' side.
-use Rattle.std.proofs.Common.{ℕ, Bool, true, false, not, nat_lt, cond, List, [], ◌∷◌, Option, Some, None, Result, Ok, Err, refl}
-use Rattle.sprite_ids.specs.declared.BlockNo.{BlockNo}
+use Rattle.std.proofs.Common.{◌≡◌, ℕ, true, Option, refl}
 use Rattle.sprite_ids.specs.declared.DeviceId.{DeviceId}
-use Rattle.sprite_ids.specs.declared.Errno.{Errno}
-use Rattle.sprite_ids.specs.declared.FileId.{FileId}
-use Rattle.sprite_ids.specs.declared.Grant.{Grant}
-use Rattle.sprite_ids.specs.declared.Object.{Object}
-use Rattle.sprite_ids.specs.declared.Object.TheVariants as objects
-use Rattle.sprite_ids.specs.declared.StreamNo.{StreamNo}
 use Rattle.process_machine.specs.declared.Call.{Call}
-use Rattle.process_machine.specs.declared.Call.TheVariants as calls
-use Rattle.packet_bodies.specs.declared.NameOp.{NameOp}
-use Rattle.packet_bodies.specs.declared.NameOp.TheVariants as ops
-use Rattle.packet_bodies.specs.declared.OpenedReply.{OpenedReply}
 use Rattle.packet_bodies.specs.declared.ReplyBody.{ReplyBody}
-use Rattle.packet_bodies.specs.declared.ReplyBody.TheVariants as bodies
-use Rattle.packet_bodies.specs.declared.ValueReply.{ValueReply}
 use Rattle.unix_calls.specs.declared.About.{About}
-use Rattle.unix_calls.specs.Opening.{reads, writes}
-use Rattle.stream_table.specs.declared.Stream.{Stream}
-use Rattle.stream_table.specs.declared.StreamEnd.{StreamEnd}
-use Rattle.stream_table.specs.declared.StreamEnd.TheVariants as ends
-use Rattle.stream_table.specs.Owners.{descriptor}
-use Rattle.stream_table.specs.Streams.{dup_answer, dupped, free}
 use Rattle.client_file_tables.specs.declared.client_files.ClientFiles.{ClientFiles}
-use Rattle.client_file_tables.specs.declared.names.NameKind.{NameKind}
-use Rattle.client_file_tables.specs.declared.names.NameKind.TheVariants as name_kinds
 use Rattle.client_file_tables.specs.declared.names.NameWork.{NameWork}
+use Rattle.client_file_tables.specs.declared.pending.Pending.{Pending}
+use Rattle.client_file_tables.specs.declared.pending.Pending.TheVariants as operations
 use Rattle.client_file_tables.specs.declared.states.NameState.{NameState}
-use Rattle.client_file_tables.specs.declared.states.NameState.TheVariants as name_states
-use Rattle.client_file_tables.specs.Says as says
-use Rattle.client_file_tables.specs.Streams as streams
-use Rattle.client_file_tables.specs.Streams.{stream_at}
-use Rattle.client_data.specs.Grants as grants
-use Rattle.client_names.specs.Answers as name_answers
-use Rattle.client_names.specs.Issues as naming
-use Rattle.client_names.specs.Lookups as lookups
-use Rattle.client_names.specs.Making.{counts_stream, free_descriptor}
-use Rattle.client_names.specs.OpenFlags.{lawful}
-use Rattle.client_names.specs.Paths.{Parts, cleaned}
-use Rattle.client_streams.specs.declared.Named.{Named}
-use Rattle.client_streams.specs.Descriptors.{descriptor_of}
 use Rattle.client_files.specs.Asked as asked
 use Rattle.client_files.specs.CallIssues as issuing
-use Rattle.client_files.specs.DataIssues as datas
-use Rattle.client_files.specs.Reaches.{reach_by, reach_named, reach_stream}
-use Rattle.unix_calls.specs.declared.DropCause.{DropCause}
-use Rattle.unix_calls.specs.declared.Event.TheVariants as events
-use Rattle.block_cache.specs.Files as cached_files
-use Rattle.block_cache.specs.Held as held
-use Rattle.block_cache.specs.Held.{is_newer}
-use Rattle.client_file_tables.specs.Blocks.{state_in, with_cache}
+use Rattle.file_walks.specs.Fits.{begins_so}
+use Rattle.file_walks.proofs.CallWalks as call_walks
+use Rattle.client_rounds.specs.Rounds.{is_work}
 use Rattle.client_rounds.proofs.Ledgers.{Ledger, RunsCall, ledger_of}
+use Rattle.client_rounds.proofs.OpLaws.{P, mute, on_if}
 
--- What says nothing to the processes' side and leaves the operations as they are
-
-module _ (Q : Ledger → Type 0) where
-  mute_if : (b : Bool) (s t : ClientFiles) → Q (ledger_of s) → Q (ledger_of t) → Q (ledger_of (cond b s t))
-  mute_if true s t p q = p
-  mute_if false s t p q = q
-
-  drops_all : (list : List BlockNo) (file : FileId) (cause : DropCause) (s : ClientFiles) → Q (ledger_of s) → Q (ledger_of (grants.drops_all file list cause s))
-  drops_all [] file cause s p = p
-  drops_all (block ∷ list) file cause s p = drops_all list file cause (grants.drops_one file block cause s) p
-
-  pub takes_grant : (grant : Grant) (s : ClientFiles) → Q (ledger_of s) → Q (ledger_of (grants.takes_grant grant s))
-  takes_grant grant s p =
-      let newer : ClientFiles = with_cache (held.after_grant s.cache grant) s in
-      let told : ClientFiles = says.notes (events.Mode grant.file grant.stamp (grants.mode_of_grant grant.on)) newer in
-      mute_if (is_newer s.cache grant) _ s (mute_if (cached_files.keeps (state_in grant.file s) grant) told _ p (drops_all (grants.held_in grant.file s) grant.file (grants.cause_of_grant grant.on) told p)) p
-
-  pub takes_some : (o : Option Grant) (s : ClientFiles) → Q (ledger_of s) → Q (ledger_of (asked.takes_some o s))
-  takes_some (Some grant) s p = takes_grant grant s p
-  takes_some None s p = p
+-- what a call begins is more than a move of a stream
+work_begun : (operation : Pending) → begins_so operation ≡ true → is_work operation ≡ true
+work_begun (operations.Name call) e = refl
+work_begun (operations.Data call) e = refl
+work_begun (operations.Sync call) e = refl
+work_begun (operations.Close work) e = refl
+work_begun (operations.Move work) e = absurd (cc)
 
 -- A process in whose call nothing is on its way yet: it waits, has its reply, or is forgotten
 
 module _ (Q : ℕ → Ledger → Type 0) (R : Ledger → Type 0) (runs : (pid : ℕ) → RunsCall pid (Q pid) R) where
-  on_if : (b : Bool) (s t : ClientFiles) → R (ledger_of s) → R (ledger_of t) → R (ledger_of (cond b s t))
-  on_if true s t p q = p
-  on_if false s t p q = q
-
-  looks_up_by : (o : Option ℕ) (pid : ℕ) (work : NameWork) (s : ClientFiles) → Q pid (ledger_of s) → R (ledger_of (lookups.looks_up_by pid work o s))
-  looks_up_by (Some server) pid work s p = (runs pid).waits (ledger_of s) _ refl p
-  looks_up_by None pid work s p = (runs pid).waits (ledger_of s) _ refl p
-
-  pub looks_up : (pid : ℕ) (work : NameWork) (s : ClientFiles) → Q pid (ledger_of s) → R (ledger_of (lookups.looks_up pid work s))
-  looks_up pid work s p = looks_up_by (lookups.server_for work.path s) pid work s p
-
-  -- Name calls at their issue
-
-  refused : (about : About) (call : Call) (why : Errno) (s : ClientFiles) → Q about.pid (ledger_of s) → R (ledger_of (naming.refuses_here about call why s))
-  refused about call why s p = (runs about.pid).ends (ledger_of s) _ p
-
-  opens_cleaned : (o : Option Parts) (about : About) (call : Call) (flags fd : ℕ) (s : ClientFiles) → Q about.pid (ledger_of s) → R (ledger_of (naming.opens_cleaned about call flags fd o s))
-  opens_cleaned (Some path) about call flags fd s p = looks_up about.pid _ (counts_stream s) p
-  opens_cleaned None about call flags fd s p = refused about call _ s p
-
-  opens_free : (o : Option ℕ) (about : About) (call : Call) (text : List ℕ) (flags : ℕ) (s : ClientFiles) → Q about.pid (ledger_of s) → R (ledger_of (naming.opens_free about call text flags o s))
-  opens_free (Some fd) about call text flags s p = opens_cleaned (cleaned about.pid text s) about call flags fd s p
-  opens_free None about call text flags s p = refused about call _ s p
-
-  issues_open : (o : Option ℕ) (about : About) (call : Call) (text : List ℕ) (s : ClientFiles) → Q about.pid (ledger_of s) → R (ledger_of (naming.opens_lawful about call text o s))
-  issues_open (Some flags) about call text s p = opens_free (free_descriptor about.pid s) about call text flags s p
-  issues_open None about call text s p = refused about call _ s p
-
-  makes_cleaned : (o : Option Parts) (about : About) (call : Call) (device : DeviceId) (fd : ℕ) (s : ClientFiles) → Q about.pid (ledger_of s) → R (ledger_of (naming.makes_cleaned about call device fd o s))
-  makes_cleaned (Some path) about call device fd s p = looks_up about.pid _ (counts_stream s) p
-  makes_cleaned None about call device fd s p = refused about call _ s p
-
-  makes_free : (o : Option ℕ) (about : About) (call : Call) (text : List ℕ) (device : DeviceId) (s : ClientFiles) → Q about.pid (ledger_of s) → R (ledger_of (naming.makes_free about call text device o s))
-  makes_free (Some fd) about call text device s p = makes_cleaned (cleaned about.pid text s) about call device fd s p
-  makes_free None about call text device s p = refused about call _ s p
-
-  issues_make : (o : Option DeviceId) (about : About) (call : Call) (text : List ℕ) (s : ClientFiles) → Q about.pid (ledger_of s) → R (ledger_of (naming.issues_make about call text o s))
-  issues_make (Some device) about call text s p = makes_free (free_descriptor about.pid s) about call text device s p
-  issues_make None about call text s p = (runs about.pid).lost (ledger_of s) p
-
-  names_cleaned : (o : Option Parts) (about : About) (call : Call) (op : NameOp) (max : ℕ) (s : ClientFiles) → Q about.pid (ledger_of s) → R (ledger_of (naming.names_cleaned about call op max o s))
-  names_cleaned (Some path) about call op max s p = looks_up about.pid _ s p
-  names_cleaned None about call op max s p = refused about call _ s p
-
-  issues_path : (about : About) (call : Call) (text : List ℕ) (op : NameOp) (s : ClientFiles) → Q about.pid (ledger_of s) → R (ledger_of (naming.issues_path about call text op s))
-  issues_path about call text op s p = names_cleaned (cleaned about.pid text s) about call op 0 s p
-
-  issues_list : (about : About) (call : Call) (text : List ℕ) (max : ℕ) (s : ClientFiles) → Q about.pid (ledger_of s) → R (ledger_of (naming.issues_list about call text max s))
-  issues_list about call text max s p = on_if (nat_lt 4294967295 max) _ _ (refused about call _ s p) (names_cleaned (cleaned about.pid text s) about call ops.List max s p)
-
-  renames_second : (o : Option Parts) (about : About) (call : Call) (path : Parts) (s : ClientFiles) → Q about.pid (ledger_of s) → R (ledger_of (naming.renames_second about call path o s))
-  renames_second (Some second) about call path s p = looks_up about.pid _ s p
-  renames_second None about call path s p = refused about call _ s p
-
-  issues_rename : (o : Option Parts) (about : About) (call : Call) (new : List ℕ) (s : ClientFiles) → Q about.pid (ledger_of s) → R (ledger_of (naming.renames_first about call o new s))
-  issues_rename (Some path) about call new s p = renames_second (cleaned about.pid new s) about call path s p
-  issues_rename None about call new s p = refused about call _ s p
-
-  issues_tree : (which : Call) (about : About) (call : Call) (s : ClientFiles) → Q about.pid (ledger_of s) → R (ledger_of (naming.issues_tree_by which about call s))
-  issues_tree (calls.Stat path) about call s p = issues_path about call path ops.Stat s p
-  issues_tree (calls.Mkdir path) about call s p = issues_path about call path ops.Mkdir s p
-  issues_tree (calls.Rmdir path) about call s p = issues_path about call path ops.Rmdir s p
-  issues_tree (calls.Unlink path) about call s p = issues_path about call path ops.Unlink s p
-  issues_tree (calls.Chdir path) about call s p = issues_path about call path ops.Chdir s p
-  issues_tree which about call s p = (runs about.pid).lost (ledger_of s) p
-
-  issues_name : (which : Call) (about : About) (call : Call) (device : Option DeviceId) (s : ClientFiles) → Q about.pid (ledger_of s) → R (ledger_of (naming.issues_name_by which about call device s))
-  issues_name (calls.OpenFile path flags) about call device s p = issues_open (lawful flags) about call path s p
-  issues_name (calls.PdMake path) about call device s p = issues_make device about call path s p
-  issues_name (calls.Rename old new) about call device s p = issues_rename (cleaned about.pid old s) about call new s p
-  issues_name (calls.List path max) about call device s p = issues_list about call path max s p
-  issues_name which about call device s p = issues_tree call about call s p
-
-  -- Other calls at their issue
-
-  read_object : (object : Object) (named : Named) (stream : Stream) (about : About) (call : Call) (many : ℕ) (s : ClientFiles) → Q about.pid (ledger_of s) → R (ledger_of (datas.reads_by (reach_by object named stream) about call many s))
-  read_object (objects.File file) named stream about call many s p = on_if (not (reads stream.mode)) _ _ (refused about call _ s p) ((runs about.pid).waits (ledger_of s) _ refl p)
-  read_object (objects.Device device) named stream about call many s p = refused about call _ s p
-  read_object (objects.Master device) named stream about call many s p = refused about call _ s p
-
-  read_stream : (o : Option Stream) (named : Named) (about : About) (call : Call) (many : ℕ) (s : ClientFiles) → Q about.pid (ledger_of s) → R (ledger_of (datas.reads_by (reach_stream named o) about call many s))
-  read_stream (Some stream) named about call many s p = read_object stream.object named stream about call many s p
-  read_stream None named about call many s p = refused about call _ s p
-
-  read_named : (o : Option Named) (about : About) (call : Call) (many : ℕ) (s : ClientFiles) → Q about.pid (ledger_of s) → R (ledger_of (datas.reads_by (reach_named o s) about call many s))
-  read_named (Some named) about call many s p = read_stream (stream_at named.stream s) named about call many s p
-  read_named None about call many s p = refused about call _ s p
-
-  write_object : (object : Object) (named : Named) (stream : Stream) (about : About) (call : Call) (bytes : List ℕ) (s : ClientFiles) → Q about.pid (ledger_of s) → R (ledger_of (datas.writes_found (reach_by object named stream) about call bytes s))
-  write_object (objects.File file) named stream about call bytes s p = on_if (not (writes stream.mode)) _ _ (refused about call _ s p) ((runs about.pid).waits (ledger_of s) _ refl p)
-  write_object (objects.Device device) named stream about call bytes s p = refused about call _ s p
-  write_object (objects.Master device) named stream about call bytes s p = refused about call _ s p
-
-  write_stream : (o : Option Stream) (named : Named) (about : About) (call : Call) (bytes : List ℕ) (s : ClientFiles) → Q about.pid (ledger_of s) → R (ledger_of (datas.writes_found (reach_stream named o) about call bytes s))
-  write_stream (Some stream) named about call bytes s p = write_object stream.object named stream about call bytes s p
-  write_stream None named about call bytes s p = refused about call _ s p
-
-  write_named : (o : Option Named) (about : About) (call : Call) (bytes : List ℕ) (s : ClientFiles) → Q about.pid (ledger_of s) → R (ledger_of (datas.writes_found (reach_named o s) about call bytes s))
-  write_named (Some named) about call bytes s p = write_stream (stream_at named.stream s) named about call bytes s p
-  write_named None about call bytes s p = refused about call _ s p
-
-  seek_object : (object : Object) (named : Named) (stream : Stream) (about : About) (call : Call) (offset : ℕ) (s : ClientFiles) → Q about.pid (ledger_of s) → R (ledger_of (datas.seeks_found (reach_by object named stream) about call offset s))
-  seek_object (objects.File file) named stream about call offset s p = on_if (nat_lt s.limit offset) _ _ (refused about call _ s p) ((runs about.pid).waits (ledger_of s) _ refl p)
-  seek_object (objects.Device device) named stream about call offset s p = refused about call _ s p
-  seek_object (objects.Master device) named stream about call offset s p = refused about call _ s p
-
-  seek_stream : (o : Option Stream) (named : Named) (about : About) (call : Call) (offset : ℕ) (s : ClientFiles) → Q about.pid (ledger_of s) → R (ledger_of (datas.seeks_found (reach_stream named o) about call offset s))
-  seek_stream (Some stream) named about call offset s p = seek_object stream.object named stream about call offset s p
-  seek_stream None named about call offset s p = refused about call _ s p
-
-  seek_named : (o : Option Named) (about : About) (call : Call) (offset : ℕ) (s : ClientFiles) → Q about.pid (ledger_of s) → R (ledger_of (datas.seeks_found (reach_named o s) about call offset s))
-  seek_named (Some named) about call offset s p = seek_stream (stream_at named.stream s) named about call offset s p
-  seek_named None about call offset s p = refused about call _ s p
-
-  size_object : (object : Object) (named : Named) (stream : Stream) (about : About) (call : Call) (s : ClientFiles) → Q about.pid (ledger_of s) → R (ledger_of (datas.sizes_found (reach_by object named stream) about call s))
-  size_object (objects.File file) named stream about call s p = (runs about.pid).waits (ledger_of s) _ refl p
-  size_object (objects.Device device) named stream about call s p = refused about call _ s p
-  size_object (objects.Master device) named stream about call s p = refused about call _ s p
-
-  size_stream : (o : Option Stream) (named : Named) (about : About) (call : Call) (s : ClientFiles) → Q about.pid (ledger_of s) → R (ledger_of (datas.sizes_found (reach_stream named o) about call s))
-  size_stream (Some stream) named about call s p = size_object stream.object named stream about call s p
-  size_stream None named about call s p = refused about call _ s p
-
-  size_named : (o : Option Named) (about : About) (call : Call) (s : ClientFiles) → Q about.pid (ledger_of s) → R (ledger_of (datas.sizes_found (reach_named o s) about call s))
-  size_named (Some named) about call s p = size_stream (stream_at named.stream s) named about call s p
-  size_named None about call s p = refused about call _ s p
-
-  sync_object : (object : Object) (named : Named) (stream : Stream) (about : About) (call : Call) (s : ClientFiles) → Q about.pid (ledger_of s) → R (ledger_of (datas.syncs_found (reach_by object named stream) about call s))
-  sync_object (objects.File file) named stream about call s p = (runs about.pid).waits (ledger_of s) _ refl p
-  sync_object (objects.Device device) named stream about call s p = refused about call _ s p
-  sync_object (objects.Master device) named stream about call s p = refused about call _ s p
-
-  sync_stream : (o : Option Stream) (named : Named) (about : About) (call : Call) (s : ClientFiles) → Q about.pid (ledger_of s) → R (ledger_of (datas.syncs_found (reach_stream named o) about call s))
-  sync_stream (Some stream) named about call s p = sync_object stream.object named stream about call s p
-  sync_stream None named about call s p = refused about call _ s p
-
-  sync_named : (o : Option Named) (about : About) (call : Call) (s : ClientFiles) → Q about.pid (ledger_of s) → R (ledger_of (datas.syncs_found (reach_named o s) about call s))
-  sync_named (Some named) about call s p = sync_stream (stream_at named.stream s) named about call s p
-  sync_named None about call s p = refused about call _ s p
-
-  issues_read : (about : About) (call : Call) (fd many : ℕ) (s : ClientFiles) → Q about.pid (ledger_of s) → R (ledger_of (datas.issues_read about call fd many s))
-  issues_read about call fd many s p = on_if (nat_lt 4294967295 many) _ _ (refused about call _ s p) (read_named (descriptor_of about.pid fd s) about call many s p)
-
-  issues_close : (o : Option Named) (about : About) (call : Call) (s : ClientFiles) → Q about.pid (ledger_of s) → R (ledger_of (issuing.closes_named o about call s))
-  issues_close (Some named) about call s p = (runs about.pid).waits (ledger_of s) _ refl p
-  issues_close None about call s p = refused about call _ s p
-
-  dups_by : (r : Result ℕ StreamEnd) (about : About) (call : Call) (s : ClientFiles) → Q about.pid (ledger_of s) → R (ledger_of (issuing.dups_by r about call s))
-  dups_by (Ok fd) about call s p = (runs about.pid).ends (ledger_of s) _ p
-  dups_by (Err ends.BadFd) about call s p = refused about call _ s p
-  dups_by (Err ends.TooMany) about call s p = refused about call _ s p
-  dups_by (Err ends.NoMemory) about call s p = (runs about.pid).lost (ledger_of s) p
-
-  issues_by : (which : Call) (about : About) (call : Call) (device : Option DeviceId) (s : ClientFiles) → Q about.pid (ledger_of s) → R (ledger_of (issuing.issues_by which about call device s))
-  issues_by (calls.Close fd) about call device s p = issues_close (descriptor_of about.pid fd s) about call s p
-  issues_by (calls.Dup fd) about call device s p =
-      dups_by (dup_answer (descriptor s.streams.owners about.pid fd) (free s.streams.owners about.pid)) about call (record s { streams = dupped s.streams about.pid fd }) p
-  issues_by (calls.Read fd many) about call device s p = issues_read about call fd many s p
-  issues_by (calls.Write fd bytes) about call device s p = write_named (descriptor_of about.pid fd s) about call bytes s p
-  issues_by (calls.Seek fd offset) about call device s p = seek_named (descriptor_of about.pid fd s) about call offset s p
-  issues_by (calls.Size fd) about call device s p = size_named (descriptor_of about.pid fd s) about call s p
-  issues_by (calls.Sync fd) about call device s p = sync_named (descriptor_of about.pid fd s) about call s p
-  issues_by which about call device s p = issues_name call about call device s p
+  deeds : (pid : ℕ) → call_walks.RunsCall pid (P (Q pid)) (P R)
+  deeds pid = record {
+    quiet = mute (Q pid);
+    adds = λ s number stream p. on_if (Q pid) _ _ s p p;
+    dups = λ s fd p. p;
+    begins = λ s operation begins p. (runs pid).waits (ledger_of s) operation (work_begun operation begins) p;
+    echoes = λ s work server p. (runs pid).waits (ledger_of s) _ refl p;
+    broadcasts = λ s work prefix p. (runs pid).waits (ledger_of s) _ refl p;
+    asks = λ s work server p. (runs pid).waits (ledger_of s) _ refl p;
+    ends = λ s reply p. (runs pid).ends (ledger_of s) reply p;
+    lost = λ s p. (runs pid).lost (ledger_of s) p;
+  }
 
   pub issues : (about : About) (call : Call) (device : Option DeviceId) (s : ClientFiles) → Q about.pid (ledger_of s) → R (ledger_of (issuing.issues about call device s))
-  issues about call device s p = issues_by call about call device s p
-
-  -- Answers to name calls
-
-  gives_descriptor : (o : Option ℕ) (pid : ℕ) (s : ClientFiles) → Q pid (ledger_of s) → R (ledger_of (name_answers.gives_descriptor pid o s))
-  gives_descriptor (Some fd) pid s p = (runs pid).ends (ledger_of s) _ p
-  gives_descriptor None pid s p = (runs pid).ends (ledger_of s) _ p
-
-  added : (b : Bool) (pid : ℕ) (s t : ClientFiles) → Q pid (ledger_of s) → Q pid (ledger_of t) → Q pid (ledger_of (cond b s t))
-  added true pid s t p q = p
-  added false pid s t p q = q
-
-  installs : (pid : ℕ) (number : StreamNo) (stream : Stream) (s : ClientFiles) → Q pid (ledger_of s) → R (ledger_of (name_answers.installs pid number stream s))
-  installs pid number stream s p = gives_descriptor (streams.added_fd pid stream s) pid (streams.adds_stream pid number stream s) (added _ pid _ s p p)
-
-  installs_opened : (o : Option Stream) (pid : ℕ) (number : StreamNo) (s : ClientFiles) → Q pid (ledger_of s) → R (ledger_of (name_answers.installs_opened pid number o s))
-  installs_opened (Some stream) pid number s p = installs pid number stream s p
-  installs_opened None pid number s p = (runs pid).lost (ledger_of s) p
-
-  ends_opened : (kind : NameKind) (pid : ℕ) (opened : OpenedReply) (s : ClientFiles) → Q pid (ledger_of s) → R (ledger_of (name_answers.ends_opened_by kind pid opened s))
-  ends_opened (name_kinds.Open flags stream fd) pid opened s p = installs_opened (name_answers.opened_stream flags opened.object) pid stream s p
-  ends_opened (name_kinds.Make device stream fd) pid opened s p = (runs pid).lost (ledger_of s) p
-  ends_opened (name_kinds.Name op second max) pid opened s p = (runs pid).lost (ledger_of s) p
-
-  gives_value : (op : NameOp) (pid : ℕ) (path : Parts) (value : ValueReply) (s : ClientFiles) → Q pid (ledger_of s) → R (ledger_of (name_answers.gives_value pid op path value s))
-  gives_value ops.Chdir pid path value s p = (runs pid).ends (ledger_of (streams.sets_cwd pid path s)) _ (added _ pid _ _ p p)
-  gives_value op pid path value s p = (runs pid).ends (ledger_of s) _ p
-
-  ends_value : (kind : NameKind) (pid : ℕ) (path : Parts) (value : ValueReply) (s : ClientFiles) → Q pid (ledger_of s) → R (ledger_of (name_answers.ends_value_by kind pid path value s))
-  ends_value (name_kinds.Open flags stream fd) pid path value s p = (runs pid).lost (ledger_of s) p
-  ends_value (name_kinds.Make device stream fd) pid path value s p = installs pid stream (name_answers.master_stream device) s p
-  ends_value (name_kinds.Name op second max) pid path value s p = gives_value op pid path value s p
-
-  redirects : (pid : ℕ) (work : NameWork) (prefix : Parts) (s : ClientFiles) → Q pid (ledger_of s) → R (ledger_of (lookups.redirects pid work prefix s))
-  redirects pid work prefix s p = on_if _ _ _ (looks_up pid work s p) ((runs pid).waits (ledger_of s) _ refl p)
-
-  ends_asked : (body : ReplyBody) (pid : ℕ) (work : NameWork) (s : ClientFiles) → Q pid (ledger_of s) → R (ledger_of (asked.ends_asked pid work body s))
-  ends_asked (bodies.Refused why) pid work s p = (runs pid).ends (ledger_of s) _ p
-  ends_asked (bodies.Redirect path) pid work s p = redirects pid work path s p
-  ends_asked (bodies.Opened opened) pid work s p = ends_opened work.kind pid opened (asked.takes_some opened.grant s) (takes_some (Q pid) opened.grant s p)
-  ends_asked (bodies.Value value) pid work s p = ends_value work.kind pid work.path value s p
-  ends_asked body pid work s p = (runs pid).lost (ledger_of s) p
+  issues about call device s p = call_walks.issues (λ (pid : ℕ). P (Q pid)) (P R) deeds about call device s p
 
   pub answers_name : (state : NameState) (pid : ℕ) (work : NameWork) (source : ℕ) (body : ReplyBody) (s : ClientFiles) → Q pid (ledger_of s) → R (ledger_of (asked.answers_name_by state pid work source body s))
-  answers_name (name_states.Broadcasting tx prefix) pid work source body s p = looks_up pid work (lookups.learns prefix source s) (added _ pid _ _ p p)
-  answers_name (name_states.Echoing tx server) pid work source body s p = (runs pid).waits (ledger_of s) _ refl p
-  answers_name (name_states.Asking tx) pid work source body s p = ends_asked body pid work s p
+  answers_name state pid work source body s p = call_walks.answers_name (λ (other : ℕ). P (Q other)) (P R) deeds state pid work source body s p

@@ -272,6 +272,10 @@ stages : (count : ℕ) (s : ClientProcs) → MayTurn s → Stage s count (turnin
 stages zero s may = record { may = may; left = refl }
 stages (suc count) s may = round_by (turning.is_quiet (turning.turns count s)) count s (turning.turns count s) refl (stages count s may)
 
+-- so many rounds keep what they need
+pub turns_keep_this : (count : ℕ) (s : ClientProcs) → MayTurn s → MayTurn (turning.turns count s)
+turns_keep_this count s may = (stages count s may).may
+
 pub rounds_keep_this : (s : ClientProcs) → MayTurn s → MayTurn (turning.goes_on s)
 rounds_keep_this s may = (stages (turning.rounds_for s) s may).may
 

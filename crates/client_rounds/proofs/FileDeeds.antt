@@ -36,11 +36,12 @@ use Rattle.client_facts.proofs.IssueLaws.{runs_issues}
 use Rattle.client_facts.proofs.SteadyLaws.{Steady, goes_runs, goes_steady, steady_called_back, steady_if, steady_join, steady_same}
 use Rattle.client_rounds.specs.OneThing.{moving_of}
 use Rattle.client_rounds.specs.Rounds.{MayTurn, of_process}
-use Rattle.client_rounds.proofs.CallLaws as calling
+use Rattle.file_walks.proofs.Muted as muted
 use Rattle.client_rounds.proofs.EnoughLaws.{may_goes_on, none_any, parted}
 use Rattle.client_rounds.proofs.HearLaws.{all_within, answer_brings_no_more, call_brings_one, end_brings_no_more}
 use Rattle.client_rounds.proofs.HomeDeeds as homing
 use Rattle.client_rounds.proofs.Ledgers.{Ledger, ledger_of}
+use Rattle.client_rounds.proofs.OpLaws as running
 use Rattle.client_rounds.proofs.RunLaws.{Held, answers_in, due_in, moves_in}
 use Rattle.client_rounds.proofs.Sides.{Any}
 use Rattle.client_rounds.proofs.Standing.{Bal, Busy, Rest, busy_apart, cond_most, whole_of}
@@ -72,21 +73,8 @@ files_kept q dev A g H B d r e t s goes less_due less_moves a =
 
 -- Arrivals
 
-module _ (Q : Ledger → Type 0) where
-  carried : (list : List CarriedStream) (s : ClientFiles) → Q (ledger_of s) → Q (ledger_of (arrivals.takes_carried list s))
-  carried [] s p = p
-  carried (stream ∷ list) s p = carried list (asked.takes_some stream.grant s) (calling.takes_some Q stream.grant s p)
-
-  on_if : (b : Bool) (s t : ClientFiles) → Q (ledger_of s) → Q (ledger_of t) → Q (ledger_of (cond b s t))
-  on_if true s t p q = p
-  on_if false s t p q = q
-
-  arrived : (pid : ℕ) (cwd : List (List ℕ)) (list : List CarriedStream) (items : List Carried) (s : ClientFiles) → Q (ledger_of s) → Q (ledger_of (arrivals.arrives pid cwd list items s))
-  arrived pid cwd list items s p =
-      let taken : ClientFiles = arrivals.takes_carried list s in
-      let there : ClientFiles = file_streams.sets_cwd pid cwd taken in
-      let so : Q (ledger_of there) = on_if (list_any (is_under same_pid pid) taken.cwds) _ _ (carried list s p) (carried list s p) in
-      on_if (arrivals.can_arrive pid items there) _ there so so
+arrived : (Q : Ledger → Type 0) (pid : ℕ) (cwd : List (List ℕ)) (list : List CarriedStream) (items : List Carried) (s : ClientFiles) → Q (ledger_of s) → Q (ledger_of (arrivals.arrives pid cwd list items s))
+arrived Q pid cwd list items s p = muted.arrives (running.P Q) (running.mute Q) (λ t streams q. q) pid cwd list items s p
 
 steady_carried : (list : List CarriedStream) (s : ClientFiles) → Steady s (arrivals.takes_carried list s)
 steady_carried [] s = steady_same s s refl refl refl

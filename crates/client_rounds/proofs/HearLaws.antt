@@ -2,42 +2,27 @@
 use Rattle.std.proofs.Common.{arith, ◌≡◌, ℕ, ◌+◌, ◌==◌, Bool, Option, Some, None, refl}
 use Rattle.std.specs.List.{list_any}
 use Rattle.sprite_ids.specs.Lists.{one_if}
-use Rattle.sprite_ids.specs.declared.BlockNo.{BlockNo}
-use Rattle.sprite_ids.specs.declared.FileId.{FileId}
 use Rattle.sprite_ids.specs.declared.Grant.{Grant}
 use Rattle.sprite_ids.specs.declared.StreamNo.{StreamNo}
 use Rattle.sprite_ids.specs.declared.TxNo.{TxNo}
 use Rattle.packet_bodies.specs.declared.ReplyBody.{ReplyBody}
 use Rattle.packet_bodies.specs.declared.ReplyBody.TheVariants as bodies
-use Rattle.packet_bodies.specs.declared.ValueReply.{ValueReply}
 use Rattle.unix_calls.specs.declared.About.{About}
 use Rattle.block_cache.specs.Blocks.{dirty_at}
-use Rattle.block_cache.specs.Held.{is_written_back}
 use Rattle.stream_table.specs.declared.Place.{Place}
-use Rattle.stream_table.specs.declared.Place.TheVariants.{Local, Shared}
-use Rattle.stream_table.specs.declared.Stream.{Stream}
+use Rattle.stream_table.specs.declared.Place.TheVariants.{Shared}
 use Rattle.stream_table.specs.Entries.{may_be_at}
-use Rattle.write_delay.specs.Delays.{listed}
 use Rattle.kernel_steps.specs.Rows.{is_under}
 use Rattle.client_file_tables.specs.declared.client_files.ClientFiles.{ClientFiles}
 use Rattle.client_file_tables.specs.declared.moves.CloseWork.{CloseWork}
 use Rattle.client_file_tables.specs.declared.moves.MoveWork.{MoveWork}
 use Rattle.client_file_tables.specs.declared.pending.Pending.{Pending}
 use Rattle.client_file_tables.specs.declared.pending.Pending.TheVariants as operations
-use Rattle.client_file_tables.specs.declared.states.DataState.{DataState}
-use Rattle.client_file_tables.specs.declared.states.DataState.TheVariants as data_states
-use Rattle.client_file_tables.specs.declared.works.DataCall.{DataCall}
-use Rattle.client_file_tables.specs.declared.works.DataKind.{DataKind}
-use Rattle.client_file_tables.specs.declared.works.DataKind.TheVariants as kinds
 use Rattle.client_file_tables.specs.declared.works.WriteBackOut.{WriteBackOut}
 use Rattle.client_file_tables.specs.Locks as locking
 use Rattle.client_file_tables.specs.Rows.{first_call, first_of, less_call, less_of, same_call, same_pid}
-use Rattle.client_file_tables.specs.Says as says
 use Rattle.client_file_tables.specs.Steps as steps
 use Rattle.client_file_tables.specs.Streams.{stream_at}
-use Rattle.client_data.specs.Finishes as finishing
-use Rattle.client_data.specs.Grants as grants
-use Rattle.client_data.specs.Replies as replied
 use Rattle.client_data.specs.SyncAnswers as synced
 use Rattle.client_data.specs.WriteBacks as written
 use Rattle.client_names.specs.Answers as name_answers
@@ -46,68 +31,15 @@ use Rattle.client_streams.specs.Moving as moving
 use Rattle.client_files.specs.Answered as answering
 use Rattle.client_files.specs.CallIssues as issuing
 use Rattle.process_machine.specs.declared.Call.{Call}
-use Rattle.process_machine.specs.declared.Reply.{Reply}
 use Rattle.sprite_ids.specs.declared.DeviceId.{DeviceId}
 use Rattle.client_rounds.specs.Rounds.{move_of, work_of}
-use Rattle.client_rounds.proofs.Ledgers.{Ledger, RunsData, ledger_of}
+use Rattle.client_rounds.proofs.Ledgers.{Ledger, ledger_of}
+use Rattle.file_walks.proofs.Muted as muted
 use Rattle.client_rounds.proofs.CallLaws as calling
-use Rattle.client_facts.proofs.BlockLaws as block_laws
 use Rattle.client_facts.proofs.LockLaws as turns
 use Rattle.client_rounds.proofs.OpLaws as running
 use Rattle.client_rounds.proofs.RunLaws.{Held, answer_of, answers_in, call_runs, close_answer, close_runs, data_runs, due_in, move_runs, moves_in, sync_runs}
 use Rattle.client_rounds.proofs.Totals.{total_first, total_less}
-
--- Operations on files' data
-
-module _ (pid : ℕ) (Q R : Ledger → Type 0) (runs : RunsData pid Q R) where
-  ends_there : (call : DataCall) (reply : Reply) (s : ClientFiles) → Q (ledger_of s) → R (ledger_of (finishing.ends_there pid call reply s))
-  ends_there call reply s p = running.finishes R pid call.stream (says.replies pid reply s) (runs.ends (ledger_of s) reply p)
-
-  moves_here : (kind : DataKind) (stream : StreamNo) (offset : ℕ) (append : Bool) (value : ValueReply) (s : ClientFiles) → Q (ledger_of s) → Q (ledger_of (replied.moves_here kind stream offset append value s))
-  moves_here (kinds.Read many) stream offset append value s p = running.moves_offset Q stream (offset + value.first) s p
-  moves_here (kinds.Write bytes) stream offset append value s p = running.on_if Q append _ _ (running.moves_offset Q stream value.second s p) (running.moves_offset Q stream (offset + value.first) s p)
-  moves_here (kinds.Seek to) stream offset append value s p = p
-  moves_here kinds.Size stream offset append value s p = p
-
-  moves_from : (place : Place) (call : DataCall) (append : Bool) (value : ValueReply) (s : ClientFiles) → Q (ledger_of s) → Q (ledger_of (replied.moves_from place call append value s))
-  moves_from (Local offset) call append value s p = moves_here call.kind call.stream offset append value s p
-  moves_from Shared call append value s p = p
-
-  moves_in_stream : (o : Option Stream) (call : DataCall) (value : ValueReply) (s : ClientFiles) → Q (ledger_of s) → Q (ledger_of (replied.moves_in o call value s))
-  moves_in_stream (Some stream) call value s p = moves_from stream.place call stream.append value s p
-  moves_in_stream None call value s p = p
-
-  served : (body : ReplyBody) (call : DataCall) (s : ClientFiles) → Q (ledger_of s) → R (ledger_of (replied.served pid call body s))
-  served (bodies.Again grant) call s p = running.looks pid Q R runs call (grants.takes_grant grant s) (calling.takes_grant Q grant s p)
-  served (bodies.Refused errno) call s p = ends_there call _ s p
-  served (bodies.Value value) call s p = ends_there call _ (replied.moves_by call value s) (moves_in_stream (stream_at call.stream s) call value s p)
-  served body call s p = runs.waits (ledger_of s) call p
-
-  takes_block : (body : ReplyBody) (file : FileId) (block : BlockNo) (s : ClientFiles) → Q (ledger_of s) → Q (ledger_of (replied.takes_block file block body s))
-  takes_block (bodies.Block stamp bytes) file block s p = block_laws.fills (running.P Q) (running.no_blocks Q) file stamp block bytes s p
-  takes_block (bodies.Again grant) file block s p = calling.takes_grant Q grant s p
-  takes_block body file block s p = p
-
-  pub data_answered : (state : DataState) (call : DataCall) (body : ReplyBody) (s : ClientFiles) → Q (ledger_of s) → R (ledger_of (replied.answered_in state pid call body s))
-  data_answered (data_states.Fetching tx block) call body s p = running.looks pid Q R runs call (replied.takes_block call.file block body s) (takes_block body call.file block s p)
-  data_answered (data_states.AtServer tx) call body s p = served body call s p
-  data_answered data_states.WaitLock call body s p = runs.waits (ledger_of s) call p
-  data_answered data_states.Turn call body s p = runs.waits (ledger_of s) call p
-  data_answered (data_states.Room tx) call body s p = runs.waits (ledger_of s) call p
-
--- Write-backs
-
-module _ (Q : Ledger → Type 0) where
-  cleans_back : (back : WriteBackOut) (s : ClientFiles) → Q (ledger_of s) → Q (ledger_of (written.cleans_back back s))
-  cleans_back back s p = running.on_if Q (is_written_back s.cache back.file back.stamp back.block.0 back.number) _ _ p p
-
-  settles_back : (body : ReplyBody) (back : WriteBackOut) (s : ClientFiles) → Q (ledger_of s) → Q (ledger_of (written.settles_back body back s))
-  settles_back (bodies.Again grant) back s p = calling.takes_grant Q grant s p
-  settles_back body back s p = cleans_back back s p
-
-  lists_again : (o : Option ℕ) (file : FileId) (block : BlockNo) (s : ClientFiles) → Q (ledger_of s) → Q (ledger_of (written.lists_by o file block s))
-  lists_again (Some number) file block s p = running.on_if Q (listed s.delay file block) s _ p (block_laws.lists_free (running.P Q) (running.no_blocks Q) file block s p)
-  lists_again None file block s p = p
 
 module _ (q D M W pid : ℕ) where
   abbrev Fits : Ledger → Type 0
@@ -136,7 +68,7 @@ module _ (q D M W pid : ℕ) where
 
   answered_by : (operation : Pending) (source : ℕ) (body : ReplyBody) (s : ClientFiles) → Held q D M W (work_of q (pid, operation)) (move_of q (pid, operation)) (answer_of (pid, operation)) (ledger_of s) → Fits (ledger_of (answering.answered_by (Some operation) pid source body s))
   answered_by (operations.Name call) source body s p = calling.answers_name (λ other. Held q D M W (one_if (other == q)) 0 1) Fits (call_runs q D M W) call.state pid call.work source body s p
-  answered_by (operations.Data call) source body s p = data_answered pid Works Fits (data_runs q D M W pid) call.state call body s p
+  answered_by (operations.Data call) source body s p = running.data_answered pid Works Fits (data_runs q D M W pid) call.state call body s p
   answered_by (operations.Sync call) source body s p = (sync_runs q D M W pid).waits (ledger_of s) call p
   answered_by (operations.Close work) source body s p = closes (closing.closed_at_server work.state) work s p
   answered_by (operations.Move work) source body s p = move_answered body work s p
@@ -204,7 +136,7 @@ module _ (q D M W : ℕ) where
       let settled : ClientFiles = written.settles_back body back s in
       let again : ClientFiles = written.lists_again back.file back.block settled in
       let woken : ClientFiles = steps.wakes_all tx again in
-      sync_answered (first_call tx woken.txs) body (record woken { txs = less_call tx woken.txs }) (lists_again Within (dirty_at settled.cache.blocks back.file back.block.0) back.file back.block settled (settles_back Within body back s p))
+      sync_answered (first_call tx woken.txs) body (record woken { txs = less_call tx woken.txs }) (muted.lists_again (running.P Within) (running.mute Within) (dirty_at settled.cache.blocks back.file back.block.0) back.file back.block settled (muted.settles_back (running.P Within) (running.mute Within) body back s p))
   back_done None tx body s p = p
 
   heard : (tx : TxNo) (source : ℕ) (body : ReplyBody) (s : ClientFiles) → Within (ledger_of s) → Within (ledger_of (answering.answered tx source body s))

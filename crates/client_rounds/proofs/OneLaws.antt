@@ -65,7 +65,7 @@ use Rattle.client_rounds.proofs.BeginLaws.{begins_so}
 use Rattle.client_rounds.proofs.CallDeeds as calling_on
 use Rattle.client_rounds.proofs.ComeDeeds as coming
 use Rattle.client_rounds.proofs.ComeDeeds.{NextBirth}
-use Rattle.client_rounds.proofs.EnoughLaws.{may_goes_on, none_of, rounds_are_enough}
+use Rattle.client_rounds.proofs.EnoughLaws.{may_goes_on, none_of, rounds_are_enough, turns_keep_this}
 use Rattle.client_rounds.proofs.FileDeeds as filing
 use Rattle.client_rounds.proofs.HomeDeeds as homing
 use Rattle.client_rounds.proofs.RunLaws.{turns_bring_no_more}
@@ -410,6 +410,12 @@ come : (s : ClientProcs) (input : Input) (next : TxNo) (step : ℕ) → InHand (
 come s input next step hand places one =
     let begun : ClientProcs = stepping.begins_step next step s in
     taken input begun (hand_begun input s next step hand) (places_begun s next step places) (said_none (started next) step s refl one)
+
+-- where one thing is on its way to each before a step, each of its rounds has what it needs
+pub may_turn_on : (count : ℕ) (s : ClientProcs) (input : Input) (next : TxNo) (step : ℕ) → InHand (brought input s) s → PlacesAreOnce s → OneThingEach s → MayTurn (turning.turns count (stepping.takes input (stepping.begins_step next step s)))
+may_turn_on count s input next step hand places one =
+    let taken_in : ClientProcs = stepping.takes input (stepping.begins_step next step s) in
+    turns_keep_this count taken_in (filing.rest_may (λ (q : ℕ). 1) false 0 0 taken_in (come s input next step hand places one))
 
 pub steps_are_enough : (s : ClientProcs) (input : Input) (next : TxNo) (step : ℕ) → InHand (brought input s) s → PlacesAreOnce s → OneThingEach s → turning.is_quiet (turning.goes_on (stepping.takes input (stepping.begins_step next step s))) ≡ true
 steps_are_enough s input next step hand places one =

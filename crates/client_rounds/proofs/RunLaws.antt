@@ -142,8 +142,8 @@ module _ (q D M W pid : ℕ) where
   ran (operations.Name call) s p = kept (one_if (pid == q)) 0 1 (operations.Name call) (ledger_of s) (omega arith) (omega arith) (omega arith) p
   ran (operations.Data call) s p = running.looks pid (Held q D M W (one_if (pid == q)) 0 1) Fits data_runs call s p
   ran (operations.Sync call) s p = running.syncs pid (Held q D M W (one_if (pid == q)) 0 1) Fits sync_runs call s p
-  ran (operations.Close work) s p = running.runs_close pid work.of (Held q D M W (one_if (pid == q)) 0 (close_answer work.of)) Fits (close_runs work.of) work.state work s refl p
-  ran (operations.Move work) s p = running.runs_move pid (Held q D M W 0 (one_if (pid == q)) 0) Fits move_runs work.state work s p
+  ran (operations.Close work) s p = running.runs_close pid work.of (Held q D M W (one_if (pid == q)) 0 (close_answer work.of)) Fits (close_runs work.of) work.state work s refl refl p
+  ran (operations.Move work) s p = running.runs_move pid (Held q D M W 0 (one_if (pid == q)) 0) Fits move_runs work.state work s refl p
 
   ran_first : (o : Option Pending) (pids : List ℕ) (s : ClientFiles) → first_of pid s.pending ≡ o → Fits (ledger_of s) → Fits (ledger_of (turning.runs_by o pid (record s { ready = pids; pending = less_of pid s.pending })))
   ran_first None pids s found p =

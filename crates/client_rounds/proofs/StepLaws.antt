@@ -1,9 +1,7 @@
 -- Steps in which something comes to the files' side.
-use Rattle.std.proofs.Common.{arith, ◌≡◌, ℕ, ◌≤◌, Bool, true, false, cond, List, [], ◌∷◌, Option, Some, None, refl, ap}
+use Rattle.std.proofs.Common.{arith, ◌≡◌, ℕ, ◌≤◌, Bool, true, false, cond, [], Option, Some, None, refl, ap}
 use Rattle.sprite_ids.specs.Lists.{total}
 use Rattle.sprite_ids.specs.declared.BlockNo.{BlockNo}
-use Rattle.sprite_ids.specs.declared.CallKind.{CallKind}
-use Rattle.sprite_ids.specs.declared.CallKind.TheVariants.{Recall, Stop}
 use Rattle.sprite_ids.specs.declared.FileId.{FileId}
 use Rattle.sprite_ids.specs.declared.TxNo.{TxNo}
 use Rattle.packet_bodies.specs.declared.CallbackRequest.{CallbackRequest}
@@ -14,8 +12,6 @@ use Rattle.kernel_steps.specs.declared.Input.{Input}
 use Rattle.kernel_steps.specs.declared.Input.TheVariants as inputs
 use Rattle.kernel_steps.specs.declared.Out.{Out}
 use Rattle.kernel_steps.specs.Outs.{started}
-use Rattle.unix_calls.specs.declared.DropCause.{DropCause}
-use Rattle.unix_calls.specs.declared.DropCause.TheVariants as causes
 use Rattle.block_cache.specs.Blocks.{dirty_at}
 use Rattle.client_file_tables.specs.declared.client_files.ClientFiles.{ClientFiles}
 use Rattle.client_file_tables.specs.Steps.{owns}
@@ -32,6 +28,8 @@ use Rattle.client_facts.proofs.AnswerLaws.{goes_answered, goes_gives_up, steady_
 use Rattle.client_facts.proofs.SteadyLaws.{goes_steady, steady_called_back}
 use Rattle.client_rounds.specs.Rounds.{ComesToFiles, IsCallback, MayTurn, due_to, here, leaves, moves_of, of_process}
 use Rattle.client_rounds.proofs.EnoughLaws.{may_goes_on, rounds_are_enough, rounds_keep_this}
+use Rattle.file_walks.proofs.Muted as muted
+use Rattle.client_rounds.proofs.OpLaws as running
 use Rattle.client_rounds.proofs.HearLaws.{all_within, answer_brings_no_more, end_brings_no_more}
 use Rattle.client_rounds.proofs.Ledgers.{Ledger, ledger_of}
 use Rattle.client_rounds.proofs.RunLaws.{Held, answers_in, due_in, moves_in}
@@ -39,20 +37,8 @@ use Rattle.client_rounds.proofs.RunLaws.{Held, answers_in, due_in, moves_in}
 -- What says nothing to the processes' side and leaves the operations as they are
 
 module _ (Q : Ledger → Type 0) where
-  cleans_all : (list : List BlockNo) (file : FileId) (s : ClientFiles) → Q (ledger_of s) → Q (ledger_of (grants.cleans_all file list s))
-  cleans_all [] file s p = p
-  cleans_all (block ∷ list) file s p = cleans_all list file (grants.cleans_one file block s) p
-
-  drops_all : (list : List BlockNo) (file : FileId) (cause : DropCause) (s : ClientFiles) → Q (ledger_of s) → Q (ledger_of (grants.drops_all file list cause s))
-  drops_all [] file cause s p = p
-  drops_all (block ∷ list) file cause s p = drops_all list file cause (grants.drops_one file block cause s) p
-
-  settles_called : (kind : CallKind) (file : FileId) (dirty list : List BlockNo) (s : ClientFiles) → Q (ledger_of s) → Q (ledger_of (grants.settles_called kind file dirty list s))
-  settles_called Recall file dirty list s p = cleans_all dirty file s p
-  settles_called Stop file dirty list s p = drops_all list file causes.Stop s p
-
   pub called_back : (tx : TxNo) (r : CallbackRequest) (s : ClientFiles) → Q (ledger_of s) → Q (ledger_of (grants.called_back tx r s))
-  called_back tx r s p = settles_called r.kind r.file (grants.dirty_in r.file s) (grants.held_in r.file s) (grants.notes_mode r.file r.stamp (grants.takes_callback r s)) p
+  called_back tx r s p = muted.called_back (running.P Q) (running.mute Q) tx r s p
 
   due_by : (o : Option ℕ) (file : FileId) (block : BlockNo) (s : ClientFiles) → Q (ledger_of s) → Q (ledger_of (written.due_by o file block s))
   due_by (Some number) file block s p = p

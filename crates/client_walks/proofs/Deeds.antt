@@ -94,16 +94,19 @@ pub record KeepsSteps (F P : ClientProcs → Hand → Type 0) : Type 0 where
   pub begins : (s : ClientProcs) (h : Hand) (next : TxNo) (step : ℕ) → F s h → P s h → P (stepping.begins_step next step s) h
   pub ends_step : (s : ClientProcs) (h : Hand) → F s (holds Nothing h) → P s (holds Nothing h) → P (stepping.ends_step s) (holds Nothing h)
 
--- what the files' side does, where that input came
-pub record KeepsFiles (came : Input) (F P : ClientProcs → Hand → Type 0) : Type 0 where
+-- what the files' side does but with its own operations
+pub record KeepsFiles (F P : ClientProcs → Hand → Type 0) : Type 0 where
   pub uses_files : (s : ClientProcs) (h : Hand) (about : About) (call : Call) (device : Option DeviceId) → F s (holds Nothing h) → P s (holds Nothing h) → P (issuing_calls.uses_files about call device s) (holds Nothing h)
   pub called_back : (s : ClientProcs) (h : Hand) (tx : TxNo) (request : CallbackRequest) → F s (holds Nothing h) → P s (holds Nothing h) → P (record s { files = file_grants.called_back tx request s.files }) (holds Nothing h)
-  pub answered : (s : ClientProcs) (h : Hand) (tx : TxNo) (source : ℕ) (body : ReplyBody) → came ≡ inputs.Replied tx source body → tables_of_files.owns tx s.files ≡ true → F s (holds Nothing h) → P s (holds Nothing h) → P (record s { files = file_answers.answered tx source body s.files }) (holds Nothing h)
-  pub gives_up : (s : ClientProcs) (h : Hand) (tx : TxNo) → came ≡ inputs.GaveUp tx → F s (holds Nothing h) → P s (holds Nothing h) → P (record s { files = name_answers.gives_up tx s.files }) (holds Nothing h)
   pub due_goes : (s : ClientProcs) (h : Hand) (file : FileId) (block : BlockNo) → F s (holds Nothing h) → P s (holds Nothing h) → P (record s { files = write_backs.due_goes file block s.files }) (holds Nothing h)
-  pub goes_on : (s : ClientProcs) (h : Hand) → turning.is_quiet s ≡ false → F s (holds Nothing h) → P s (holds Nothing h) → P (record s { files = file_turns.goes_on s.files }) (holds Nothing h)
   pub takes_report : (s : ClientProcs) (h : Hand) (report : Report) (rest : List Report) → s.files.results ≡ report ∷ rest → F s (holds Nothing h) → P s (holds Nothing h) → P (record s { files = record s.files { results = rest } }) (holds Nothing h)
   pub takes_reply : (s : ClientProcs) (h : Hand) (row : ℕ × Reply) (rest : List (ℕ × Reply)) → s.files.out.replies ≡ row ∷ rest → F s (holds Nothing h) → P s (holds Nothing h) → P (record s { files = record s.files { out = record s.files.out { replies = rest } } }) (holds Nothing h)
+
+-- what it does with its operations: an answer to a remote call or the end of one comes, where that input came, and who is woken goes on
+pub record KeepsTurns (came : Input) (F P : ClientProcs → Hand → Type 0) : Type 0 where
+  pub answered : (s : ClientProcs) (h : Hand) (tx : TxNo) (source : ℕ) (body : ReplyBody) → came ≡ inputs.Replied tx source body → tables_of_files.owns tx s.files ≡ true → F s (holds Nothing h) → P s (holds Nothing h) → P (record s { files = file_answers.answered tx source body s.files }) (holds Nothing h)
+  pub gives_up : (s : ClientProcs) (h : Hand) (tx : TxNo) → came ≡ inputs.GaveUp tx → F s (holds Nothing h) → P s (holds Nothing h) → P (record s { files = name_answers.gives_up tx s.files }) (holds Nothing h)
+  pub goes_on : (s : ClientProcs) (h : Hand) → turning.is_quiet s ≡ false → F s (holds Nothing h) → P s (holds Nothing h) → P (record s { files = file_turns.goes_on s.files }) (holds Nothing h)
 
 -- calls that processes come to, and their replies, where that input came
 pub record KeepsCalls (came : Input) (F P : ClientProcs → Hand → Type 0) : Type 0 where
@@ -201,15 +204,20 @@ pub record KeepsComings (F P : ClientProcs → Hand → Type 0) : Type 0 where
   pub is_ready : (s : ClientProcs) (h : Hand) (pid : ℕ) → F s (holds Nothing h) → P s (holds Nothing h) → P (procs_of.in_state pid states.Ready s) (holds Nothing h)
   pub fetches_for_answer : (s : ClientProcs) (h : Hand) (pid page : ℕ) (reply : Reply) → F s (holds Nothing h) → P s (holds Nothing h) → P (paging.fetches_for_answer pid page reply s) (holds Nothing h)
 
--- all that is done within a step, where that input came
-pub record KeepsWithin (came : Input) (F P : ClientProcs → Hand → Type 0) : Type 0 where
-  pub files : KeepsFiles came F P
+-- all that is done within a step but with the operations of the files' side, where that input came
+pub record KeepsApart (came : Input) (F P : ClientProcs → Hand → Type 0) : Type 0 where
+  pub files : KeepsFiles F P
   pub calls : KeepsCalls came F P
   pub homes : KeepsHomes F P
   pub kills : KeepsKills F P
   pub devices : KeepsDevices came F P
   pub moves : KeepsMoves F P
   pub comings : KeepsComings F P
+
+-- and with these operations
+pub record KeepsWithin (came : Input) (F P : ClientProcs → Hand → Type 0) : Type 0 where
+  pub apart : KeepsApart came F P
+  pub turns : KeepsTurns came F P
 
 -- all of these
 pub record Keeps (F P : ClientProcs → Hand → Type 0) : Type 0 where
@@ -234,14 +242,20 @@ pub record KeepsAtHome (P : ClientProcs → Hand → Type 0) (came : Input) : Ty
   pub flags : (s : ClientProcs) (h : Hand) (pid : ℕ) → P s (holds Nothing h) → P (procs_of.killed_at pid s) (holds Nothing h)
   pub lets_go : (s : ClientProcs) (h : Hand) (pid : ℕ) → P s (holds (Holding pid) h) → P s (holds Nothing h)
 
--- what a walk through what is done within a step must keep that was given that: what is done at homes as a whole, and the deeds of the rest
-pub record WalkWithin (P : ClientProcs → Hand → Type 0) (came : Input) : Type 0 where
-  pub files : KeepsFiles came Always P
+-- what a walk through what is done within a step, but with the operations of the files' side, must keep that was given that: what is done at
+-- homes as a whole, and the deeds of the rest
+pub record WalkApart (P : ClientProcs → Hand → Type 0) (came : Input) : Type 0 where
+  pub files : KeepsFiles Always P
   pub calls : KeepsCalls came Always P
   pub home : KeepsAtHome P came
   pub devices : KeepsDevices came Always P
   pub moves : KeepsMoves Always P
   pub comings : KeepsComings Always P
+
+-- and with these operations
+pub record WalkWithin (P : ClientProcs → Hand → Type 0) (came : Input) : Type 0 where
+  pub apart : WalkApart P came
+  pub turns : KeepsTurns came Always P
 
 -- and with its beginning and end
 pub record Walk (P : ClientProcs → Hand → Type 0) (came : Input) : Type 0 where

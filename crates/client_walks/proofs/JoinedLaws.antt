@@ -1,7 +1,7 @@
 -- Two facts, of which the second leans on the first.
 use Rattle.kernel_steps.specs.declared.Input.{Input}
 use Rattle.client_homes.specs.declared.client.ClientProcs.{ClientProcs}
-use Rattle.client_walks.proofs.Deeds.{Always, Both, Hand, Keeps, KeepsCalls, KeepsComings, KeepsDevices, KeepsFiles, KeepsHomes, KeepsKills, KeepsMoves, KeepsSteps, KeepsWithin}
+use Rattle.client_walks.proofs.Deeds.{Always, Both, Hand, Keeps, KeepsApart, KeepsCalls, KeepsComings, KeepsDevices, KeepsFiles, KeepsTurns, KeepsHomes, KeepsKills, KeepsMoves, KeepsSteps, KeepsWithin}
 
 joined_steps : (F P : ClientProcs → Hand → Type 0) → KeepsSteps Always F → KeepsSteps F P → KeepsSteps Always (Both F P)
 joined_steps F P f p = record {
@@ -9,16 +9,20 @@ joined_steps F P f p = record {
   ends_step = λ s h u k. (f.ends_step s h u k.0, p.ends_step s h k.0 k.1);
 }
 
-joined_files : (came : Input) (F P : ClientProcs → Hand → Type 0) → KeepsFiles came Always F → KeepsFiles came F P → KeepsFiles came Always (Both F P)
-joined_files came F P f p = record {
+joined_files : (F P : ClientProcs → Hand → Type 0) → KeepsFiles Always F → KeepsFiles F P → KeepsFiles Always (Both F P)
+joined_files F P f p = record {
   uses_files = λ s h about call device u k. (f.uses_files s h about call device u k.0, p.uses_files s h about call device k.0 k.1);
   called_back = λ s h tx request u k. (f.called_back s h tx request u k.0, p.called_back s h tx request k.0 k.1);
-  answered = λ s h tx source body e0 e1 u k. (f.answered s h tx source body e0 e1 u k.0, p.answered s h tx source body e0 e1 k.0 k.1);
-  gives_up = λ s h tx e0 u k. (f.gives_up s h tx e0 u k.0, p.gives_up s h tx e0 k.0 k.1);
   due_goes = λ s h file block u k. (f.due_goes s h file block u k.0, p.due_goes s h file block k.0 k.1);
-  goes_on = λ s h e0 u k. (f.goes_on s h e0 u k.0, p.goes_on s h e0 k.0 k.1);
   takes_report = λ s h report rest e0 u k. (f.takes_report s h report rest e0 u k.0, p.takes_report s h report rest e0 k.0 k.1);
   takes_reply = λ s h row rest e0 u k. (f.takes_reply s h row rest e0 u k.0, p.takes_reply s h row rest e0 k.0 k.1);
+}
+
+joined_turns : (came : Input) (F P : ClientProcs → Hand → Type 0) → KeepsTurns came Always F → KeepsTurns came F P → KeepsTurns came Always (Both F P)
+joined_turns came F P f p = record {
+  answered = λ s h tx source body e0 e1 u k. (f.answered s h tx source body e0 e1 u k.0, p.answered s h tx source body e0 e1 k.0 k.1);
+  gives_up = λ s h tx e0 u k. (f.gives_up s h tx e0 u k.0, p.gives_up s h tx e0 k.0 k.1);
+  goes_on = λ s h e0 u k. (f.goes_on s h e0 u k.0, p.goes_on s h e0 k.0 k.1);
 }
 
 joined_calls : (came : Input) (F P : ClientProcs → Hand → Type 0) → KeepsCalls came Always F → KeepsCalls came F P → KeepsCalls came Always (Both F P)
@@ -118,10 +122,9 @@ joined_comings F P f p = record {
   fetches_for_answer = λ s h pid page reply u k. (f.fetches_for_answer s h pid page reply u k.0, p.fetches_for_answer s h pid page reply k.0 k.1);
 }
 
--- a fact that is kept within a step where another one is so, and that one: both are kept within it
-pub joined_within : (came : Input) (F P : ClientProcs → Hand → Type 0) → KeepsWithin came Always F → KeepsWithin came F P → KeepsWithin came Always (Both F P)
-joined_within came F P f p = record {
-  files = joined_files came F P f.files p.files;
+joined_apart : (came : Input) (F P : ClientProcs → Hand → Type 0) → KeepsApart came Always F → KeepsApart came F P → KeepsApart came Always (Both F P)
+joined_apart came F P f p = record {
+  files = joined_files F P f.files p.files;
   calls = joined_calls came F P f.calls p.calls;
   homes = joined_homes F P f.homes p.homes;
   kills = joined_kills F P f.kills p.kills;
@@ -129,6 +132,10 @@ joined_within came F P f p = record {
   moves = joined_moves F P f.moves p.moves;
   comings = joined_comings F P f.comings p.comings;
 }
+
+-- a fact that is kept within a step where another one is so, and that one: both are kept within it
+pub joined_within : (came : Input) (F P : ClientProcs → Hand → Type 0) → KeepsWithin came Always F → KeepsWithin came F P → KeepsWithin came Always (Both F P)
+joined_within came F P f p = record { apart = joined_apart came F P f.apart p.apart; turns = joined_turns came F P f.turns p.turns }
 
 -- and by steps as a whole
 pub joined : (F P : ClientProcs → Hand → Type 0) → Keeps Always F → Keeps F P → Keeps Always (Both F P)

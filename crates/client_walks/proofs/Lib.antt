@@ -6,6 +6,7 @@ pub mod WalkLaws
 pub mod Bearing
 pub mod DataBearing
 pub mod NameBearing
+pub mod SideBearing
 pub mod StepBearing
 pub mod AnswerLaws
 pub mod RowLaws

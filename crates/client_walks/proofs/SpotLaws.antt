@@ -58,7 +58,7 @@ use Rattle.client_procs.specs.Issues as issuing_calls
 use Rattle.client_procs.specs.Launching as launching
 use Rattle.client_facts.proofs.BirthLaws.{length_ending, length_killing, length_put, length_waiting}
 use Rattle.client_walks.specs.Hands.{Held, Nothing, Holding, hand_of}
-use Rattle.client_walks.proofs.Deeds.{Hand, Keeps, KeepsCalls, KeepsComings, KeepsDevices, KeepsFiles, KeepsHomes, KeepsKills, KeepsMoves, KeepsSteps}
+use Rattle.client_walks.proofs.Deeds.{Hand, Keeps, KeepsCalls, KeepsComings, KeepsDevices, KeepsFiles, KeepsTurns, KeepsHomes, KeepsKills, KeepsMoves, KeepsSteps}
 use Rattle.client_walks.proofs.RowLaws.{less_same, removed_same}
 use Rattle.client_walks.proofs.Spots.{KeepsSpots, Spots, spots_of}
 
@@ -219,14 +219,18 @@ module _ (F : ClientProcs → Hand → Type 0) (Q : Spots → Held → Type 0) (
   steps : KeepsSteps F Holds
   steps = record { begins = λ s h next step f p. p; ends_step = λ s h f p. p }
 
-  files : (came : Input) → KeepsFiles came F Holds
-  files came = record {
-    uses_files = λ s h about call device f p. state_kept Nothing about.pid states.InFiles s p;
-    called_back = λ s h tx request f p. p;
+  turns : (came : Input) → KeepsTurns came F Holds
+  turns came = record {
     answered = λ s h tx source body e g f p. p;
     gives_up = λ s h tx e f p. p;
-    due_goes = λ s h file block f p. p;
     goes_on = λ s h e f p. p;
+  }
+
+  files : KeepsFiles F Holds
+  files = record {
+    uses_files = λ s h about call device f p. state_kept Nothing about.pid states.InFiles s p;
+    called_back = λ s h tx request f p. p;
+    due_goes = λ s h file block f p. p;
     takes_report = λ s h report rest e f p. p;
     takes_reply = λ s h row rest e f p. p;
   }
@@ -340,5 +344,8 @@ module _ (F : ClientProcs → Hand → Type 0) (Q : Spots → Held → Type 0) (
   pub by_spots : Keeps F Holds
   by_spots = record {
     steps = steps;
-    within = λ came. record { files = files came; calls = calls came; homes = homes_kept; kills = kills_kept; devices = devices came; moves = moves; comings = comings };
+    within = λ came. record {
+      apart = record { files = files; calls = calls came; homes = homes_kept; kills = kills_kept; devices = devices came; moves = moves; comings = comings };
+      turns = turns came;
+    };
   }

@@ -87,11 +87,17 @@ use Rattle.client_procs.specs.Steps.{client_step}
 use Rattle.client_procs.specs.Turning as turning
 use Rattle.client_facts.proofs.PlaceLaws.{by_bool}
 use Rattle.client_walks.specs.Hands.{Nothing, Coming, Holding, brought, coming_if, heard}
-use Rattle.client_walks.proofs.AtHomeLaws.{by_deeds}
-use Rattle.client_walks.proofs.Deeds.{Always, Hand, Keeps, KeepsSteps, KeepsWithin, Walk, WalkWithin, holds}
+use Rattle.client_walks.proofs.AtHomeLaws.{apart_by_deeds, by_deeds}
+use Rattle.client_walks.proofs.Deeds.{Always, Hand, Keeps, KeepsSteps, KeepsWithin, Walk, WalkApart, WalkWithin, holds}
 use Rattle.client_walks.proofs.ReplyLaws.{NotSo, Refused, Safe}
 
-module _ (P : ClientProcs → Hand → Type 0) (came : Input) (walk : WalkWithin P came) (h : Hand) where
+-- whether what comes is neither an answer to a remote call nor the end of one
+abbrev pub IsOther : Input → Type 0
+IsOther (inputs.Replied tx source body) = ⊥
+IsOther (inputs.GaveUp tx) = ⊥
+IsOther _ = Unit {0}
+
+module _ (P : ClientProcs → Hand → Type 0) (came : Input) (walk : WalkApart P came) (h : Hand) where
   -- no process is in hand
   abbrev At : ClientProcs → Type 0
   At s = P s (holds Nothing h)
@@ -472,22 +478,19 @@ module _ (P : ClientProcs → Hand → Type 0) (came : Input) (walk : WalkWithin
   call_taken (Some call) tx body s p = walk.calls.takes_call s (holds Nothing h) tx tt p
 
   -- an answer to a remote call of the processes' side
-  walk_heard : (tx : TxNo) (body : ReplyBody) (s : ClientProcs) → P s (holds (heard (first_under procs_of.is_call tx s.unfinished) body s) h) → At (hearing.hears_own tx body s)
+  pub walk_heard : (tx : TxNo) (body : ReplyBody) (s : ClientProcs) → P s (holds (heard (first_under procs_of.is_call tx s.unfinished) body s) h) → At (hearing.hears_own tx body s)
   walk_heard tx body s p =
       let call = first_under procs_of.is_call tx s.unfinished in
       heard_if call tx body (record s { unfinished = less (is_under procs_of.is_call tx) s.unfinished }) (call_taken call tx body s p)
 
-  replied : (b : Bool) (tx : TxNo) (source : ℕ) (body : ReplyBody) (s : ClientProcs) → came ≡ inputs.Replied tx source body → owns tx s.files ≡ b → P s (holds (cond b Nothing (heard (first_under procs_of.is_call tx s.unfinished) body s)) h) → At (cond b (says.with_files (file_answers.answered tx source body s.files) s) (hearing.hears_own tx body s))
-  replied true tx source body s is e p = walk.files.answered s h tx source body is e tt p
-  replied false tx source body s is e p = walk_heard tx body s p
-
-  taken : (input : Input) (s : ClientProcs) → came ≡ input → P s (holds (brought input s) h) → At (stepping.takes input s)
-  taken (inputs.Issued pid number call) s e p = issued (about_of pid number) call s e p
-  taken (inputs.Request tx source body) s e p = served body tx source s e p
-  taken (inputs.Replied tx source body) s e p = replied (owns tx s.files) tx source body s e refl p
-  taken (inputs.GaveUp tx) s e p = walk.files.gives_up s h tx e tt p
-  taken (inputs.Due file block) s e p = walk.files.due_goes s h file block tt p
-  taken (inputs.PageNeeded pid page) s e p = page_needed pid page s p
+  -- what comes but an answer to a remote call, or the end of one
+  pub other_taken : (input : Input) (s : ClientProcs) → came ≡ input → IsOther input → P s (holds (brought input s) h) → At (stepping.takes input s)
+  other_taken (inputs.Issued pid number call) s e other p = issued (about_of pid number) call s e p
+  other_taken (inputs.Request tx source body) s e other p = served body tx source s e p
+  other_taken (inputs.Replied tx source body) s e other p = absurd other
+  other_taken (inputs.GaveUp tx) s e other p = absurd other
+  other_taken (inputs.Due file block) s e other p = walk.files.due_goes s h file block tt p
+  other_taken (inputs.PageNeeded pid page) s e other p = page_needed pid page s p
 
   -- Rounds
 
@@ -513,28 +516,45 @@ module _ (P : ClientProcs → Hand → Type 0) (came : Input) (walk : WalkWithin
   replies_given zero s p = p
   replies_given (suc count) s p = let before : ClientProcs = turning.gives_turns count s in replies_first before.files.out.replies before refl (replies_given count s p)
 
-  turned : (s : ClientProcs) → At s → At (turning.turned s)
-  turned s p =
-      let ran : ClientProcs = record s { files = file_turns.goes_on s.files } in
-      let given : ClientProcs = turning.gives_all ran in
-      on_if (holds Nothing h) (turning.is_quiet s) s (turning.takes_all given) (λ e. p)
-      (λ e. reports_taken (length given.files.results) given (replies_given (length ran.procs) ran (walk.files.goes_on s h e tt p)))
+  -- the rest of a round, behind the turns of the files' side
+  pub round_ends : (s : ClientProcs) → At s → At (turning.takes_all (turning.gives_all s))
+  round_ends s p = let given : ClientProcs = turning.gives_all s in reports_taken (length given.files.results) given (replies_given (length s.procs) s p)
 
-  rounds : (count : ℕ) (s : ClientProcs) → At s → At (turning.turns count s)
+module _ (P : ClientProcs → Hand → Type 0) (came : Input) (walk : WalkWithin P came) (h : Hand) where
+  abbrev AtRest : ClientProcs → Type 0
+  AtRest s = P s (holds Nothing h)
+
+  replied : (b : Bool) (tx : TxNo) (source : ℕ) (body : ReplyBody) (s : ClientProcs) → came ≡ inputs.Replied tx source body → owns tx s.files ≡ b → P s (holds (cond b Nothing (heard (first_under procs_of.is_call tx s.unfinished) body s)) h) → AtRest (cond b (says.with_files (file_answers.answered tx source body s.files) s) (hearing.hears_own tx body s))
+  replied true tx source body s is e p = walk.turns.answered s h tx source body is e tt p
+  replied false tx source body s is e p = walk_heard P came walk.apart h tx body s p
+
+  taken : (input : Input) (s : ClientProcs) → came ≡ input → P s (holds (brought input s) h) → AtRest (stepping.takes input s)
+  taken (inputs.Replied tx source body) s e p = replied (owns tx s.files) tx source body s e refl p
+  taken (inputs.GaveUp tx) s e p = walk.turns.gives_up s h tx e tt p
+  taken (inputs.Issued pid number call) s e p = other_taken P came walk.apart h (inputs.Issued pid number call) s e tt p
+  taken (inputs.Request tx source body) s e p = other_taken P came walk.apart h (inputs.Request tx source body) s e tt p
+  taken (inputs.Due file block) s e p = other_taken P came walk.apart h (inputs.Due file block) s e tt p
+  taken (inputs.PageNeeded pid page) s e p = other_taken P came walk.apart h (inputs.PageNeeded pid page) s e tt p
+
+  turned_if : (b : Bool) (s : ClientProcs) → turning.is_quiet s ≡ b → AtRest s → AtRest (cond b s (turning.takes_all (turning.gives_all (record s { files = file_turns.goes_on s.files }))))
+  turned_if true s e p = p
+  turned_if false s e p = round_ends P came walk.apart h (record s { files = file_turns.goes_on s.files }) (walk.turns.goes_on s h e tt p)
+
+  rounds : (count : ℕ) (s : ClientProcs) → AtRest s → AtRest (turning.turns count s)
   rounds zero s p = p
-  rounds (suc count) s p = turned (turning.turns count s) (rounds count s p)
+  rounds (suc count) s p = let before : ClientProcs = turning.turns count s in turned_if (turning.is_quiet before) before refl (rounds count s p)
 
   -- what each part of the walk keeps, all rounds keep
-  pub walk_rounds : (s : ClientProcs) → At s → At (turning.goes_on s)
+  pub walk_rounds : (s : ClientProcs) → AtRest s → AtRest (turning.goes_on s)
   walk_rounds s p = rounds (turning.rounds_for s) s p
 
   -- and all that is done within a step, with what came in hand at first
-  pub walk_within : (s : ClientProcs) → P s (holds (brought came s) h) → At (turning.goes_on (stepping.takes came s))
+  pub walk_within : (s : ClientProcs) → P s (holds (brought came s) h) → AtRest (turning.goes_on (stepping.takes came s))
   walk_within s p = walk_rounds (stepping.takes came s) (taken came s refl p)
 
 -- what each deed keeps, an answer to a remote call of the processes' side keeps
 pub heard_own : (P : ClientProcs → Hand → Type 0) (came : Input) → KeepsWithin came Always P → (h : Hand) (tx : TxNo) (body : ReplyBody) (s : ClientProcs) → P s (holds (heard (first_under procs_of.is_call tx s.unfinished) body s) h) → P (hearing.hears_own tx body s) (holds Nothing h)
-heard_own P came keeps h tx body s p = walk_heard P came (by_deeds P came keeps) h tx body s p
+heard_own P came keeps h tx body s p = walk_heard P came (apart_by_deeds P came keeps.apart) h tx body s p
 
 -- and all rounds of a step
 pub rounds_keep : (P : ClientProcs → Hand → Type 0) (came : Input) → KeepsWithin came Always P → (h : Hand) (s : ClientProcs) → P s (holds Nothing h) → P (turning.goes_on s) (holds Nothing h)

@@ -1,0 +1,4 @@
+pub mod Muted
+pub mod DataWalks
+pub mod CloseWalks
+pub mod CallWalks

@@ -1,0 +1,82 @@
+-- Which answers and ends of remote calls an operation of the files' side takes: what a server answers, and what a kernel gives up.
+use Rattle.std.specs.Prelude.{◌≡◌, ℕ, Bool, true, false, List, Option, Some, None}
+use Rattle.packet_bodies.specs.declared.ReplyBody.{ReplyBody}
+use Rattle.packet_bodies.specs.declared.ReplyBody.TheVariants as replies
+use Rattle.kernel_steps.specs.declared.Input.{Input}
+use Rattle.kernel_steps.specs.declared.Input.TheVariants as inputs
+use Rattle.client_file_tables.specs.declared.client_files.ClientFiles.{ClientFiles}
+use Rattle.client_file_tables.specs.declared.pending.Pending.{Pending}
+use Rattle.client_file_tables.specs.declared.pending.Pending.TheVariants as operations
+use Rattle.client_file_tables.specs.declared.states.DataState.{DataState}
+use Rattle.client_file_tables.specs.declared.states.DataState.TheVariants as states
+use Rattle.client_file_tables.specs.declared.states.SyncState.{SyncState}
+use Rattle.client_file_tables.specs.declared.states.SyncState.TheVariants as syncs
+use Rattle.client_file_tables.specs.declared.states.CloseState.{CloseState}
+use Rattle.client_file_tables.specs.declared.states.CloseState.TheVariants as closes
+use Rattle.client_file_tables.specs.declared.states.MoveState.{MoveState}
+use Rattle.client_file_tables.specs.declared.states.MoveState.TheVariants as moves
+use Rattle.client_file_tables.specs.Rows.{first_call, first_of}
+
+-- whether a server so answers an operation on a file's data
+abbrev pub is_op_answer : ReplyBody → Bool
+is_op_answer (replies.Again grant) = true
+is_op_answer (replies.Refused why) = true
+is_op_answer (replies.Value value) = true
+is_op_answer _ = false
+
+-- whether it so answers a move
+abbrev pub is_move_answer : ReplyBody → Bool
+is_move_answer (replies.Moved grant many) = true
+is_move_answer _ = false
+
+-- whether an operation on a file's data that waits so takes the answer: what is done at the server is answered as such
+abbrev pub data_takes : DataState → ReplyBody → Bool
+data_takes (states.AtServer tx) body = is_op_answer body
+data_takes _ body = true
+
+abbrev pub move_takes : MoveState → ReplyBody → Bool
+move_takes moves.WaitLock body = true
+move_takes (moves.MovingOut tx kept place) body = is_move_answer body
+
+-- whether a looked-up operation takes it
+abbrev pub takes_answer : Option Pending → ReplyBody → Bool
+takes_answer (Some (operations.Data call)) body = data_takes call.state body
+takes_answer (Some (operations.Move work)) body = move_takes work.state body
+takes_answer _ body = true
+
+-- whether a looked-up operation may see its remote call given up: broadcasts and signs of life are name calls', and no others are given up
+abbrev pub may_end : Option Pending → Bool
+may_end (Some (operations.Name call)) = true
+may_end (Some operation) = false
+may_end None = true
+
+-- the operation of a looked-up process
+abbrev pub operation_of : Option ℕ → List (ℕ × Pending) → Option Pending
+operation_of (Some pid) rows = first_of pid rows
+operation_of None rows = None
+
+-- what comes fits what the operation waits for whose remote call it is
+abbrev pub FitsItsCall : Input → ClientFiles → Type 0
+FitsItsCall (inputs.Replied tx source body) s = takes_answer (operation_of (first_call tx s.txs) s.pending) body ≡ true
+FitsItsCall (inputs.GaveUp tx) s = may_end (operation_of (first_call tx s.txs) s.pending) ≡ true
+FitsItsCall _ s = Unit {0}
+
+abbrev pub data_begins : DataState → Bool
+data_begins states.WaitLock = true
+data_begins _ = false
+
+abbrev pub sync_begins : SyncState → Bool
+sync_begins syncs.Looking = true
+sync_begins _ = false
+
+abbrev pub close_begins : CloseState → Bool
+close_begins closes.WaitLock = true
+close_begins (closes.Closing tx stream) = false
+
+-- whether a call's operation begins so: it waits for a lock, or for nothing
+abbrev pub begins_so : Pending → Bool
+begins_so (operations.Name call) = false
+begins_so (operations.Data call) = data_begins call.state
+begins_so (operations.Sync call) = sync_begins call.state
+begins_so (operations.Close work) = close_begins work.state
+begins_so (operations.Move work) = false
