@@ -1,4 +1,4 @@
-pub mod CountLaws
+pub mod AgeLaws
 pub mod DropLaws
 pub mod EachLaws
 pub mod HeldLaws
@@ -7,9 +7,10 @@ pub mod KeptLaws
 pub mod KeyLaws
 pub mod LookupLaws
 pub mod OrderLaws
-pub mod RangeLaws
+pub mod PlainLaws
 pub mod ReachLaws
 pub mod SoundLaws
 pub mod StateLaws
 pub mod StayLaws
+pub mod ToldLaws
 pub mod WriteLaws

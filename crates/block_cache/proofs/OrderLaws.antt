@@ -3,7 +3,10 @@ use Rattle.std.proofs.Common.{◌≡◌, Bool, true, false, cond, [], ◌∷◌,
 use Rattle.std.specs.Option.{option_or}
 use Rattle.block_cache.specs.declared.key.BlockKey.{BlockKey}
 use Rattle.block_cache.specs.declared.block.Block.{Block}
+use Rattle.block_cache.specs.declared.kept.Kept.{Kept}
 use Rattle.block_cache.specs.Blocks.{Blocks, oldest}
+use Rattle.block_cache.specs.Ages.{Rows, plain_of, plain}
+use Rattle.block_cache.proofs.PlainLaws.{plain_append}
 
 module _ (test : BlockKey × Block → Bool) where
   or_some : (o : Option (BlockKey × Block)) (e : BlockKey × Block) (p : Option (BlockKey × Block)) → o ≡ Some e → option_or o p ≡ Some e
@@ -19,10 +22,11 @@ module _ (test : BlockKey × Block → Bool) where
   oldest_before [] e h = ap (λ b. cond b (Some e) None) h
   oldest_before (first ∷ rest) e h = ap (λ o. option_or o (cond (test first) (Some first) None)) (oldest_before rest e h)
 
-  -- the walk stops at the entry that it looks for
-  pub stops_at : (all left rest : Blocks) (e : BlockKey × Block) → oldest test left ≡ oldest test all → left ≡ rest ++ e ∷ [] → test e ≡ true → oldest test all ≡ Some e
-  stops_at all left rest e same is h = sym same ∙ ap (oldest test) is ∙ oldest_last rest e h
+  -- the walk stops at the block that it looks for
+  pub stops_at : (all left rest : Rows) (e : BlockKey × Kept) → oldest test (plain left) ≡ oldest test (plain all) → left ≡ rest ++ e ∷ [] → test (plain_of e) ≡ true → oldest test (plain all) ≡ Some (plain_of e)
+  stops_at all left rest e same is h = sym same ∙ ap (λ (rows : Rows). oldest test (plain rows)) is ∙ ap (oldest test) (plain_append rest (e ∷ [])) ∙ oldest_last (plain rest) (plain_of e) h
 
   -- and goes on past every other
-  pub goes_past : (all left rest : Blocks) (e : BlockKey × Block) → oldest test left ≡ oldest test all → left ≡ rest ++ e ∷ [] → test e ≡ false → oldest test rest ≡ oldest test all
-  goes_past all left rest e same is h = sym (oldest_before rest e h) ∙ sym (ap (oldest test) is) ∙ same
+  pub goes_past : (all left rest : Rows) (e : BlockKey × Kept) → oldest test (plain left) ≡ oldest test (plain all) → left ≡ rest ++ e ∷ [] → test (plain_of e) ≡ false → oldest test (plain rest) ≡ oldest test (plain all)
+  goes_past all left rest e same is h =
+      sym (oldest_before (plain rest) (plain_of e) h) ∙ sym (ap (oldest test) (plain_append rest (e ∷ []))) ∙ sym (ap (λ (rows : Rows). oldest test (plain rows)) is) ∙ same

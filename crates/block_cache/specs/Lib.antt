@@ -1,5 +1,5 @@
+pub mod Ages
 pub mod Blocks
-pub mod Counts
 pub mod Files
 pub mod Held
 pub mod Laws

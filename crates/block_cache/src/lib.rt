@@ -2,6 +2,7 @@
 //! grants and callbacks of the file's server, and the blocks of all files in one order of use.
 #![tactic(auto)]
 
+mod ages;
 mod block;
 mod block_bytes;
 mod blocks;
@@ -10,6 +11,7 @@ mod file_state;
 mod file_table;
 mod filled;
 mod held_blocks;
+mod kept;
 mod key;
 mod laws;
 mod oldest;

@@ -1,11 +1,13 @@
-ghost use Rattle.std.specs.Prelude.{◌≡◌, ◌≤◌, ◌<◌, ◌+◌, ◌*◌, ◌∷◌, OnOk, OnErr, length, option_copied, false};
+ghost use Rattle.std.specs.Prelude.{◌≡◌, ◌≤◌, ◌<◌, ◌+◌, ◌*◌, ◌∷◌, OnOk, OnErr, is_some, length, option_copied, option_map, false};
+ghost use Rattle.std.specs.Map.{lookup, remove_entry};
 ghost use Rattle.lru.specs.LruCache.{lru_cache};
-ghost use Rattle.block_cache.specs.Blocks.{block_at, written_there, is_held, cleaned};
-ghost use Rattle.block_cache.specs.Counts.{one_dirty, one_clean, clean_from};
+ghost use Rattle.block_cache.specs.Blocks.{is_at};
+ghost use Rattle.block_cache.specs.Ages.{last_of, used_there, soiled_there, cleaned_row};
 ghost use Rattle.block_cache.specs.Held.{clean_block};
 
 use crate::block::Block;
 use crate::block_bytes::BlockBytes;
+use crate::kept::{Kept, LastUse};
 use crate::key::BlockKey;
 use crate::parts::{piece, start_of};
 use lru::LruCache;
@@ -14,103 +16,112 @@ use std::alloc::Global;
 
 // The block, where it is held.
 pub(crate) fn find<'a>(
-    blocks: &'a LruCache<BlockKey, Block>,
+    blocks: &'a LruCache<BlockKey, Kept>,
     file: &FileId,
     block: BlockNo,
-) -> Option<&'a Block>
-    ensures { option_copied result ≡ block_at blocks.now.entries file.now block.0 }
+) -> Option<&'a Kept>
+    ensures { option_copied result ≡ lookup (is_at file.now block.0) blocks.now.entries }
 {
     blocks.peek(&BlockKey::of(file, block))
 }
 
-// 1 where the block is held dirty, else 0.
-pub(crate) fn one_dirty(blocks: &LruCache<BlockKey, Block>, file: &FileId, block: BlockNo) -> usize
-    ensures { result ≡ one_dirty (block_at blocks.now.entries file.now block.0) }
-{
-    match find(blocks, file, block) {
-        Some(held) => match held.dirty {
-            Some(_) => 1,
-            None => 0,
-        },
-        None => 0,
-    }
-}
-
-// 1 where the block is held clean, else 0.
-pub(crate) fn one_clean(blocks: &LruCache<BlockKey, Block>, file: &FileId, block: BlockNo) -> usize
-    ensures { result ≡ one_clean (block_at blocks.now.entries file.now block.0) }
-{
-    match find(blocks, file, block) {
-        Some(held) => match held.dirty {
-            Some(_) => 0,
-            None => 1,
-        },
-        None => 0,
-    }
-}
-
-// How many are held clean of that many blocks of the file from there on.
-pub(crate) fn clean_from(
-    blocks: &LruCache<BlockKey, Block>,
+// The block's last use, where it is held.
+pub(crate) fn last_use(
+    blocks: &LruCache<BlockKey, Kept>,
     file: &FileId,
-    first: u16,
-    count: u16,
-) -> usize
-    requires { first + count ≤ 65535 }
-    ensures { result ≡ clean_from blocks.now.entries file.now first count }
+    block: BlockNo,
+) -> Option<LastUse>
+    ensures { result ≡ option_map last_of (lookup (is_at file.now block.0) blocks.now.entries) }
 {
-    let mut clean = 0;
-    for place in 0..count {
-        clean += one_clean(blocks, file, BlockNo(first + place));
+    match find(blocks, file, block) {
+        Some(held) => Some(held.last_use()),
+        None => None,
     }
-    clean
 }
 
-// Puts a clean block in, which isn't held, as the most recently used.
+// Puts a clean block in, which isn't held, as the most recently used, under that number.
 pub(crate) fn put(
-    blocks: &mut LruCache<BlockKey, Block>,
+    blocks: &mut LruCache<BlockKey, Kept>,
     alloc: Global,
     key: BlockKey,
     bytes: &[u8],
+    age: u64,
 ) -> Result<(), NoMemory>
-    requires absent { is_held blocks.old.entries key.file key.block.0 ≡ false }
+    requires absent { is_some (lookup (is_at key.file key.block.0) blocks.old.entries) ≡ false }
     requires room { length blocks.old.entries < blocks.old.cap }
     requires bytes { length bytes.now ≤ 4096 }
-    ensures ok { OnOk result (blocks.new ≡ lru_cache ((key, clean_block bytes.now) ∷ blocks.old.entries) blocks.old.cap) }
+    ensures ok { OnOk result (blocks.new ≡ lru_cache ((key, record { block = clean_block bytes.now; age = age }) ∷ blocks.old.entries) blocks.old.cap) }
     ensures err { OnErr result (blocks.new ≡ blocks.old) }
 {
-    let block = Block {
-        bytes: BlockBytes::of_slice(alloc, bytes)?,
-        dirty: None,
-    };
-    blocks.put(key, block)?;
+    let bytes = BlockBytes::of_slice(alloc, bytes)?;
+    let block = Block { bytes, dirty: None };
+    blocks.put(key, Kept { block, age })?;
     Ok(())
 }
 
 // Makes the block clean, where it is held.
-pub(crate) fn clean(blocks: &mut LruCache<BlockKey, Block>, file: &FileId, block: BlockNo)
-    ensures { blocks.new ≡ lru_cache (cleaned blocks.old.entries file.now block.0) blocks.old.cap }
+pub(crate) fn clean(blocks: &mut LruCache<BlockKey, Kept>, file: &FileId, block: BlockNo)
+    ensures { blocks.new ≡ lru_cache (cleaned_row (is_at file.now block.0) blocks.old.entries (lookup (is_at file.now block.0) blocks.old.entries)) blocks.old.cap }
 {
     if let Some(held) = blocks.peek_mut(&BlockKey::of(file, block)) {
-        held.dirty = None;
+        held.block.dirty = None;
     }
 }
 
-// Writes those of the bytes from there on that stand in the block, uses it, and makes it dirty with that number.
+// Uses the block under that number; its use before, where it is held.
+pub(crate) fn use_one(
+    blocks: &mut LruCache<BlockKey, Kept>,
+    key: &BlockKey,
+    age: u64,
+) -> Option<LastUse>
+    ensures before { result ≡ option_map last_of (lookup (is_at key.now.file key.now.block.0) blocks.old.entries) }
+    ensures rows { blocks.new ≡ lru_cache (used_there (is_at key.now.file key.now.block.0) blocks.old.entries age (lookup (is_at key.now.file key.now.block.0) blocks.old.entries)) blocks.old.cap }
+{
+    match blocks.get_mut(key) {
+        Some(held) => {
+            let before = held.last_use();
+            held.age = age;
+            Some(before)
+        }
+        None => None,
+    }
+}
+
+// Writes those of the bytes from there on that stand in the block, makes it dirty with that number, and uses it under the
+// other; its use before, where it is held.
 pub(crate) fn write_one(
-    blocks: &mut LruCache<BlockKey, Block>,
+    blocks: &mut LruCache<BlockKey, Kept>,
     key: &BlockKey,
     from: u32,
     bytes: &[u8],
     number: u64,
-)
+    age: u64,
+) -> Option<LastUse>
     requires reached { key.now.block.0 ≤ 1024 }
     requires touches { from ≤ 4096 * key.now.block.0 + 4096 }
-    ensures { blocks.new ≡ lru_cache (written_there blocks.old.entries key.now.file key.now.block.0 from bytes.now number (block_at blocks.old.entries key.now.file key.now.block.0)) blocks.old.cap }
+    ensures before { result ≡ option_map last_of (lookup (is_at key.now.file key.now.block.0) blocks.old.entries) }
+    ensures rows { blocks.new ≡ lru_cache (soiled_there (is_at key.now.file key.now.block.0) blocks.old.entries key.now.block.0 from bytes.now number age (lookup (is_at key.now.file key.now.block.0) blocks.old.entries)) blocks.old.cap }
 {
-    if let Some(held) = blocks.get_mut(key) {
-        let at = from.saturating_sub(start_of(key.block)) as usize;
-        held.bytes.write(at, piece(bytes, key.block, from));
-        held.dirty = Some(number);
+    match blocks.get_mut(key) {
+        Some(held) => {
+            let before = held.last_use();
+            let at = from.saturating_sub(start_of(key.block)) as usize;
+            held.block.bytes.write(at, piece(bytes, key.block, from));
+            held.block.dirty = Some(number);
+            held.age = age;
+            Some(before)
+        }
+        None => None,
+    }
+}
+
+// Drops the block; its last use, where it was held.
+pub(crate) fn pop(blocks: &mut LruCache<BlockKey, Kept>, key: &BlockKey) -> Option<LastUse>
+    ensures before { result ≡ option_map last_of (lookup (is_at key.now.file key.now.block.0) blocks.old.entries) }
+    ensures rows { blocks.new ≡ lru_cache (remove_entry (is_at key.now.file key.now.block.0) blocks.old.entries) blocks.old.cap }
+{
+    match blocks.pop(key) {
+        Some(held) => Some(held.last_use()),
+        None => None,
     }
 }
