@@ -1,5 +1,5 @@
 -- What a kernel takes tells of no more faults than the link counts.
-use Rattle.std.proofs.Common.{arith, ◌≡◌, ℕ, false, List, [], ◌++◌, Option, Some, None, Result, Ok, Err, IfOk, refl, sym, ap, subst, ◌∙◌}
+use Rattle.std.proofs.Common.{arith, ◌≡◌, ℕ, true, false, List, [], ◌++◌, Option, Some, None, Result, Ok, Err, IfOk, refl, sym, ap, subst, ◌∙◌}
 use Rattle.sprite_ids.specs.declared.TxNo.{TxNo}
 use Rattle.link_plan.specs.declared.Fate.{Fate}
 use Rattle.kernel_steps.specs.declared.Input.{Input}
@@ -20,6 +20,7 @@ use Rattle.kernel_rpc.specs.Sound.{Wired}
 use Rattle.kernel_steps.specs.declared.Out.{Out}
 use Rattle.unix_calls.specs.declared.Description.{Description}
 use Rattle.sprite_ids.specs.declared.NoMemory.{NoMemory}
+use Rattle.cluster_steps.specs.Receivers.{all_fit}
 use Rattle.cluster_steps.specs.Steps.{GoesOut, TakesSo, took}
 
 -- a step of a kernel tells nothing by itself
@@ -74,7 +75,13 @@ whole_after kernel input next s between out (Ok said) made number whole =
     subst (λ (n : TxNo). untold (stepped kernel input n s).1.events said.sent ≡ []) (sym number) (subst (λ (out : Out). untold out.events said.sent ≡ []) (sym (ap (λ (made : State × Out). made.1) made)) whole)
 whole_after kernel input next s between out (Err e) made number whole = tt
 
--- all its requests go out
+-- all its requests go to kernels that take such
+pub fit_after : (c : Description) (kernel : ℕ) (input : Input) (next : TxNo) (s between : State) (out : Out) (r : Result Said NoMemory) → stepped kernel input next s ≡ (between, out) → IfOk r (λ said. said.next ≡ next) → IfOk r (λ said. all_fit c out.sends ≡ true) → IfOk r (λ said. all_fit c (stepped kernel input said.next s).1.sends ≡ true)
+fit_after c kernel input next s between out (Ok said) made number fit =
+    subst (λ (n : TxNo). all_fit c (stepped kernel input n s).1.sends ≡ true) (sym number) (subst (λ (out : Out). all_fit c out.sends ≡ true) (sym (ap (λ (made : State × Out). made.1) made)) fit)
+fit_after c kernel input next s between out (Err e) made number fit = tt
+
+-- all of them go out
 pub go_after : (c : Description) (kernel : ℕ) (input : Input) (next : TxNo) (s between : State) (out : Out) (r : Result Said NoMemory) → stepped kernel input next s ≡ (between, out) → IfOk r (λ said. said.next ≡ next) → IfOk r (λ said. AllGo c kernel out.sends) → IfOk r (λ said. AllGo c kernel (stepped kernel input said.next s).1.sends)
 go_after c kernel input next s between out (Ok said) made number go =
     subst (λ (n : TxNo). AllGo c kernel (stepped kernel input n s).1.sends) (sym number) (subst (λ (out : Out). AllGo c kernel out.sends) (sym (ap (λ (made : State × Out). made.1) made)) go)
@@ -92,9 +99,9 @@ all_after kernel input next s between t out (Ok said) made number told =
 all_after kernel input next s between t out (Err e) made number told = tt
 
 -- the parts of what a kernel takes
-pub takes_so : {L : Type 0} (faults asked : L → ℕ → ℕ → ℕ) (c : Description) (kernel : ℕ) (input : Input) (old new : Wired L) (s t : State) (r : Result Said NoMemory) → IfOk r (λ said. t ≡ took kernel input said s) → IfOk r (λ said. said.next ≡ next_of old.machine) → IfOk r (λ said. GoesOut faults asked c kernel (stepped kernel input said.next s).1 old new said) → IfOk r (λ said. AllGo c kernel (stepped kernel input said.next s).1.sends) → IfOk r (λ said. untold (stepped kernel input said.next s).1.events said.sent ≡ []) → IfOk r (λ said. without_faults t.told ≡ without_faults s.told ++ (stepped kernel input said.next s).1.events) → IfOk r (AskedFor faults asked kernel old.link new.link) → IfOk r (λ said. TakesSo faults asked c kernel input said old new s t)
-takes_so faults asked c kernel input old new s t (Ok said) state next says go whole all asks = record { next = next; state = state; goes_out = says; go = go; whole = whole; all = all; asks = asks }
-takes_so faults asked c kernel input old new s t (Err e) state next says go whole all asks = tt
+pub takes_so : {L : Type 0} (faults asked : L → ℕ → ℕ → ℕ) (c : Description) (kernel : ℕ) (input : Input) (old new : Wired L) (s t : State) (r : Result Said NoMemory) → IfOk r (λ said. t ≡ took kernel input said s) → IfOk r (λ said. said.next ≡ next_of old.machine) → IfOk r (λ said. GoesOut faults asked c kernel (stepped kernel input said.next s).1 old new said) → IfOk r (λ said. all_fit c (stepped kernel input said.next s).1.sends ≡ true) → IfOk r (λ said. AllGo c kernel (stepped kernel input said.next s).1.sends) → IfOk r (λ said. untold (stepped kernel input said.next s).1.events said.sent ≡ []) → IfOk r (λ said. without_faults t.told ≡ without_faults s.told ++ (stepped kernel input said.next s).1.events) → IfOk r (AskedFor faults asked kernel old.link new.link) → IfOk r (λ said. TakesSo faults asked c kernel input said old new s t)
+takes_so faults asked c kernel input old new s t (Ok said) state next says fit go whole all asks = record { next = next; state = state; goes_out = says; fit = fit; go = go; whole = whole; all = all; asks = asks }
+takes_so faults asked c kernel input old new s t (Err e) state next says fit go whole all asks = tt
 
 -- the wire went on by steps of its runs
 pub takes_ran : {L : Type 0} (faults asked : L → ℕ → ℕ → ℕ) (c : Description) (kernel : ℕ) (input : Input) (said : Said) (old new : Wired L) (s t : State) → TakesSo faults asked c kernel input said old new s t → RanOn faults asked old new

@@ -1,5 +1,5 @@
 -- What a kernel takes, and what it says.
-use Rattle.std.specs.Prelude.{◌≡◌, ℕ, [], ◌++◌}
+use Rattle.std.specs.Prelude.{◌≡◌, ℕ, true, [], ◌++◌}
 use Rattle.kernel_rpc.specs.Sound.{Wired}
 use Rattle.kernel_steps.specs.declared.Input.{Input}
 use Rattle.kernel_steps.specs.declared.Out.{Out}
@@ -12,6 +12,7 @@ use Rattle.cluster_wire.specs.Links.{AskedFor}
 use Rattle.cluster_wire.specs.Noted.{faulted_all, noted_all, untold, without_faults}
 use Rattle.cluster_wire.specs.Replying.{Answered}
 use Rattle.cluster_wire.specs.declared.Said.{Said}
+use Rattle.cluster_steps.specs.Receivers.{all_fit}
 
 -- what a step said is told: all that the kernel did, with the faults of its requests, and then the faults of its answers
 abbrev pub says : ℕ → Said → State × Out → State
@@ -28,12 +29,13 @@ pub record GoesOut {L : Type 0} (faults asked : L → ℕ → ℕ → ℕ) (c : 
   pub answers : Answered faults asked kernel out.answers between new said.answered
 
 -- the kernel takes an input, over a wire that goes from here to there: one step of it, with the number of the next remote call. All goes
--- out that the step says, each request to someone and each answer to the one that waits for it; each packet that went out is told, and of
--- all that is told the faults alone aren't what the step did; the link is asked about these packets alone
+-- out that the step says, each request to kernels of the cluster that take such, and each answer to the one that waits for it; each packet
+-- that went out is told, and of all that is told the faults alone aren't what the step did; the link is asked about these packets alone
 pub record TakesSo {L : Type 0} (faults asked : L → ℕ → ℕ → ℕ) (c : Description) (kernel : ℕ) (input : Input) (said : Said) (old new : Wired L) (s t : State) : Type 0 where
   pub next : said.next ≡ next_of old.machine
   pub state : t ≡ took kernel input said s
   pub goes_out : GoesOut faults asked c kernel (stepped kernel input said.next s).1 old new said
+  pub fit : all_fit c (stepped kernel input said.next s).1.sends ≡ true
   pub go : AllGo c kernel (stepped kernel input said.next s).1.sends
   pub whole : untold (stepped kernel input said.next s).1.events said.sent ≡ []
   pub all : without_faults t.told ≡ without_faults s.told ++ (stepped kernel input said.next s).1.events
