@@ -38,7 +38,7 @@ pub record KeepsBoot (serves : List Parts) (P : Server → Type 0) : Type 0 wher
   pub passes : (s : Server) → P s → P (counts_file s)
 
 -- what a step gave that goes on
-then_some : {A B : Type 0} (o : Option A) (f : A → Option B) (y : B) → booting.and_then o f ≡ Some y → (x : A) × (o ≡ Some x) × (f x ≡ Some y)
+pub then_some : {A B : Type 0} (o : Option A) (f : A → Option B) (y : B) → booting.and_then o f ≡ Some y → (x : A) × (o ≡ Some x) × (f x ≡ Some y)
 then_some (Some x) f y e = (x, refl, e)
 then_some None f y e = absurd (cc)
 
@@ -49,11 +49,11 @@ module _ (serves : List Parts) (P : Server → Type 0) (keeps : KeepsBoot serves
   hung_new None root s next is of e p = absurd (cc)
   hung_new (Some tree) root s next is of e p = subst P (some_is (record s { domains = s.domains ++ record { root = root; names = tree } ∷ [] }) next e) (keeps.hangs s root tree is of p)
 
-  hung_by : (b : Bool) (root : Parts) (s next : Server) → ((path : Parts) → same_path path root ≡ true → begins_domain serves path ≡ true) → cond b (booting.with_domain_of root s (booting.names_of s.roots root)) (Some s) ≡ Some next → P s → P next
+  pub hung_by : (b : Bool) (root : Parts) (s next : Server) → ((path : Parts) → same_path path root ≡ true → begins_domain serves path ≡ true) → cond b (booting.with_domain_of root s (booting.names_of s.roots root)) (Some s) ≡ Some next → P s → P next
   hung_by true root s next is e p = hung_new (booting.names_of s.roots root) root s next is refl e p
   hung_by false root s next is e p = subst P (some_is s next e) p
 
-  hung_each : (rest : List Parts) (parts : ℕ) (s next : Server) → ((path : Parts) → begins_domain rest path ≡ true → begins_domain serves path ≡ true) → booting.hangs_all parts rest s ≡ Some next → P s → P next
+  pub hung_each : (rest : List Parts) (parts : ℕ) (s next : Server) → ((path : Parts) → begins_domain rest path ≡ true → begins_domain serves path ≡ true) → booting.hangs_all parts rest s ≡ Some next → P s → P next
   hung_each [] parts s next inside e p = subst P (some_is s next e) p
   hung_each (root ∷ rest) parts s next inside e p =
       let got = then_some (booting.hangs_one parts root s) (λ (mid : Server). booting.hangs_all parts rest mid) next e in
@@ -113,7 +113,7 @@ module _ (serves : List Parts) (P : Server → Type 0) (keeps : KeepsBoot serves
   line_by true false line s next e p = line_made line s next e p
   line_by false joins line s next e p = subst (λ (t : Server). P (counts_file t)) (some_is s next e) (keeps.passes s p)
 
-  filled : (lines : List FileLine) (s next : Server) → booting.fills lines s ≡ Some next → P s → P next
+  pub filled : (lines : List FileLine) (s next : Server) → booting.fills lines s ≡ Some next → P s → P next
   filled [] s next e p = subst P (some_is s next e) p
   filled (line ∷ lines) s next e p =
       let got = then_some (booting.fills_line line s) (λ (mid : Server). booting.fills lines (counts_file mid)) next e in
