@@ -41,14 +41,14 @@ answered_is_there tx out h =
     let row = counted (answer_of tx) out.answers h in
     record { at = row.at; reply = row.item.1; there = row.there ∙ ap (λ (asker : TxNo). Some (asker, row.item.1)) (call_is row.item.0 tx row.counts) }
 
-wait_there : (tx : TxNo) (s : ClientProcs) → IsWaitKept tx s → WaitIn tx s
+pub wait_there : (tx : TxNo) (s : ClientProcs) → IsWaitKept tx s → WaitIn tx s
 wait_there tx s h =
     let row = counted (wait_of tx) s.waits h in
     let at_pid : ℕ = row.item.0 in
     let parked : Parked = row.item.1 in
     record { at = row.at; pid = at_pid; number = parked.number; there = row.there ∙ ap (λ (o : Option TxNo). Some (at_pid, record parked { tx = o })) (asker_is tx parked.tx row.counts) }
 
-ask_there : (tx : TxNo) (s : ClientProcs) → IsAskKept tx s → AskIn tx s
+pub ask_there : (tx : TxNo) (s : ClientProcs) → IsAskKept tx s → AskIn tx s
 ask_there tx s h =
     let row = counted (ask_of tx) s.asked h in
     record { at = row.at; about = row.item.0; there = row.there ∙ ap (λ (o : Option TxNo). Some (row.item.0, o)) (asker_is tx row.item.1 row.counts) }

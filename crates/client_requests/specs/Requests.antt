@@ -31,16 +31,20 @@ use Rattle.client_requests.specs.Kept.{IsAnswered, IsAskKept, IsKept, IsWaitKept
 
 -- ---- what comes
 
+-- whether each client takes a request, whatever it knows: it goes to clients, and brings no process
+abbrev pub is_always_taken : Request → Bool
+is_always_taken (requests.Callback request) = true
+is_always_taken (requests.Home request) = true
+is_always_taken (requests.Place pid kernel) = true
+is_always_taken (requests.Killed pid) = true
+is_always_taken (requests.Ask request) = true
+is_always_taken body = false
+
 -- whether a client leaves a request alone: it is one for servers, or it brings a process that this kernel knows already
 abbrev pub is_left : Request → ClientProcs → Bool
-is_left (requests.Callback request) s = false
-is_left (requests.Home request) s = false
 is_left (requests.Transfer request) s = not (is_new request.pid s)
 is_left (requests.Launch request) s = not (is_new request.pid s)
-is_left (requests.Place pid kernel) s = false
-is_left (requests.Killed pid) s = false
-is_left (requests.Ask request) s = false
-is_left _ s = true
+is_left body s = not (is_always_taken body)
 
 -- one where a request comes as that remote call: any that isn't left alone, a `wait` for a home, an ask for a device
 abbrev pub taken_in : TxNo → Input → ClientProcs → ℕ

@@ -53,7 +53,7 @@ use Rattle.server_kernel.specs.Says as says
 use Rattle.server_kernel.specs.Served as serving
 use Rattle.server_kernel.specs.Waits.{first_about, is_about, less_about}
 use Rattle.server_walks.proofs.Deeds.{gone_is}
-use Rattle.kept_requests.specs.Kept.{has_answer, is_done, may_ask}
+use Rattle.kept_requests.specs.Kept.{has_answer, is_served, may_ask}
 use Rattle.kept_requests.proofs.EndLaws.{Ends, count_ends, found_ends, is_answer, list_ends, make_ends, remove_ends, rename_ends}
 
 -- ---- where a request stands
@@ -216,7 +216,7 @@ module _ (asked : Asked) where
     renames_with (Some new) s h = on_if (directory.are_apart r.path new s) _ _ (λ t. apart (directory.found_in r.path s) s (found_ends r.path s)) (λ t. renames_found (directory.found_in r.path s) new s (found_ends r.path s))
     renames_with None s h = absurd (cc)
 
-    names_call : (op : NameOp) (s : Server) → is_done op r.second ≡ true → HeldAt asked (naming.names_by op asked r s)
+    names_call : (op : NameOp) (s : Server) → is_served op r.second ≡ true → HeldAt asked (naming.names_by op asked r s)
     names_call name_ops.Walk s h = absurd (cc)
     names_call name_ops.Stat s h = stats (directory.found_in r.path s) s (found_ends r.path s)
     names_call name_ops.Mkdir s h = makes_directory (directory.make_in r.path s) s (make_ends r.path s)
@@ -380,7 +380,7 @@ renames_none : (o : Option Parts) (asked : Asked) (r : NameRequest) (s : Server)
 renames_none (Some new) asked r s e = absurd (cc)
 renames_none None asked r s e = quiet s
 
-names_none : (op : NameOp) (asked : Asked) (r : NameRequest) (s : Server) → is_done op r.second ≡ false → Quiet s (naming.names_by op asked r s)
+names_none : (op : NameOp) (asked : Asked) (r : NameRequest) (s : Server) → is_served op r.second ≡ false → Quiet s (naming.names_by op asked r s)
 names_none name_ops.Walk asked r s e = quiet s
 names_none name_ops.Rename asked r s e = renames_none r.second asked r s e
 names_none op asked r s e = absurd (cc)

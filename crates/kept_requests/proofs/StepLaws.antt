@@ -38,7 +38,7 @@ use Rattle.server_answers.specs.Servers.{IsKept}
 use Rattle.server_answers.proofs.RootLaws.{servers_begin_with_none}
 use Rattle.server_facts.specs.Steps.{BootHas, StepKeeps, after}
 use Rattle.server_facts.proofs.BootLaws.{always}
-use Rattle.kept_requests.specs.Kept.{AnswersOrKeeps, HasCome, IsAnswered, IsOwed, KeepsSuch, OthersArePassedOver, ServersAnswerOrKeep, StaysKept, StepAnswersOrKeeps, WasKept, has_answer, is_done, may_ask, may_be_kept}
+use Rattle.kept_requests.specs.Kept.{AnswersOrKeeps, HasCome, IsAnswered, IsOwed, KeepsSuch, OthersArePassedOver, ServersAnswerOrKeep, StaysKept, StepAnswersOrKeeps, WasKept, has_answer, is_served, may_ask, may_be_kept}
 use Rattle.kept_requests.proofs.ServedLaws.{AnswersIn, HeldAt, Held, InAnswers, InAsking, InWaiting, Rows, StandsIn, answers_more, first_by, granted, passed, serves_done, stands_less, stands_more}
 
 -- ---- lists
@@ -68,7 +68,7 @@ stands_none (row ∷ rows) file request e h = by (is_under is_about file row) e 
 
 -- a name call that comes is one that a server does
 abbrev well_put : Request → Bool
-well_put (requests.Name r) = is_done r.op r.second
+well_put (requests.Name r) = is_served r.op r.second
 well_put body = true
 
 abbrev Known : Asked → Type 0

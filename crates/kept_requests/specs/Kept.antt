@@ -22,33 +22,38 @@ use Rattle.server_kernel.specs.Steps.{server_step}
 use Rattle.server_answers.specs.Servers.{IsKept}
 use Rattle.server_facts.specs.Steps.{after}
 
--- whether a server does a name call: no walk alone, and no rename without a second path
-abbrev pub is_done : NameOp → Option Parts → Bool
-is_done ops.Walk second = false
-is_done ops.Rename second = is_some second
-is_done op second = true
+-- whether a server serves a name call: no walk alone, and no rename without a second path
+abbrev pub is_served : NameOp → Option Parts → Bool
+is_served ops.Walk second = false
+is_served ops.Rename second = is_some second
+is_served op second = true
+
+-- whether each server has an answer to a request, whatever it has: it goes to servers, and asks neither for the server of a prefix nor for
+-- a page
+abbrev pub is_always_answered : Request → Bool
+is_always_answered requests.Echo = true
+is_always_answered (requests.Opening r) = true
+is_always_answered (requests.Name r) = is_served r.op r.second
+is_always_answered (requests.Make r) = true
+is_always_answered (requests.Close r) = true
+is_always_answered (requests.Op r) = true
+is_always_answered (requests.Fetch r) = true
+is_always_answered (requests.WriteBack r) = true
+is_always_answered (requests.Move r) = true
+is_always_answered (requests.PageOut r) = true
+is_always_answered body = false
 
 -- whether a server has an answer to a request, be it at once or when the file isn't busy any more: for the server of a prefix where a
 -- domain of its own hangs there, for a page where that is in its swap, and for what goes to clients never
 abbrev pub has_answer : Server → Request → Bool
-has_answer s requests.Echo = true
 has_answer s (requests.Prefix path) = is_root path s
-has_answer s (requests.Opening r) = true
-has_answer s (requests.Name r) = is_done r.op r.second
-has_answer s (requests.Make r) = true
-has_answer s (requests.Close r) = true
-has_answer s (requests.Op r) = true
-has_answer s (requests.Fetch r) = true
-has_answer s (requests.WriteBack r) = true
-has_answer s (requests.Move r) = true
-has_answer s (requests.PageOut r) = true
 has_answer s (requests.PageIn pid page) = is_some (bytes_of s.swap pid page)
-has_answer s body = false
+has_answer s body = is_always_answered body
 
--- whether a request may be kept: it is about a file, or is a name call that a server does
+-- whether a request may be kept: it is about a file, or is a name call that a server serves
 abbrev pub may_be_kept : Request → Bool
 may_be_kept (requests.Opening r) = true
-may_be_kept (requests.Name r) = is_done r.op r.second
+may_be_kept (requests.Name r) = is_served r.op r.second
 may_be_kept (requests.Close r) = true
 may_be_kept (requests.Op r) = true
 may_be_kept (requests.Fetch r) = true
