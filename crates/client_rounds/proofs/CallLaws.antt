@@ -33,7 +33,7 @@ module _ (Q : ℕ → Ledger → Type 0) (R : Ledger → Type 0) (runs : (pid : 
     quiet = mute (Q pid);
     adds = λ s number stream p. on_if (Q pid) _ _ s p p;
     dups = λ s fd p. p;
-    begins = λ s operation begins p. (runs pid).waits (ledger_of s) operation (work_begun operation begins) p;
+    begins = λ s operation begins leads p. (runs pid).waits (ledger_of s) operation (work_begun operation begins) p;
     echoes = λ s work server p. (runs pid).waits (ledger_of s) _ refl p;
     broadcasts = λ s work prefix p. (runs pid).waits (ledger_of s) _ refl p;
     asks = λ s work server p. (runs pid).waits (ledger_of s) _ refl p;

@@ -51,29 +51,33 @@ module _ (Q : Ledger → Type 0) where
 -- Operations on files' data
 
 module _ (pid : ℕ) (Q R : Ledger → Type 0) (runs : RunsData pid Q R) where
-  deeds : data_walks.RunsData pid (P Q) (P Q) (P R)
-  deeds = record {
+  deeds : (call : DataCall) → data_walks.RunsData pid call (P Q) (P Q) (P Q) (P Q) (P R)
+  deeds call = record {
     quiet = mute Q;
     held = mute Q;
-    locks = λ s stream e p. turns.locks (P Q) (no_turns Q) pid stream s p;
-    waits_lock = λ s call e p. runs.waits (ledger_of (locking.locks pid call.stream s)) _ (turns.locks (P Q) (no_turns Q) pid call.stream s p);
-    not_open = λ s call e p. runs.waits (ledger_of s) _ p;
-    places = λ s stream place p. on_if Q (may_be_at place (stream_at stream s)) _ s p p;
+    first = mute Q;
+    locks = λ s e p. turns.locks (P Q) (no_turns Q) pid call.stream s p;
+    waits_lock = λ s e p. runs.waits (ledger_of (locking.locks pid call.stream s)) _ (turns.locks (P Q) (no_turns Q) pid call.stream s p);
+    not_open = λ s e p. runs.waits (ledger_of s) _ p;
+    places = λ s place p. on_if Q (may_be_at place (stream_at call.stream s)) _ s p p;
     begins_filling = λ s p. turns.begins_filling (P Q) (no_turns Q) pid s p;
-    waits_turn = λ s call p. runs.waits (ledger_of s) _ p;
-    fetches = λ s call block p. runs.waits (ledger_of s) _ p;
-    waits_back = λ s call file block tx e p. runs.waits (ledger_of s) _ p;
-    sends_back = λ s call file block number p. runs.waits (ledger_of s) _ p;
-    asks = λ s call offset append p. runs.waits (ledger_of (fillers.leaves_filling pid s)) _ (turns.leaves_filling (P Q) (no_turns Q) pid s p);
-    ends = λ s stream reply p. turns.unlocks (P R) (no_turns R) stream (fillers.leaves_filling pid (says.replies pid reply s)) (turns.leaves_filling (P R) (no_turns R) pid (says.replies pid reply s) (runs.ends (ledger_of s) reply p));
+    comes_first = λ s e p. p;
+    waits_turn = λ s e p. runs.waits (ledger_of s) _ p;
+    filled = λ s p. p;
+    fetches = λ s block p. runs.waits (ledger_of s) _ p;
+    waits_back = λ s file block tx e p. runs.waits (ledger_of s) _ p;
+    sends_back = λ s file block number p. runs.waits (ledger_of s) _ p;
+    none_dirty = λ s e p. runs.waits (ledger_of s) _ p;
+    asks = λ s offset append p. runs.waits (ledger_of (fillers.leaves_filling pid s)) _ (turns.leaves_filling (P Q) (no_turns Q) pid s p);
+    ends = λ s reply p. turns.unlocks (P R) (no_turns R) call.stream (fillers.leaves_filling pid (says.replies pid reply s)) (turns.leaves_filling (P R) (no_turns R) pid (says.replies pid reply s) (runs.ends (ledger_of s) reply p));
   }
 
   pub looks : (call : DataCall) (s : ClientFiles) → Q (ledger_of s) → R (ledger_of (looking.looks pid call s))
-  looks call s p = data_walks.looks pid (P Q) (P Q) (P R) deeds call s p
+  looks call s p = data_walks.looks pid call (P Q) (P Q) (P Q) (P Q) (P R) (deeds call) s p
 
   pub data_answered : (state : DataState) (call : DataCall) (body : ReplyBody) (s : ClientFiles) → Q (ledger_of s) → R (ledger_of (replied.answered_in state pid call body s))
-  data_answered (data_states.Fetching tx block) call body s p = data_walks.fetched pid (P Q) (P Q) (P R) deeds call block body s p
-  data_answered (data_states.AtServer tx) call body s p = data_walks.served pid (P Q) (P Q) (P R) deeds body call s p p (λ other. runs.waits (ledger_of s) call p)
+  data_answered (data_states.Fetching tx block) call body s p = data_walks.fetched pid call (P Q) (P Q) (P Q) (P Q) (P R) (deeds call) block body s p
+  data_answered (data_states.AtServer tx) call body s p = data_walks.served pid call (P Q) (P Q) (P Q) (P Q) (P R) (deeds call) body s p p (λ other. runs.waits (ledger_of s) call p)
   data_answered data_states.WaitLock call body s p = runs.waits (ledger_of s) call p
   data_answered data_states.Turn call body s p = runs.waits (ledger_of s) call p
   data_answered (data_states.Room tx) call body s p = runs.waits (ledger_of s) call p
@@ -99,15 +103,15 @@ module _ (pid : ℕ) (cause : ClosingOf) (Q R : Ledger → Type 0) (runs : RunsC
   ends_closing (closings.Call number fd) s ends p = ends (ledger_of s) (says.plain_value 0) p
   ends_closing (closings.End about) s ends p = ends (ledger_of s) (says.plain_value 0) p
 
-  deeds_closing : close_walks.RunsClose pid cause (P Q) (P Q) (P R)
+  deeds_closing : close_walks.RunsClose pid cause (P Q) (λ number. P Q) (P R)
   deeds_closing = record {
     quiet = mute Q;
-    held = mute Q;
-    locks = λ s stream e p. turns.locks (P Q) (no_turns Q) pid stream s p;
-    waits_lock = λ s work stream e f p. runs.waits (ledger_of (locking.locks pid stream s)) (closing.closing work.of work.fds) e (turns.locks (P Q) (no_turns Q) pid stream s p);
+    held = λ number. mute Q;
+    locks = λ s number e p. turns.locks (P Q) (no_turns Q) pid number s p;
+    waits_lock = λ s fds fd number f d e p. runs.waits (ledger_of (locking.locks pid number s)) (closing.closing cause fds) refl (turns.locks (P Q) (no_turns Q) pid number s p);
     drops = λ s fd p. p;
-    drops_held = λ s fd p. p;
-    frees = λ s stream p. turns.unlocks (P Q) (no_turns Q) stream s p;
+    drops_held = λ s fd number p. p;
+    frees = λ s number p. turns.unlocks (P Q) (no_turns Q) number s p;
     asks = λ s work number file many e p. runs.waits (ledger_of s) _ e p;
     goes_on = λ s fds p. runs.waits (ledger_of s) (closing.closing cause fds) refl p;
     tells = λ s device p. runs.tells (ledger_of s) device p;
@@ -116,28 +120,28 @@ module _ (pid : ℕ) (cause : ClosingOf) (Q R : Ledger → Type 0) (runs : RunsC
 
   -- the next descriptor, behind one that was closed
   pub closes_on : (work : CloseWork) (s : ClientFiles) → work.of ≡ cause → Q (ledger_of s) → R (ledger_of (closing.closes_on pid work s))
-  closes_on work s e p = close_walks.closes_on pid cause (P Q) (P Q) (P R) deeds_closing work s e p
+  closes_on work s e p = close_walks.closes_on pid cause (P Q) (λ number. P Q) (P R) deeds_closing work s e p
 
   pub runs_close : (state : CloseState) (work : CloseWork) (s : ClientFiles) → work.state ≡ state → work.of ≡ cause → Q (ledger_of s) → R (ledger_of (closing.runs_close_by state pid work s))
   runs_close close_states.WaitLock work s e f p =
       subst (λ (state : CloseState). R (ledger_of (closing.closes_next pid (record work { state = state }) s))) (sym e)
-      (subst (λ (of : ClosingOf). R (ledger_of (closing.closes_next pid (closing.closing of work.fds) s))) (sym f) (close_walks.runs_close pid cause (P Q) (P Q) (P R) deeds_closing work.fds s p))
+      (subst (λ (of : ClosingOf). R (ledger_of (closing.closes_next pid (closing.closing of work.fds) s))) (sym f) (close_walks.runs_close pid cause (P Q) (λ number. P Q) (P R) deeds_closing work.fds s p))
   runs_close (close_states.Closing tx stream) work s e f p = runs.waits (ledger_of s) work f p
 
 -- Moves
 
 module _ (pid : ℕ) (Q R : Ledger → Type 0) (runs : RunsMove pid Q R) where
-  deeds_moving : close_walks.RunsMove pid (P Q) (P Q) (P R)
-  deeds_moving = record {
-    locks = λ s stream e p. turns.locks (P Q) (no_turns Q) pid stream s p;
-    waits_lock = λ s work w e p. runs.waits (ledger_of (locking.locks pid work.stream s)) work (turns.locks (P Q) (no_turns Q) pid work.stream s p);
-    drops = λ s other fd p. p;
-    drops_held = λ s other fd p. p;
-    asks = λ s work stream file kept p. runs.waits (ledger_of s) _ p;
+  deeds_moving : (work : MoveWork) → close_walks.RunsMove pid work (P Q) (P Q) (P R)
+  deeds_moving work = record {
+    locks = λ s e p. turns.locks (P Q) (no_turns Q) pid work.stream s p;
+    waits_lock = λ s e p. runs.waits (ledger_of (locking.locks pid work.stream s)) work (turns.locks (P Q) (no_turns Q) pid work.stream s p);
+    drops = λ s fd p. p;
+    drops_held = λ s fd p. p;
+    asks = λ s stream file kept p. runs.waits (ledger_of s) _ p;
     moved = λ s place p. runs.ends (ledger_of s) place None 1 p;
     lost = λ s p. runs.lost (ledger_of s) p;
   }
 
   pub runs_move : (state : MoveState) (work : MoveWork) (s : ClientFiles) → work.state ≡ state → Q (ledger_of s) → R (ledger_of (moving.runs_move_by state pid work s))
-  runs_move move_states.WaitLock work s e p = close_walks.runs_move pid (P Q) (P Q) (P R) deeds_moving work s e p
+  runs_move move_states.WaitLock work s e p = close_walks.runs_move pid work (P Q) (P Q) (P R) (deeds_moving work) s p
   runs_move (move_states.MovingOut tx stays place) work s e p = runs.waits (ledger_of s) work p

@@ -1,5 +1,5 @@
 -- Answers to remote calls of the files' side, and ends of them, keep the facts of these calls.
-use Rattle.std.proofs.Common.{◌≡◌, ◌⊎◌, inl, inr, ℕ, ◌==◌, Bool, true, false, cond, List, [], ◌∷◌, ◌++◌, Option, Some, None, refl, sym, ap, ◌∙◌, subst}
+use Rattle.std.proofs.Common.{◌≡◌, ◌⊎◌, inl, inr, ℕ, ◌==◌, Bool, true, false, ◌||◌, not, cond, List, [], ◌∷◌, ◌++◌, Option, Some, None, refl, sym, ap, ◌∙◌, subst}
 use Rattle.std.proofs.lemmas.Bool.{eq-eqb, eqb-true}
 use Rattle.std.specs.List.{AllByRecursion}
 use Rattle.sprite_ids.specs.declared.BlockNo.{BlockNo}
@@ -46,10 +46,10 @@ use Rattle.client_names.specs.Answers as name_answers
 use Rattle.client_streams.specs.Closing as closing
 use Rattle.client_streams.specs.Moving as moving
 use Rattle.client_files.specs.Answered as answering
-use Rattle.client_facts.specs.FileFacts.{OneOperationEach, close_asks, data_asks, move_asks, name_asks, own_call, same_process, waited_write_back}
+use Rattle.client_facts.specs.FileFacts.{OneOperationEach, close_asks, data_asks, is_that_call, move_asks, name_asks, own_call, same_process, waited_write_back}
 use Rattle.client_facts.proofs.CostLaws.{none_left}
 use Rattle.client_facts.proofs.LockLaws as locks
-use Rattle.file_walks.specs.Fits.{is_move_answer, may_end, operation_of, takes_answer}
+use Rattle.file_walks.specs.Fits.{is_move_answer, is_op_answer, may_end, operation_of, takes_answer}
 use Rattle.file_walks.proofs.CallWalks as call_walks
 use Rattle.file_walks.proofs.CloseWalks as close_walks
 use Rattle.file_walks.proofs.DataWalks as data_walks
@@ -80,11 +80,17 @@ module _ (s : ClientFiles) (tx : TxNo) (pid : ℕ) (found : first_call tx s.txs 
   back_again operation e other =
       put_back left pid operation (fine_heard (book_of s) tx pid (less_of pid s.pending) found (pid, operation) other (found_each (Fine (book_of s)) pid s.pending operation p.rows e)) left_holds
 
-  data_heard : (state : DataState) (call : DataCall) (body : ReplyBody) → call.state ≡ state → first_of pid s.pending ≡ Some (operations.Data call) → takes_answer (Some (operations.Data call)) body ≡ true → Holds (replied.answered_in state pid call body left)
-  data_heard (states.Fetching t block) call body e o fits = data_walks.fetched pid Holds Holds Holds (data_runs pid) call block body left left_holds
+  -- one that is done at the server and waits for another call goes on waiting
+  data_stays : (b : Bool) (t : TxNo) (call : DataCall) (body : ReplyBody) → (t.0 == tx.0) ≡ b → call.state ≡ states.AtServer t → first_of pid s.pending ≡ Some (operations.Data call) → (not b || is_op_answer body) ≡ true → is_op_answer body ≡ false
+      → Holds (steps.keeps pid (operations.Data call) left)
+  data_stays true t call body is e o fits never = absurd (let both = sym fits ∙ never in cc)
+  data_stays false t call body off e o fits never = back_again (operations.Data call) o (λ u own. inr (ap (λ (n : TxNo). n.0 == tx.0) (sym (some_is t u (sym (ap data_asks e) ∙ own))) ∙ off))
+
+  data_heard : (state : DataState) (call : DataCall) (body : ReplyBody) → call.state ≡ state → first_of pid s.pending ≡ Some (operations.Data call) → takes_answer tx (Some (operations.Data call)) body ≡ true → Holds (replied.answered_in state pid call body left)
+  data_heard (states.Fetching t block) call body e o fits = data_walks.fetched pid call Holds Holds Holds Holds Holds (data_runs pid call) block body left left_holds
   data_heard (states.AtServer t) call body e o fits =
-      data_walks.served pid Holds Holds Holds (data_runs pid) body call left left_holds left_holds
-      (λ never. absurd (let yes : takes_answer (Some (operations.Data (record call { state = states.AtServer t }))) body ≡ true = subst (λ (state : DataState). takes_answer (Some (operations.Data (record call { state = state }))) body ≡ true) e fits in let both = sym yes ∙ never in cc))
+      data_walks.served pid call Holds Holds Holds Holds Holds (data_runs pid call) body left left_holds left_holds
+      (λ never. data_stays (t.0 == tx.0) t call body refl e o (subst (λ (state : DataState). takes_answer tx (Some (operations.Data (record call { state = state }))) body ≡ true) e fits) never)
   data_heard states.WaitLock call body e o fits = back_again (operations.Data call) o (λ t own. absurd (let none : own_call (operations.Data call) ≡ None = ap data_asks e in let both = sym none ∙ own in cc))
   data_heard states.Turn call body e o fits = back_again (operations.Data call) o (λ t own. absurd (let none : own_call (operations.Data call) ≡ None = ap data_asks e in let both = sym none ∙ own in cc))
   data_heard (states.Room other) call body e o fits = back_again (operations.Data call) o (λ t own. absurd (let none : own_call (operations.Data call) ≡ None = ap data_asks e in let both = sym none ∙ own in cc))
@@ -108,7 +114,7 @@ module _ (s : ClientFiles) (tx : TxNo) (pid : ℕ) (found : first_call tx s.txs 
 
   close_heard : (state : CloseState) (work : CloseWork) → work.state ≡ state → Holds (closing.close_answers_by (closing.closed_at_server state) pid work left)
   close_heard closes.WaitLock work e = kept_free left pid (operations.Close work) (ap close_asks e, refl) left_holds
-  close_heard (closes.Closing t stream) work e = close_walks.closes_on pid work.of Holds Holds Holds (close_runs pid work.of) work (unlocks stream left) refl (locks.unlocks Holds no_turns stream left left_holds)
+  close_heard (closes.Closing t stream) work e = close_walks.closes_on pid work.of Holds (λ number. Holds) Holds (close_runs pid work.of) work (unlocks stream left) refl (locks.unlocks Holds no_turns stream left left_holds)
 
   move_moved : (state : MoveState) (work : MoveWork) (grant : Option Grant) (many : ℕ) → work.state ≡ state → Holds (moving.move_answers_by (moving.moved_out state) pid work grant many left)
   move_moved moves.WaitLock work grant many e = kept_free left pid (operations.Move work) (ap move_asks e, refl) left_holds
@@ -116,23 +122,28 @@ module _ (s : ClientFiles) (tx : TxNo) (pid : ℕ) (found : first_call tx s.txs 
       let shared : ClientFiles = moving.shares kept work.stream left in
       locks.unlocks Holds no_turns work.stream shared (on_if kept _ left (on_if (may_be_at Shared (stream_at work.stream left)) _ left left_holds left_holds) left_holds)
 
-  -- one that waits for its answer takes it
-  move_waits : (state : MoveState) (work : MoveWork) (body : ReplyBody) → work.state ≡ state → is_move_answer body ≡ false → takes_answer (Some (operations.Move work)) body ≡ true → Holds (steps.keeps pid (operations.Move work) left)
-  move_waits moves.WaitLock work body e never fits = kept_free left pid (operations.Move work) (ap move_asks e, refl) left_holds
-  move_waits (moves.MovingOut t kept place) work body e never fits =
-      absurd (let yes : takes_answer (Some (operations.Move (record work { state = moves.MovingOut t kept place }))) body ≡ true = subst (λ (state : MoveState). takes_answer (Some (operations.Move (record work { state = state }))) body ≡ true) e fits in let both = sym yes ∙ never in cc)
+  -- one that waits for its answer takes it; one that waits for another call goes on waiting
+  move_stays : (b : Bool) (t : TxNo) (work : MoveWork) (body : ReplyBody) → (t.0 == tx.0) ≡ b → move_asks work.state ≡ Some t → first_of pid s.pending ≡ Some (operations.Move work) → (not b || is_move_answer body) ≡ true → is_move_answer body ≡ false
+      → Holds (steps.keeps pid (operations.Move work) left)
+  move_stays true t work body is e o fits never = absurd (let both = sym fits ∙ never in cc)
+  move_stays false t work body off e o fits never = back_again (operations.Move work) o (λ u own. inr (ap (λ (n : TxNo). n.0 == tx.0) (sym (some_is t u (sym e ∙ own))) ∙ off))
 
-  move_heard : (body : ReplyBody) (work : MoveWork) → takes_answer (Some (operations.Move work)) body ≡ true → Holds (answering.answers_move pid work body left)
-  move_heard (bodies.Moved grant many) work fits = move_moved work.state work grant many refl
-  move_heard body work fits = move_waits work.state work body refl refl fits
+  move_waits : (state : MoveState) (work : MoveWork) (body : ReplyBody) → work.state ≡ state → is_move_answer body ≡ false → first_of pid s.pending ≡ Some (operations.Move work) → takes_answer tx (Some (operations.Move work)) body ≡ true → Holds (steps.keeps pid (operations.Move work) left)
+  move_waits moves.WaitLock work body e never o fits = kept_free left pid (operations.Move work) (ap move_asks e, refl) left_holds
+  move_waits (moves.MovingOut t kept place) work body e never o fits =
+      move_stays (t.0 == tx.0) t work body refl (ap move_asks e) o (subst (λ (state : MoveState). takes_answer tx (Some (operations.Move (record work { state = state }))) body ≡ true) e fits) never
 
-  heard_by : (o : Option Pending) (source : ℕ) (body : ReplyBody) → is_back tx s.write_backs ≡ false → s.ready ≡ [] → first_of pid s.pending ≡ o → takes_answer o body ≡ true → Holds (answering.answered_by o pid source body left)
+  move_heard : (body : ReplyBody) (work : MoveWork) → first_of pid s.pending ≡ Some (operations.Move work) → takes_answer tx (Some (operations.Move work)) body ≡ true → Holds (answering.answers_move pid work body left)
+  move_heard (bodies.Moved grant many) work o fits = move_moved work.state work grant many refl
+  move_heard body work o fits = move_waits work.state work body refl refl o fits
+
+  heard_by : (o : Option Pending) (source : ℕ) (body : ReplyBody) → is_back tx s.write_backs ≡ false → s.ready ≡ [] → first_of pid s.pending ≡ o → takes_answer tx o body ≡ true → Holds (answering.answered_by o pid source body left)
   heard_by None source body absent quiet o fits = left_holds
   heard_by (Some (operations.Name call)) source body absent quiet o fits = call_walks.answers_name (λ (other : ℕ). Holds) Holds call_runs call.state pid call.work source body left left_holds
   heard_by (Some (operations.Data call)) source body absent quiet o fits = data_heard call.state call body refl o fits
   heard_by (Some (operations.Sync call)) source body absent quiet o fits = back_again (operations.Sync call) o (sync_other absent quiet call o)
   heard_by (Some (operations.Close work)) source body absent quiet o fits = close_heard work.state work refl
-  heard_by (Some (operations.Move work)) source body absent quiet o fits = move_heard body work fits
+  heard_by (Some (operations.Move work)) source body absent quiet o fits = move_heard body work o fits
 
   -- a name call that waits for another one stays as it is
   abbrev passed : ClientFiles
@@ -158,35 +169,42 @@ module _ (s : ClientFiles) (tx : TxNo) (pid : ℕ) (found : first_call tx s.txs 
   taken_by (Some (operations.Move work)) false u e f q = absurd (cc)
   taken_by None false u e f q = absurd (cc)
 
-  heard_for : (source : ℕ) (body : ReplyBody) → is_back tx s.write_backs ≡ false → s.ready ≡ [] → takes_answer (first_of pid s.pending) body ≡ true → Holds (answering.answered_for tx pid source body passed)
+  heard_for : (source : ℕ) (body : ReplyBody) → is_back tx s.write_backs ≡ false → s.ready ≡ [] → takes_answer tx (first_of pid s.pending) body ≡ true → Holds (answering.answered_for tx pid source body passed)
   heard_for source body absent quiet fits =
       taken_by (first_of pid s.pending) (name_answers.takes_end tx (first_of pid s.pending)) (answering.answered_by (first_of pid s.pending) pid source body left) refl refl (heard_by (first_of pid s.pending) source body absent quiet refl fits)
 
-  -- only name calls see theirs given up
-  ended_by : (o : Option Pending) → may_end o ≡ true → Holds (name_answers.gives_up_by pid o left)
-  ended_by (Some (operations.Name call)) may = left_holds
-  ended_by (Some (operations.Data call)) may = absurd (cc)
-  ended_by (Some (operations.Sync call)) may = absurd (cc)
-  ended_by (Some (operations.Close work)) may = absurd (cc)
-  ended_by (Some (operations.Move work)) may = absurd (cc)
-  ended_by None may = left_holds
+  -- only name calls see theirs given up; one that waits for another call goes on waiting
+  not_so : (b : Bool) → not b ≡ true → b ≡ false
+  not_so true e = absurd (cc)
+  not_so false e = refl
 
-  ended_for : may_end (first_of pid s.pending) ≡ true → Holds (name_answers.gives_up_on tx pid passed)
-  ended_for may = taken_by (first_of pid s.pending) (name_answers.takes_end tx (first_of pid s.pending)) (name_answers.gives_up_by pid (first_of pid s.pending) left) refl refl (ended_by (first_of pid s.pending) may)
+  ended_other : (operation : Pending) → not (is_that_call tx (own_call operation)) ≡ true → IsOther tx pid (pid, operation)
+  ended_other operation may t own = inr (not_so (t.0 == tx.0) (subst (λ (o : Option TxNo). not (is_that_call tx o) ≡ true) own may))
+
+  ended_by : (o : Option Pending) → first_of pid s.pending ≡ o → may_end tx o ≡ true → Holds (name_answers.gives_up_by pid o left)
+  ended_by (Some (operations.Name call)) o may = left_holds
+  ended_by (Some (operations.Data call)) o may = back_again (operations.Data call) o (ended_other (operations.Data call) may)
+  ended_by (Some (operations.Sync call)) o may = back_again (operations.Sync call) o (ended_other (operations.Sync call) may)
+  ended_by (Some (operations.Close work)) o may = back_again (operations.Close work) o (ended_other (operations.Close work) may)
+  ended_by (Some (operations.Move work)) o may = back_again (operations.Move work) o (ended_other (operations.Move work) may)
+  ended_by None o may = left_holds
+
+  ended_for : may_end tx (first_of pid s.pending) ≡ true → Holds (name_answers.gives_up_on tx pid passed)
+  ended_for may = taken_by (first_of pid s.pending) (name_answers.takes_end tx (first_of pid s.pending)) (name_answers.gives_up_by pid (first_of pid s.pending) left) refl refl (ended_by (first_of pid s.pending) refl may)
 
 unheard_holds : (s : ClientFiles) (tx : TxNo) → first_call tx s.txs ≡ None → Holds s → Holds (record s { txs = less_call tx s.txs })
 unheard_holds s tx none p = subst (λ (rows : List (TxNo × ℕ)). Holds (record s { txs = rows })) (sym (unheard tx s.txs none)) p
 
-heard_first : (o : Option ℕ) (s : ClientFiles) (tx : TxNo) (source : ℕ) (body : ReplyBody) → first_call tx s.txs ≡ o → is_back tx s.write_backs ≡ false → s.ready ≡ [] → takes_answer (operation_of o s.pending) body ≡ true → OneOperationEach s → Holds s → Holds (answering.answered_first o tx source body (record s { txs = less_call tx s.txs }))
+heard_first : (o : Option ℕ) (s : ClientFiles) (tx : TxNo) (source : ℕ) (body : ReplyBody) → first_call tx s.txs ≡ o → is_back tx s.write_backs ≡ false → s.ready ≡ [] → takes_answer tx (operation_of o s.pending) body ≡ true → OneOperationEach s → Holds s → Holds (answering.answered_first o tx source body (record s { txs = less_call tx s.txs }))
 heard_first None s tx source body found absent quiet fits once p = unheard_holds s tx found p
 heard_first (Some pid) s tx source body found absent quiet fits once p = heard_for s tx pid found once p source body absent quiet fits
 
-ended_first : (o : Option ℕ) (s : ClientFiles) (tx : TxNo) → first_call tx s.txs ≡ o → may_end (operation_of o s.pending) ≡ true → OneOperationEach s → Holds s → Holds (name_answers.gives_up_first o tx (record s { txs = less_call tx s.txs }))
+ended_first : (o : Option ℕ) (s : ClientFiles) (tx : TxNo) → first_call tx s.txs ≡ o → may_end tx (operation_of o s.pending) ≡ true → OneOperationEach s → Holds s → Holds (name_answers.gives_up_first o tx (record s { txs = less_call tx s.txs }))
 ended_first None s tx found may once p = unheard_holds s tx found p
 ended_first (Some pid) s tx found may once p = ended_for s tx pid found once p may
 
 -- a broadcast or a sign of life is given up
-pub given_up : (s : ClientFiles) (tx : TxNo) → may_end (operation_of (first_call tx s.txs) s.pending) ≡ true → OneOperationEach s → Holds s → Holds (name_answers.gives_up tx s)
+pub given_up : (s : ClientFiles) (tx : TxNo) → may_end tx (operation_of (first_call tx s.txs) s.pending) ≡ true → OneOperationEach s → Holds s → Holds (name_answers.gives_up tx s)
 given_up s tx may once p = ended_first (first_call tx s.txs) s tx refl may once p
 
 -- A write-back is answered
@@ -312,12 +330,12 @@ done_first (Some back) s tx body found out once p =
     let so : Before tx s.write_backs (book_of again) = muted.lists_again (λ u. Before tx s.write_backs (book_of u)) (mute_before tx s.write_backs) (dirty_at settled_one.cache.blocks back.file back.block.0) back.file back.block settled_one (muted.settles_back (λ u. Before tx s.write_backs (book_of u)) (mute_before tx s.write_backs) body back off start) in
     sync_heard again tx s.write_backs so (first_call tx again.txs) body refl
 
-heard_if : (b : Bool) (s : ClientFiles) (tx : TxNo) (source : ℕ) (body : ReplyBody) → is_back tx s.write_backs ≡ b → s.ready ≡ [] → takes_answer (operation_of (first_call tx s.txs) s.pending) body ≡ true → OneOperationEach s → Holds s → Holds (cond b (written.written_back tx body s) (answering.answered_first (first_call tx s.txs) tx source body (record s { txs = less_call tx s.txs })))
+heard_if : (b : Bool) (s : ClientFiles) (tx : TxNo) (source : ℕ) (body : ReplyBody) → is_back tx s.write_backs ≡ b → s.ready ≡ [] → takes_answer tx (operation_of (first_call tx s.txs) s.pending) body ≡ true → OneOperationEach s → Holds s → Holds (cond b (written.written_back tx body s) (answering.answered_first (first_call tx s.txs) tx source body (record s { txs = less_call tx s.txs })))
 heard_if true s tx source body out quiet fits once p = done_first (first_call tx s.write_backs) s tx body refl out once p
 heard_if false s tx source body out quiet fits once p = heard_first (first_call tx s.txs) s tx source body refl out quiet fits once p
 
 -- an answer comes that the operation takes, where nobody is woken
-pub answered : (s : ClientFiles) (tx : TxNo) (source : ℕ) (body : ReplyBody) → s.ready ≡ [] → takes_answer (operation_of (first_call tx s.txs) s.pending) body ≡ true → OneOperationEach s → Holds s → Holds (answering.answered tx source body s)
+pub answered : (s : ClientFiles) (tx : TxNo) (source : ℕ) (body : ReplyBody) → s.ready ≡ [] → takes_answer tx (operation_of (first_call tx s.txs) s.pending) body ≡ true → OneOperationEach s → Holds s → Holds (answering.answered tx source body s)
 answered s tx source body quiet fits once p = heard_if (is_back tx s.write_backs) s tx source body refl quiet fits once p
 
 -- Blocks that are due

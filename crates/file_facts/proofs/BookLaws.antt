@@ -262,7 +262,7 @@ each_found P Q pid ((key, value) ∷ rows) operation once found own other all =
 
 -- A process that was woken looks
 
-woken_by : (pid first : ℕ) (pids : List ℕ) → (pid == first) ≡ false → is_woken pid (first ∷ pids) ≡ true → is_woken pid pids ≡ true
+pub woken_by : (pid first : ℕ) (pids : List ℕ) → (pid == first) ≡ false → is_woken pid (first ∷ pids) ≡ true → is_woken pid pids ≡ true
 woken_by pid first pids e woken = by_case (or_cases (first == pid) (is_woken pid pids) woken)
   where
     by_case : ((first == pid) ≡ true) ⊎ (is_woken pid pids ≡ true) → is_woken pid pids ≡ true

@@ -11,7 +11,7 @@ call_runs pid = record {
   quiet = mute;
   adds = λ s number stream p. on_if _ _ s p p;
   dups = λ s fd p. p;
-  begins = λ s operation begins p. started_free s pid operation (free_begun operation begins) p;
+  begins = λ s operation begins leads p. started_free s pid operation (free_begun operation begins) p;
   echoes = λ s work server p. asks_for (book_of s) pid (operations.Name (record { work = work; state = names.Echoing s.out.next server })) refl refl p;
   broadcasts = λ s work prefix p. asks_for (book_of s) pid (operations.Name (record { work = work; state = names.Broadcasting s.out.next prefix })) refl refl p;
   asks = λ s work server p. asks_for (book_of s) pid (operations.Name (record { work = work; state = names.Asking s.out.next })) refl refl p;

@@ -93,7 +93,7 @@ none_of : (xs : List ℕ) → length xs ≡ 0 → xs ≡ []
 none_of [] e = refl
 none_of (x ∷ xs) e = absurd (cc)
 
-quiet_ready : (s : ClientProcs) → turning.is_quiet s ≡ true → s.files.ready ≡ []
+pub quiet_ready : (s : ClientProcs) → turning.is_quiet s ≡ true → s.files.ready ≡ []
 quiet_ready s quiet =
     let both = and_parts ((length s.files.ready == 0) && (length s.files.out.replies == 0)) (length s.files.results == 0) quiet in
     none_of s.files.ready (eqb-true (length s.files.ready) 0 (and_parts (length s.files.ready == 0) (length s.files.out.replies == 0) both.0).0)

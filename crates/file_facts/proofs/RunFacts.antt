@@ -1,5 +1,5 @@
 -- Operations of the files' side that run keep the facts of remote calls.
-use Rattle.std.proofs.Common.{arith, ◌≡◌, inl, ℕ, zero, suc, ◌+◌, ◌==◌, Bool, true, false, ◌&&◌, ◌||◌, cond, List, [], ◌∷◌, ◌++◌, Option, Some, None, option_map, refl, sym, ap, ◌∙◌, subst}
+use Rattle.std.proofs.Common.{arith, ◌≡◌, inl, ℕ, zero, suc, ◌==◌, Bool, true, false, ◌&&◌, ◌||◌, cond, List, [], ◌∷◌, ◌++◌, Option, Some, None, option_map, refl, sym, ap, ◌∙◌, subst}
 use Rattle.std.proofs.lemmas.Bool.{eq-eqb}
 use Rattle.std.specs.List.{find}
 use Rattle.sprite_ids.specs.declared.BlockNo.{BlockNo}
@@ -22,6 +22,7 @@ use Rattle.client_file_tables.specs.declared.states.MoveState.{MoveState}
 use Rattle.client_file_tables.specs.declared.states.MoveState.TheVariants as moves
 use Rattle.client_file_tables.specs.declared.states.SyncState.{SyncState}
 use Rattle.client_file_tables.specs.declared.states.SyncState.TheVariants as syncs
+use Rattle.client_file_tables.specs.declared.works.DataCall.{DataCall}
 use Rattle.client_file_tables.specs.declared.works.WriteBackOut.{WriteBackOut}
 use Rattle.stream_table.specs.Entries.{may_be_at}
 use Rattle.client_file_tables.specs.Blocks.{state_in}
@@ -176,26 +177,30 @@ on_if false s t p q = q
 
 -- Operations on files' data
 
-pub data_runs : (pid : ℕ) → RunsData pid Holds Holds Holds
-data_runs pid = record {
+pub data_runs : (pid : ℕ) (call : DataCall) → RunsData pid call Holds Holds Holds Holds Holds
+data_runs pid call = record {
   quiet = mute;
   held = mute;
-  locks = λ s stream e p. locks.locks Holds no_turns pid stream s p;
-  waits_lock = λ s call e p. kept_free (locking.locks pid call.stream s) pid (operations.Data (record call { state = states.WaitLock })) (refl, refl) (locks.locks Holds no_turns pid call.stream s p);
-  not_open = λ s call e p. kept_free s pid (operations.Data (record call { state = states.WaitLock })) (refl, refl) p;
-  places = λ s stream place p. on_if (may_be_at place (stream_at stream s)) _ s p p;
+  first = mute;
+  locks = λ s e p. locks.locks Holds no_turns pid call.stream s p;
+  waits_lock = λ s e p. kept_free (locking.locks pid call.stream s) pid (operations.Data (record call { state = states.WaitLock })) (refl, refl) (locks.locks Holds no_turns pid call.stream s p);
+  not_open = λ s e p. kept_free s pid (operations.Data (record call { state = states.WaitLock })) (refl, refl) p;
+  places = λ s place p. on_if (may_be_at place (stream_at call.stream s)) _ s p p;
   begins_filling = λ s p. locks.begins_filling Holds no_turns pid s p;
-  waits_turn = λ s call p. kept_free s pid (operations.Data (record call { state = states.Turn })) (refl, refl) p;
-  fetches = λ s call block p. asks_for (book_of s) pid (operations.Data (record call { state = states.Fetching s.out.next block })) refl refl p;
-  waits_back = λ s call file block tx e p. waits_out s pid (operations.Data (record call { state = states.Room tx })) file block tx refl refl e p;
-  sends_back = λ s call file block number p.
+  comes_first = λ s e p. p;
+  waits_turn = λ s e p. kept_free s pid (operations.Data (record call { state = states.Turn })) (refl, refl) p;
+  filled = λ s p. p;
+  fetches = λ s block p. asks_for (book_of s) pid (operations.Data (record call { state = states.Fetching s.out.next block })) refl refl p;
+  waits_back = λ s file block tx e p. waits_out s pid (operations.Data (record call { state = states.Room tx })) file block tx refl refl e p;
+  sends_back = λ s file block number p.
       let sent : WriteBackOut = record { file = file; block = block; stamp = (state_in file s).stamp; number = number } in
       let out : Holds (written.sends_back file block number (Some (says.about_of pid call.number)) s) = books.sends_back (book_of s) sent p in
       books.keeps (sent_back (book_of s) sent) pid (operations.Data (record call { state = states.Room s.out.next })) (fine_waiting (sent_back (book_of s) sent) pid (operations.Data (record call { state = states.Room s.out.next })) s.out.next refl refl (put_out (book_of s) sent)) out;
-  asks = λ s call offset append p.
+  none_dirty = λ s e p. kept_free s pid (operations.Data (record call { state = states.Turn })) (refl, refl) p;
+  asks = λ s offset append p.
       let left : ClientFiles = fillers.leaves_filling pid s in
       asks_for (book_of left) pid (operations.Data (record call { state = states.AtServer left.out.next })) refl refl (locks.leaves_filling Holds no_turns pid s p);
-  ends = λ s stream reply p. locks.unlocks Holds no_turns stream (fillers.leaves_filling pid (says.replies pid reply s)) (locks.leaves_filling Holds no_turns pid (says.replies pid reply s) p);
+  ends = λ s reply p. locks.unlocks Holds no_turns call.stream (fillers.leaves_filling pid (says.replies pid reply s)) (locks.leaves_filling Holds no_turns pid (says.replies pid reply s) p);
 }
 
 -- Syncs
@@ -217,15 +222,15 @@ close_ends : (cause : ClosingOf) (pid : ℕ) (s : ClientFiles) → Holds s → H
 close_ends (closings.Call number fd) pid s p = p
 close_ends (closings.End about) pid s p = p
 
-pub close_runs : (pid : ℕ) (cause : ClosingOf) → RunsClose pid cause Holds Holds Holds
+pub close_runs : (pid : ℕ) (cause : ClosingOf) → RunsClose pid cause Holds (λ number. Holds) Holds
 close_runs pid cause = record {
   quiet = mute;
-  held = mute;
-  locks = λ s stream e p. locks.locks Holds no_turns pid stream s p;
-  waits_lock = λ s work stream e f p. kept_free (locking.locks pid stream s) pid (operations.Close (closing.closing work.of work.fds)) (refl, refl) (locks.locks Holds no_turns pid stream s p);
+  held = λ number. mute;
+  locks = λ s number e p. locks.locks Holds no_turns pid number s p;
+  waits_lock = λ s fds fd number f d e p. kept_free (locking.locks pid number s) pid (operations.Close (closing.closing cause fds)) (refl, refl) (locks.locks Holds no_turns pid number s p);
   drops = λ s fd p. p;
-  drops_held = λ s fd p. p;
-  frees = λ s stream p. locks.unlocks Holds no_turns stream s p;
+  drops_held = λ s fd number p. p;
+  frees = λ s number p. locks.unlocks Holds no_turns number s p;
   asks = λ s work number file many e p. asks_for (book_of s) pid (operations.Close (record work { state = closes.Closing s.out.next number })) refl refl p;
   goes_on = λ s fds p. started_free s pid (operations.Close (closing.closing cause fds)) (refl, refl) p;
   tells = λ s device p. p;
@@ -234,13 +239,13 @@ close_runs pid cause = record {
 
 -- Moves
 
-pub move_runs : (pid : ℕ) → RunsMove pid Holds Holds Holds
-move_runs pid = record {
-  locks = λ s stream e p. locks.locks Holds no_turns pid stream s p;
-  waits_lock = λ s work w e p. kept_free (locking.locks pid work.stream s) pid (operations.Move work) (ap move_asks w, refl) (locks.locks Holds no_turns pid work.stream s p);
-  drops = λ s other fd p. p;
-  drops_held = λ s other fd p. p;
-  asks = λ s work stream file kept p. asks_for (book_of s) pid (operations.Move (moving.moving_out work kept stream.place s)) refl refl p;
+pub move_runs : (pid : ℕ) (work : MoveWork) → work.state ≡ moves.WaitLock → RunsMove pid work Holds Holds Holds
+move_runs pid work w = record {
+  locks = λ s e p. locks.locks Holds no_turns pid work.stream s p;
+  waits_lock = λ s e p. kept_free (locking.locks pid work.stream s) pid (operations.Move work) (ap move_asks w, refl) (locks.locks Holds no_turns pid work.stream s p);
+  drops = λ s fd p. p;
+  drops_held = λ s fd p. p;
+  asks = λ s stream file kept p. asks_for (book_of s) pid (operations.Move (moving.moving_out work kept stream.place s)) refl refl p;
   moved = λ s place p. p;
   lost = λ s p. p;
 }
@@ -253,17 +258,17 @@ put_back s pid operation fine p = books.keeps (book_of s) pid operation fine p
 
 ran_close_by : (state : CloseState) (pid : ℕ) (work : CloseWork) (s : ClientFiles) → work.state ≡ state → Fine (book_of s) (pid, operations.Close work) → Holds s → Holds (closing.runs_close_by state pid work s)
 ran_close_by closes.WaitLock pid work s e fine p =
-    subst (λ (state : CloseState). Holds (closing.closes_next pid (record work { state = state }) s)) (sym e) (close_walks.runs_close pid work.of Holds Holds Holds (close_runs pid work.of) work.fds s p)
+    subst (λ (state : CloseState). Holds (closing.closes_next pid (record work { state = state }) s)) (sym e) (close_walks.runs_close pid work.of Holds (λ number. Holds) Holds (close_runs pid work.of) work.fds s p)
 ran_close_by (closes.Closing tx stream) pid work s e fine p = put_back s pid (operations.Close work) fine p
 
 ran_move_by : (state : MoveState) (pid : ℕ) (work : MoveWork) (s : ClientFiles) → work.state ≡ state → Fine (book_of s) (pid, operations.Move work) → Holds s → Holds (moving.runs_move_by state pid work s)
-ran_move_by moves.WaitLock pid work s e fine p = close_walks.runs_move pid Holds Holds Holds (move_runs pid) work s e p
+ran_move_by moves.WaitLock pid work s e fine p = close_walks.runs_move pid work Holds Holds Holds (move_runs pid work e) s p
 ran_move_by (moves.MovingOut tx kept place) pid work s e fine p = put_back s pid (operations.Move work) fine p
 
 -- an operation that was taken out runs; where it waits for no write-back its call is kept
 ran : (operation : Pending) (pid : ℕ) (s : ClientFiles) → (waited_write_back operation ≡ None → Fine (book_of s) (pid, operation)) → Holds s → Holds (turning.runs_by (Some operation) pid s)
 ran (operations.Name call) pid s fine p = put_back s pid (operations.Name call) (fine refl) p
-ran (operations.Data call) pid s fine p = data_walks.looks pid Holds Holds Holds (data_runs pid) call s p
+ran (operations.Data call) pid s fine p = data_walks.looks pid call Holds Holds Holds Holds Holds (data_runs pid call) s p
 ran (operations.Sync call) pid s fine p = data_walks.syncs pid Holds Holds (sync_runs pid) call s p
 ran (operations.Close work) pid s fine p = ran_close_by work.state pid work s refl (fine refl) p
 ran (operations.Move work) pid s fine p = ran_move_by work.state pid work s refl (fine refl) p
@@ -281,7 +286,7 @@ ran_so (operations.Close work) pid s = ran_close pid work s
 ran_so (operations.Move work) pid s = ran_move pid work s
 ran_so (operations.Name call) pid s = (let same = ends_calm pid s s (calm_self s) in ran_kept pid 0 (operations.Name call) (operations.Name call) s s same (omega arith) (λ h. h))
 
-once_turned : (o : Option Pending) (pid : ℕ) (pids : List ℕ) (s : ClientFiles) → OneOperationEach s → OneOperationEach (turning.runs_by o pid (record s { ready = pids; pending = less_of pid s.pending }))
+pub once_turned : (o : Option Pending) (pid : ℕ) (pids : List ℕ) (s : ClientFiles) → OneOperationEach s → OneOperationEach (turning.runs_by o pid (record s { ready = pids; pending = less_of pid s.pending }))
 once_turned None pid pids s once = less_once _ _ s.pending once
 once_turned (Some operation) pid pids s once =
     let left : ClientFiles = record s { ready = pids; pending = less_of pid s.pending } in

@@ -1,10 +1,11 @@
 -- Calls of the files' side at their issue, and answers to name calls, for any fact of that side: what such a fact must bear, and what it then keeps.
-use Rattle.std.proofs.Common.{◌≡◌, ℕ, Bool, true, false, not, nat_lt, cond, List, [], Option, Some, None, Result, Ok, Err, refl}
+use Rattle.std.proofs.Common.{◌≡◌, ℕ, Bool, true, false, not, nat_lt, cond, List, [], Option, Some, None, Result, Ok, Err, refl, subst}
 use Rattle.sprite_ids.specs.declared.DeviceId.{DeviceId}
 use Rattle.sprite_ids.specs.declared.Errno.{Errno}
 use Rattle.sprite_ids.specs.declared.Object.{Object}
 use Rattle.sprite_ids.specs.declared.Object.TheVariants as objects
 use Rattle.sprite_ids.specs.declared.StreamNo.{StreamNo}
+use Rattle.sprite_ids.proofs.ListLaws.{some_is}
 use Rattle.process_machine.specs.declared.Call.{Call}
 use Rattle.process_machine.specs.declared.Call.TheVariants as calls
 use Rattle.packet_bodies.specs.declared.NameOp.{NameOp}
@@ -36,7 +37,7 @@ use Rattle.client_names.specs.Making.{counts_stream, free_descriptor}
 use Rattle.client_names.specs.OpenFlags.{lawful}
 use Rattle.client_names.specs.Paths.{Parts, cleaned}
 use Rattle.client_streams.specs.declared.Named.{Named}
-use Rattle.client_streams.specs.Descriptors.{descriptor_of}
+use Rattle.client_streams.specs.Descriptors.{described, descriptor_of}
 use Rattle.client_files.specs.Asked as asked
 use Rattle.client_files.specs.CallIssues as issuing
 use Rattle.client_files.specs.DataIssues as datas
@@ -45,7 +46,7 @@ use Rattle.process_machine.specs.declared.Reply.{Reply}
 use Rattle.process_machine.specs.declared.Reply.TheVariants.{Error}
 use Rattle.client_file_tables.specs.declared.pending.Pending.{Pending}
 use Rattle.client_file_tables.specs.Steps as steps
-use Rattle.file_walks.specs.Fits.{begins_so}
+use Rattle.file_walks.specs.Fits.{LeadsThere, begins_so}
 use Rattle.file_walks.proofs.Muted as muted
 use Rattle.file_walks.proofs.Muted.{Mute}
 
@@ -54,12 +55,17 @@ pub record RunsCall (pid : ℕ) (Q R : ClientFiles → Type 0) : Type 0 where
   pub quiet : Mute Q
   pub adds : (s : ClientFiles) (number : StreamNo) (stream : Stream) → Q s → Q (streams.adds_stream pid number stream s)
   pub dups : (s : ClientFiles) (fd : ℕ) → Q s → Q (record s { streams = dupped s.streams pid fd })
-  pub begins : (s : ClientFiles) (operation : Pending) → begins_so operation ≡ true → Q s → R (steps.starts pid operation s)
+  pub begins : (s : ClientFiles) (operation : Pending) → begins_so operation ≡ true → LeadsThere s.streams.owners pid operation → Q s → R (steps.starts pid operation s)
   pub echoes : (s : ClientFiles) (work : NameWork) (server : ℕ) → Q s → R (lookups.echoes pid work server s)
   pub broadcasts : (s : ClientFiles) (work : NameWork) (prefix : Parts) → Q s → R (lookups.broadcasts pid work prefix s)
   pub asks : (s : ClientFiles) (work : NameWork) (server : ℕ) → Q s → R (lookups.asks pid work server s)
   pub ends : (s : ClientFiles) (reply : Reply) → Q s → R (says.replies pid reply s)
   pub lost : (s : ClientFiles) → Q s → R s
+
+-- what a process's descriptor names is the stream to which it leads
+leads_by : (o : Option StreamNo) (pid fd : ℕ) (named : Named) (s : ClientFiles) → descriptor s.streams.owners pid fd ≡ o → described fd o ≡ Some named → descriptor s.streams.owners pid named.fd ≡ Some named.stream
+leads_by (Some stream) pid fd named s e same = subst (λ (other : Named). descriptor s.streams.owners pid other.fd ≡ Some other.stream) (some_is (record { fd = fd; stream = stream }) named same) e
+leads_by None pid fd named s e same = absurd (cc)
 
 module _ (Q : ℕ → ClientFiles → Type 0) (R : ClientFiles → Type 0) (runs : (pid : ℕ) → RunsCall pid (Q pid) R) where
   on_if : (b : Bool) (s t : ClientFiles) → R s → R t → R (cond b s t)
@@ -137,60 +143,60 @@ module _ (Q : ℕ → ClientFiles → Type 0) (R : ClientFiles → Type 0) (runs
 
   -- Other calls at their issue
 
-  read_object : (object : Object) (named : Named) (stream : Stream) (about : About) (call : Call) (many : ℕ) (s : ClientFiles) → Q about.pid s → R (datas.reads_by (reach_by object named stream) about call many s)
-  read_object (objects.File file) named stream about call many s p = on_if (not (reads stream.mode)) _ _ (refused about call _ s p) ((runs about.pid).begins s _ refl p)
-  read_object (objects.Device device) named stream about call many s p = refused about call _ s p
-  read_object (objects.Master device) named stream about call many s p = refused about call _ s p
+  read_object : (object : Object) (named : Named) (stream : Stream) (about : About) (call : Call) (many : ℕ) (s : ClientFiles) → descriptor s.streams.owners about.pid named.fd ≡ Some named.stream → Q about.pid s → R (datas.reads_by (reach_by object named stream) about call many s)
+  read_object (objects.File file) named stream about call many s d p = on_if (not (reads stream.mode)) _ _ (refused about call _ s p) ((runs about.pid).begins s _ refl d p)
+  read_object (objects.Device device) named stream about call many s d p = refused about call _ s p
+  read_object (objects.Master device) named stream about call many s d p = refused about call _ s p
 
-  read_stream : (o : Option Stream) (named : Named) (about : About) (call : Call) (many : ℕ) (s : ClientFiles) → Q about.pid s → R (datas.reads_by (reach_stream named o) about call many s)
-  read_stream (Some stream) named about call many s p = read_object stream.object named stream about call many s p
-  read_stream None named about call many s p = refused about call _ s p
+  read_stream : (o : Option Stream) (named : Named) (about : About) (call : Call) (many : ℕ) (s : ClientFiles) → descriptor s.streams.owners about.pid named.fd ≡ Some named.stream → Q about.pid s → R (datas.reads_by (reach_stream named o) about call many s)
+  read_stream (Some stream) named about call many s d p = read_object stream.object named stream about call many s d p
+  read_stream None named about call many s d p = refused about call _ s p
 
-  read_named : (o : Option Named) (about : About) (call : Call) (many : ℕ) (s : ClientFiles) → Q about.pid s → R (datas.reads_by (reach_named o s) about call many s)
-  read_named (Some named) about call many s p = read_stream (stream_at named.stream s) named about call many s p
-  read_named None about call many s p = refused about call _ s p
+  read_named : (o : Option Named) (fd : ℕ) (about : About) (call : Call) (many : ℕ) (s : ClientFiles) → descriptor_of about.pid fd s ≡ o → Q about.pid s → R (datas.reads_by (reach_named o s) about call many s)
+  read_named (Some named) fd about call many s e p = read_stream (stream_at named.stream s) named about call many s (leads_by (descriptor s.streams.owners about.pid fd) about.pid fd named s refl e) p
+  read_named None fd about call many s e p = refused about call _ s p
 
-  write_object : (object : Object) (named : Named) (stream : Stream) (about : About) (call : Call) (bytes : List ℕ) (s : ClientFiles) → Q about.pid s → R (datas.writes_found (reach_by object named stream) about call bytes s)
-  write_object (objects.File file) named stream about call bytes s p = on_if (not (writes stream.mode)) _ _ (refused about call _ s p) ((runs about.pid).begins s _ refl p)
-  write_object (objects.Device device) named stream about call bytes s p = refused about call _ s p
-  write_object (objects.Master device) named stream about call bytes s p = refused about call _ s p
+  write_object : (object : Object) (named : Named) (stream : Stream) (about : About) (call : Call) (bytes : List ℕ) (s : ClientFiles) → descriptor s.streams.owners about.pid named.fd ≡ Some named.stream → Q about.pid s → R (datas.writes_found (reach_by object named stream) about call bytes s)
+  write_object (objects.File file) named stream about call bytes s d p = on_if (not (writes stream.mode)) _ _ (refused about call _ s p) ((runs about.pid).begins s _ refl d p)
+  write_object (objects.Device device) named stream about call bytes s d p = refused about call _ s p
+  write_object (objects.Master device) named stream about call bytes s d p = refused about call _ s p
 
-  write_stream : (o : Option Stream) (named : Named) (about : About) (call : Call) (bytes : List ℕ) (s : ClientFiles) → Q about.pid s → R (datas.writes_found (reach_stream named o) about call bytes s)
-  write_stream (Some stream) named about call bytes s p = write_object stream.object named stream about call bytes s p
-  write_stream None named about call bytes s p = refused about call _ s p
+  write_stream : (o : Option Stream) (named : Named) (about : About) (call : Call) (bytes : List ℕ) (s : ClientFiles) → descriptor s.streams.owners about.pid named.fd ≡ Some named.stream → Q about.pid s → R (datas.writes_found (reach_stream named o) about call bytes s)
+  write_stream (Some stream) named about call bytes s d p = write_object stream.object named stream about call bytes s d p
+  write_stream None named about call bytes s d p = refused about call _ s p
 
-  write_named : (o : Option Named) (about : About) (call : Call) (bytes : List ℕ) (s : ClientFiles) → Q about.pid s → R (datas.writes_found (reach_named o s) about call bytes s)
-  write_named (Some named) about call bytes s p = write_stream (stream_at named.stream s) named about call bytes s p
-  write_named None about call bytes s p = refused about call _ s p
+  write_named : (o : Option Named) (fd : ℕ) (about : About) (call : Call) (bytes : List ℕ) (s : ClientFiles) → descriptor_of about.pid fd s ≡ o → Q about.pid s → R (datas.writes_found (reach_named o s) about call bytes s)
+  write_named (Some named) fd about call bytes s e p = write_stream (stream_at named.stream s) named about call bytes s (leads_by (descriptor s.streams.owners about.pid fd) about.pid fd named s refl e) p
+  write_named None fd about call bytes s e p = refused about call _ s p
 
-  seek_object : (object : Object) (named : Named) (stream : Stream) (about : About) (call : Call) (offset : ℕ) (s : ClientFiles) → Q about.pid s → R (datas.seeks_found (reach_by object named stream) about call offset s)
-  seek_object (objects.File file) named stream about call offset s p = on_if (nat_lt s.limit offset) _ _ (refused about call _ s p) ((runs about.pid).begins s _ refl p)
-  seek_object (objects.Device device) named stream about call offset s p = refused about call _ s p
-  seek_object (objects.Master device) named stream about call offset s p = refused about call _ s p
+  seek_object : (object : Object) (named : Named) (stream : Stream) (about : About) (call : Call) (offset : ℕ) (s : ClientFiles) → descriptor s.streams.owners about.pid named.fd ≡ Some named.stream → Q about.pid s → R (datas.seeks_found (reach_by object named stream) about call offset s)
+  seek_object (objects.File file) named stream about call offset s d p = on_if (nat_lt s.limit offset) _ _ (refused about call _ s p) ((runs about.pid).begins s _ refl d p)
+  seek_object (objects.Device device) named stream about call offset s d p = refused about call _ s p
+  seek_object (objects.Master device) named stream about call offset s d p = refused about call _ s p
 
-  seek_stream : (o : Option Stream) (named : Named) (about : About) (call : Call) (offset : ℕ) (s : ClientFiles) → Q about.pid s → R (datas.seeks_found (reach_stream named o) about call offset s)
-  seek_stream (Some stream) named about call offset s p = seek_object stream.object named stream about call offset s p
-  seek_stream None named about call offset s p = refused about call _ s p
+  seek_stream : (o : Option Stream) (named : Named) (about : About) (call : Call) (offset : ℕ) (s : ClientFiles) → descriptor s.streams.owners about.pid named.fd ≡ Some named.stream → Q about.pid s → R (datas.seeks_found (reach_stream named o) about call offset s)
+  seek_stream (Some stream) named about call offset s d p = seek_object stream.object named stream about call offset s d p
+  seek_stream None named about call offset s d p = refused about call _ s p
 
-  seek_named : (o : Option Named) (about : About) (call : Call) (offset : ℕ) (s : ClientFiles) → Q about.pid s → R (datas.seeks_found (reach_named o s) about call offset s)
-  seek_named (Some named) about call offset s p = seek_stream (stream_at named.stream s) named about call offset s p
-  seek_named None about call offset s p = refused about call _ s p
+  seek_named : (o : Option Named) (fd : ℕ) (about : About) (call : Call) (offset : ℕ) (s : ClientFiles) → descriptor_of about.pid fd s ≡ o → Q about.pid s → R (datas.seeks_found (reach_named o s) about call offset s)
+  seek_named (Some named) fd about call offset s e p = seek_stream (stream_at named.stream s) named about call offset s (leads_by (descriptor s.streams.owners about.pid fd) about.pid fd named s refl e) p
+  seek_named None fd about call offset s e p = refused about call _ s p
 
-  size_object : (object : Object) (named : Named) (stream : Stream) (about : About) (call : Call) (s : ClientFiles) → Q about.pid s → R (datas.sizes_found (reach_by object named stream) about call s)
-  size_object (objects.File file) named stream about call s p = (runs about.pid).begins s _ refl p
-  size_object (objects.Device device) named stream about call s p = refused about call _ s p
-  size_object (objects.Master device) named stream about call s p = refused about call _ s p
+  size_object : (object : Object) (named : Named) (stream : Stream) (about : About) (call : Call) (s : ClientFiles) → descriptor s.streams.owners about.pid named.fd ≡ Some named.stream → Q about.pid s → R (datas.sizes_found (reach_by object named stream) about call s)
+  size_object (objects.File file) named stream about call s d p = (runs about.pid).begins s _ refl d p
+  size_object (objects.Device device) named stream about call s d p = refused about call _ s p
+  size_object (objects.Master device) named stream about call s d p = refused about call _ s p
 
-  size_stream : (o : Option Stream) (named : Named) (about : About) (call : Call) (s : ClientFiles) → Q about.pid s → R (datas.sizes_found (reach_stream named o) about call s)
-  size_stream (Some stream) named about call s p = size_object stream.object named stream about call s p
-  size_stream None named about call s p = refused about call _ s p
+  size_stream : (o : Option Stream) (named : Named) (about : About) (call : Call) (s : ClientFiles) → descriptor s.streams.owners about.pid named.fd ≡ Some named.stream → Q about.pid s → R (datas.sizes_found (reach_stream named o) about call s)
+  size_stream (Some stream) named about call s d p = size_object stream.object named stream about call s d p
+  size_stream None named about call s d p = refused about call _ s p
 
-  size_named : (o : Option Named) (about : About) (call : Call) (s : ClientFiles) → Q about.pid s → R (datas.sizes_found (reach_named o s) about call s)
-  size_named (Some named) about call s p = size_stream (stream_at named.stream s) named about call s p
-  size_named None about call s p = refused about call _ s p
+  size_named : (o : Option Named) (fd : ℕ) (about : About) (call : Call) (s : ClientFiles) → descriptor_of about.pid fd s ≡ o → Q about.pid s → R (datas.sizes_found (reach_named o s) about call s)
+  size_named (Some named) fd about call s e p = size_stream (stream_at named.stream s) named about call s (leads_by (descriptor s.streams.owners about.pid fd) about.pid fd named s refl e) p
+  size_named None fd about call s e p = refused about call _ s p
 
   sync_object : (object : Object) (named : Named) (stream : Stream) (about : About) (call : Call) (s : ClientFiles) → Q about.pid s → R (datas.syncs_found (reach_by object named stream) about call s)
-  sync_object (objects.File file) named stream about call s p = (runs about.pid).begins s _ refl p
+  sync_object (objects.File file) named stream about call s p = (runs about.pid).begins s _ refl tt p
   sync_object (objects.Device device) named stream about call s p = refused about call _ s p
   sync_object (objects.Master device) named stream about call s p = refused about call _ s p
 
@@ -203,10 +209,10 @@ module _ (Q : ℕ → ClientFiles → Type 0) (R : ClientFiles → Type 0) (runs
   sync_named None about call s p = refused about call _ s p
 
   issues_read : (about : About) (call : Call) (fd many : ℕ) (s : ClientFiles) → Q about.pid s → R (datas.issues_read about call fd many s)
-  issues_read about call fd many s p = on_if (nat_lt 4294967295 many) _ _ (refused about call _ s p) (read_named (descriptor_of about.pid fd s) about call many s p)
+  issues_read about call fd many s p = on_if (nat_lt 4294967295 many) _ _ (refused about call _ s p) (read_named (descriptor_of about.pid fd s) fd about call many s refl p)
 
   issues_close : (o : Option Named) (about : About) (call : Call) (s : ClientFiles) → Q about.pid s → R (issuing.closes_named o about call s)
-  issues_close (Some named) about call s p = (runs about.pid).begins s _ refl p
+  issues_close (Some named) about call s p = (runs about.pid).begins s _ refl tt p
   issues_close None about call s p = refused about call _ s p
 
   dups_by : (r : Result ℕ StreamEnd) (about : About) (call : Call) (s : ClientFiles) → Q about.pid s → R (issuing.dups_by r about call s)
@@ -220,9 +226,9 @@ module _ (Q : ℕ → ClientFiles → Type 0) (R : ClientFiles → Type 0) (runs
   issues_by (calls.Dup fd) about call device s p =
       dups_by (dup_answer (descriptor s.streams.owners about.pid fd) (free s.streams.owners about.pid)) about call (record s { streams = dupped s.streams about.pid fd }) ((runs about.pid).dups s fd p)
   issues_by (calls.Read fd many) about call device s p = issues_read about call fd many s p
-  issues_by (calls.Write fd bytes) about call device s p = write_named (descriptor_of about.pid fd s) about call bytes s p
-  issues_by (calls.Seek fd offset) about call device s p = seek_named (descriptor_of about.pid fd s) about call offset s p
-  issues_by (calls.Size fd) about call device s p = size_named (descriptor_of about.pid fd s) about call s p
+  issues_by (calls.Write fd bytes) about call device s p = write_named (descriptor_of about.pid fd s) fd about call bytes s refl p
+  issues_by (calls.Seek fd offset) about call device s p = seek_named (descriptor_of about.pid fd s) fd about call offset s refl p
+  issues_by (calls.Size fd) about call device s p = size_named (descriptor_of about.pid fd s) fd about call s refl p
   issues_by (calls.Sync fd) about call device s p = sync_named (descriptor_of about.pid fd s) about call s p
   issues_by which about call device s p = issues_name call about call device s p
 

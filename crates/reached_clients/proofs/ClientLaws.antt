@@ -27,10 +27,12 @@ use Rattle.client_walks.proofs.BornLaws.{begins_with_places, image_keeps_places}
 use Rattle.client_walks.proofs.OnceLaws.{step_keeps_places}
 use Rattle.client_rounds.specs.OneThing.{OneThingEach}
 use Rattle.client_rounds.proofs.OneLaws.{begins_with_one_thing, images_keep_one_thing, steps_are_enough, steps_keep_one_thing}
-use Rattle.reached_clients.specs.Clients.{ChangeBringsNew, ClientsKnowTheirCluster, GoesNew, HomesAreOwn, IsNewAt, OfClient, OfClients, PlacesStayOnce, RoundsStayEnough, StepsEndQuiet}
+use Rattle.lock_facts.specs.TurnFacts.{KeepsTurnFacts}
+use Rattle.lock_facts.proofs.RankKernel.{begins_with_turn_facts, image_keeps_turn_facts, step_keeps_turn_facts}
+use Rattle.reached_clients.specs.Clients.{ChangeBringsNew, ClientsKnowTheirCluster, GoesNew, HomesAreOwn, IsNewAt, OfClient, OfClients, PlacesStayOnce, RoundsStayEnough, StepsEndQuiet, TurnsStayInOrder}
 
 -- what a kernel takes is such, where it is a client
-abbrev SuchFor : (Input → ClientProcs → Type 0) → Input → KernelState → Type 0
+abbrev pub SuchFor : (Input → ClientProcs → Type 0) → Input → KernelState → Type 0
 SuchFor Such input (kernels.Client client) = Such input client
 SuchFor Such input (kernels.Server server) = Unit {0}
 
@@ -47,11 +49,11 @@ module _ (P : ℕ → ClientProcs → Type 0) (Such : Input → ClientProcs → 
   own_such input (kernels.Client client) is = own input client is
   own_such input (kernels.Server server) is = tt
 
-  clients_keep : Keeps (OfClient P) (SuchFor Such)
+  pub clients_keep : Keeps (OfClient P) (SuchFor Such)
   clients_keep = record { steps = step_keeps; images = image_keeps; own = own_such }
 
 -- and as they begin
-clients_begin : (P : ℕ → ClientProcs → Type 0) (c : Description) → ((kernel : ℕ) → P kernel (client_boot.boots c kernel)) → BeginsSo c (OfClient P)
+pub clients_begin : (P : ℕ → ClientProcs → Type 0) (c : Description) → ((kernel : ℕ) → P kernel (client_boot.boots c kernel)) → BeginsSo c (OfClient P)
 clients_begin P c boots [] kernel state e = subst (λ (k : KernelState). OfClient P kernel k) (sym e) (boots kernel)
 clients_begin P c boots (path ∷ paths) kernel (kernels.Server made) e = tt
 clients_begin P c boots (path ∷ paths) kernel (kernels.Client made) e = absurd e
@@ -61,7 +63,7 @@ client_weaken : (P Q : ℕ → ClientProcs → Type 0) → ((kernel : ℕ) (clie
 client_weaken P Q weaken kernel (kernels.Client client) h = weaken kernel client h
 client_weaken P Q weaken kernel (kernels.Server server) h = tt
 
-clients_weaken : (P Q : ℕ → ClientProcs → Type 0) → ((kernel : ℕ) (client : ClientProcs) → P kernel client → Q kernel client) → (states : List KernelState) (first : ℕ) → OfClients P first states → OfClients Q first states
+pub clients_weaken : (P Q : ℕ → ClientProcs → Type 0) → ((kernel : ℕ) (client : ClientProcs) → P kernel client → Q kernel client) → (states : List KernelState) (first : ℕ) → OfClients P first states → OfClients Q first states
 clients_weaken P Q weaken states first h = all_weaken (OfClient P) (OfClient Q) (client_weaken P Q weaken) states first h
 
 -- what each step keeps, whatever comes
@@ -88,25 +90,25 @@ homes_own faults asked c begun now reached =
 
 -- where what comes is new
 
--- places are once, and one thing at most is on its way to each process
+-- places are once, one thing at most is on its way to each process, and locks and turns are in order
 abbrev IsPlaced : ℕ → ClientProcs → Type 0
-IsPlaced kernel s = PlacesAreOnce s × OneThingEach s
+IsPlaced kernel s = PlacesAreOnce s × (OneThingEach s × KeepsTurnFacts s.files)
 
-abbrev IsNewFor : Input → ClientProcs → Type 0
+abbrev pub IsNewFor : Input → ClientProcs → Type 0
 IsNewFor input s = InHand (brought input s) s
 
-own_new : (input : Input) (s : ClientProcs) → IsOwn input → IsNewFor input s
+pub own_new : (input : Input) (s : ClientProcs) → IsOwn input → IsNewFor input s
 own_new (inputs.Request tx source body) s own = absurd own
 own_new (inputs.Replied tx source body) s own = absurd own
 own_new input s own = tt
 
 places_kept : Keeps (OfClient IsPlaced) (SuchFor IsNewFor)
 places_kept =
-    clients_keep IsPlaced IsNewFor own_new (λ kernel pid image s p. (image_keeps_places s pid image p.0, images_keep_one_thing s pid image p.1))
-    (λ kernel s input next step new p. (step_keeps_places s input next step new p.0, steps_keep_one_thing s input next step new p.0 p.1))
+    clients_keep IsPlaced IsNewFor own_new (λ kernel pid image s p. (image_keeps_places s pid image p.0, (images_keep_one_thing s pid image p.1.0, image_keeps_turn_facts s pid image p.1.1)))
+    (λ kernel s input next step new p. (step_keeps_places s input next step new p.0, (steps_keep_one_thing s input next step new p.0 p.1.0, step_keeps_turn_facts s input next step new p.0 p.1.0 p.1.1)))
 
 -- what is new at a client is so at a kernel
-new_at : (kernel : ℕ) (input : Input) (s : State) → IsNewAt kernel input s → (state : KernelState) → kernel_at kernel s ≡ Some state → SuchFor IsNewFor input state
+pub new_at : (kernel : ℕ) (input : Input) (s : State) → IsNewAt kernel input s → (state : KernelState) → kernel_at kernel s ≡ Some state → SuchFor IsNewFor input state
 new_at kernel input s news (kernels.Client client) e = news client (ap client_in e)
 new_at kernel input s news (kernels.Server server) e = tt
 
@@ -127,7 +129,7 @@ places_go {L} faults asked c (change ∷ changes) old now all h =
 placed : {L : Type 0} (faults asked : L → ℕ → ℕ → ℕ) (c : Description) (begun : L) (changes : List Change) (first now : At L) → Begins faults asked c begun first → GoesNew faults asked c changes first now → OfClients IsPlaced 1 now.state.kernels
 placed faults asked c begun changes first now begins all =
     places_go faults asked c changes first now all
-    (booted (OfClient IsPlaced) c (clients_begin IsPlaced c (λ kernel. (begins_with_places c kernel, begins_with_one_thing c kernel))) c.kernels first.state.kernels 1 begins.boots.kernels_are)
+    (booted (OfClient IsPlaced) c (clients_begin IsPlaced c (λ kernel. (begins_with_places c kernel, (begins_with_one_thing c kernel, begins_with_turn_facts c kernel)))) c.kernels first.state.kernels 1 begins.boots.kernels_are)
 
 pub places_stay : {L : Type 0} (faults asked : L → ℕ → ℕ → ℕ) → PlacesStayOnce faults asked
 places_stay faults asked c begun changes first now begins all =
@@ -136,8 +138,14 @@ places_stay faults asked c begun changes first now begins all =
 -- the rounds of each step are enough
 
 ends_quiet : (kernel : ℕ) (s : ClientProcs) → IsPlaced kernel s → StepsEndQuiet s
-ends_quiet kernel s p = record { one = p.1; quiet = λ input next step new. steps_are_enough s input next step new p.0 p.1 }
+ends_quiet kernel s p = record { one = p.1.0; quiet = λ input next step new. steps_are_enough s input next step new p.0 p.1.0 }
 
 pub rounds_stay : {L : Type 0} (faults asked : L → ℕ → ℕ → ℕ) → RoundsStayEnough faults asked
 rounds_stay faults asked c begun changes first now begins all =
     clients_weaken IsPlaced (λ kernel client. StepsEndQuiet client) ends_quiet now.state.kernels 1 (placed faults asked c begun changes first now begins all)
+
+-- locks, queues and turns are in order
+
+pub turns_stay : {L : Type 0} (faults asked : L → ℕ → ℕ → ℕ) → TurnsStayInOrder faults asked
+turns_stay faults asked c begun changes first now begins all =
+    clients_weaken IsPlaced (λ kernel client. KeepsTurnFacts client.files) (λ kernel client p. p.1.1) now.state.kernels 1 (placed faults asked c begun changes first now begins all)

@@ -21,6 +21,7 @@ use Rattle.client_facts.specs.HomeFacts.{HomeIsOwn}
 use Rattle.client_walks.specs.Hands.{brought}
 use Rattle.client_walks.specs.PlacesOnce.{InHand, PlacesAreOnce}
 use Rattle.client_rounds.specs.OneThing.{OneThingEach}
+use Rattle.lock_facts.specs.TurnFacts.{KeepsTurnFacts}
 use Rattle.sprite_cluster.specs.Everywhere.{OfAll}
 use Rattle.sprite_cluster.specs.Reached.{At, Begins, Change, Chose, Goes, Reached}
 
@@ -81,3 +82,8 @@ pub record StepsEndQuiet (s : ClientProcs) : Type 0 where
 abbrev pub RoundsStayEnough : {L : Type 0} → (L → ℕ → ℕ → ℕ) → (L → ℕ → ℕ → ℕ) → Type 0
 RoundsStayEnough {L} faults asked =
     (c : Description) (begun : L) (changes : List Change) (first now : At L) → Begins faults asked c begun first → GoesNew faults asked c changes first now → OfClients (λ kernel client. StepsEndQuiet client) 1 now.state.kernels
+
+-- and so are the locks of its streams, the queues for them, and the order in which its operations fill blocks
+abbrev pub TurnsStayInOrder : {L : Type 0} → (L → ℕ → ℕ → ℕ) → (L → ℕ → ℕ → ℕ) → Type 0
+TurnsStayInOrder {L} faults asked =
+    (c : Description) (begun : L) (changes : List Change) (first now : At L) → Begins faults asked c begun first → GoesNew faults asked c changes first now → OfClients (λ kernel client. KeepsTurnFacts client.files) 1 now.state.kernels

@@ -1,4 +1,4 @@
-ghost use Rattle.reached_clients.specs.Clients.{ClientsKnowTheirCluster, HomesAreOwn, PlacesStayOnce, RoundsStayEnough};
+ghost use Rattle.reached_clients.specs.Clients.{ClientsKnowTheirCluster, HomesAreOwn, PlacesStayOnce, RoundsStayEnough, TurnsStayInOrder};
 
 use link_plan::Link;
 
@@ -24,4 +24,11 @@ pub fn places_stay_once<L: Link>()
 /// what is new there: nothing is ready behind them, no reply is to be given and no report to be taken (this project).
 pub fn rounds_stay_enough<L: Link>()
     ensures { RoundsStayEnough L.faults L.asked }
+{}
+
+/// A law: so reached, what waits in a client for anything but the lock of its stream has that lock, who waits for one stands in its queue,
+/// which is another's, data is read and written at open streams, who needs blocks has a turn to fill them, and all but the first of those
+/// wait for theirs (this project).
+pub fn turns_stay_in_order<L: Link>()
+    ensures { TurnsStayInOrder L.faults L.asked }
 {}

@@ -3,4 +3,7 @@
 
 mod laws;
 
-pub use laws::{clients_know_their_cluster, homes_are_own, places_stay_once, rounds_stay_enough};
+pub use laws::{
+    clients_know_their_cluster, homes_are_own, places_stay_once, rounds_stay_enough,
+    turns_stay_in_order,
+};

@@ -1,0 +1,4 @@
+pub mod LockFacts
+pub mod WaitFacts
+pub mod LockSteps
+pub mod TurnFacts
