@@ -1,0 +1,2 @@
+pub mod SyncFacts
+pub mod QueueFacts

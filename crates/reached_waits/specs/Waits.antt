@@ -1,0 +1,29 @@
+-- What the operations on files of clients of reached clusters wait for.
+use Rattle.std.specs.Prelude.{ℕ, List}
+use Rattle.unix_calls.specs.declared.Description.{Description}
+use Rattle.client_file_tables.specs.declared.client_files.ClientFiles.{ClientFiles}
+use Rattle.client_facts.specs.FileFacts.{FillersHaveTurns, LocksAreHeld, OneOperationEach, QueuedAreWaiting, QueuedLocksAreHeld, QueuesAreOnce, TurnsAreOnce, WaitersAreQueued}
+use Rattle.lock_facts.specs.WaitFacts.{WaitersWantLocks}
+use Rattle.pending_laws.specs.Waits.{SyncsWait}
+use Rattle.reached_clients.specs.Clients.{GoesNew, OfClients}
+use Rattle.sprite_cluster.specs.Reached.{At, Begins, Change}
+
+-- each process has one operation at most, which waits for something: no sync looks, and who waits for a lock wants that of a stream; what waits
+-- for anything but a lock has that of its stream; who waits for one stands once in its queue, in which nobody else stands, and that lock is
+-- another's; and who needs blocks has one turn to fill them
+pub record WaitsForSomething (s : ClientFiles) : Type 0 where
+  pub one_each : OneOperationEach s
+  pub syncs : SyncsWait s
+  pub wants : WaitersWantLocks s
+  pub held : LocksAreHeld s
+  pub queued : WaitersAreQueued s
+  pub queued_once : QueuesAreOnce s
+  pub queued_wait : QueuedAreWaiting s
+  pub kept_out : QueuedLocksAreHeld s
+  pub turns : FillersHaveTurns s
+  pub turns_once : TurnsAreOnce s
+
+-- in each cluster that is reached by changes which bring to clients what is new there, this is so of each client
+abbrev pub OperationsStayWaiting : {L : Type 0} → (L → ℕ → ℕ → ℕ) → (L → ℕ → ℕ → ℕ) → Type 0
+OperationsStayWaiting {L} faults asked =
+    (c : Description) (begun : L) (changes : List Change) (first now : At L) → Begins faults asked c begun first → GoesNew faults asked c changes first now → OfClients (λ kernel client. WaitsForSomething client.files) 1 now.state.kernels
