@@ -4,11 +4,14 @@ use Rattle.std.specs.List.{AllByRecursion}
 use Rattle.sprite_ids.specs.declared.TxNo.{TxNo}
 use Rattle.sprite_ids.specs.Lists.{changed}
 use Rattle.sprite_ids.proofs.ListLaws.{each_weaken}
+use Rattle.link_plan.specs.declared.Fate.TheVariants.{Once}
 use Rattle.process_machine.specs.Machine as processes
+use Rattle.kernel_rpc.specs.declared.call.Arrival.TheVariants.{FirstRequest}
 use Rattle.kernel_rpc.specs.declared.call.Call.{Call}
+use Rattle.kernel_rpc.specs.declared.call.PacketCopy.{PacketCopy}
 use Rattle.kernel_rpc.specs.declared.call.Part.TheVariants.{Answered, Silent}
 use Rattle.kernel_rpc.specs.Histories.{reached}
-use Rattle.kernel_rpc.specs.Machine.{Machine, answered, call_of, holds, is_call, new_call, part_of, with_part}
+use Rattle.kernel_rpc.specs.Machine.{Machine, answered, call_of, delivered_as, holds, is_call, landed, new_call, part_of, with_part}
 use Rattle.kernel_rpc.specs.Runs.{Act, Answer, Counts, after}
 use Rattle.kernel_rpc.specs.Sound.{Wired}
 use Rattle.kernel_rpc.proofs.NumberLaws.{each_changed}
@@ -26,20 +29,25 @@ use Rattle.server_kernel.specs.declared.Asked.{Asked}
 use Rattle.server_kernel.specs.declared.Server.{Server}
 use Rattle.server_kernel.specs.Steps.{server_step}
 use Rattle.kept_requests.specs.Kept.{HasCome, IsOwed, KeepsSuch, WasKept, has_answer}
-use Rattle.kept_requests.proofs.ServedLaws.{Held, InAnswers, InAsking, InWaiting, Rows, StandsIn}
-use Rattle.kept_requests.proofs.StepLaws.{kept_there, stands_behind, stands_front, step_done}
+use Rattle.kept_requests.proofs.ServedLaws.{AnswersIn, Held, InAnswers, InAsking, InWaiting, StandsIn}
+use Rattle.kept_requests.proofs.StepLaws.{kept_there, stands_behind, stands_front, step_done, step_keeps}
+use Rattle.client_procs.specs.Readers.{with_image}
+use Rattle.client_procs.specs.Steps.{client_step}
+use Rattle.client_requests.specs.Kept.{IsKept}
+use Rattle.client_requests.specs.Requests.{is_left}
 use Rattle.cluster_wire.specs.Ran.{EachDone}
 use Rattle.cluster_wire.specs.Replying.{IsAnswer, asker, goes_back}
 use Rattle.cluster_wire.specs.declared.Said.{Said}
 use Rattle.cluster_kernels.specs.declared.KernelState.{KernelState}
 use Rattle.cluster_kernels.specs.declared.KernelState.TheVariants as kernels
 use Rattle.cluster_kernels.specs.declared.State.{State}
-use Rattle.cluster_kernels.specs.Kernels.{image_put}
+use Rattle.cluster_kernels.specs.Kernels.{image_put, kernel_step}
 use Rattle.cluster_kernels.specs.States.{kernel_at}
 use Rattle.cluster_steps.specs.Steps.{GoesOut}
 use Rattle.sprite_cluster.specs.Everywhere.{OfAll}
 use Rattle.reached_domains.specs.Domains.{asked_request}
 use Rattle.stall_laws.specs.Stalls.{asked_of}
+use Rattle.stall_laws.proofs.ClientLaws.{ClientSo, Fits, client_after, client_handed, client_image, client_owes, client_run, client_takes, has_come, image_keeps, was_kept}
 use Rattle.stall_laws.proofs.CallLaws.{Bears, IsQuiet, answer_tx, answers_keep, begins_keep, ordered_run, quiet_keeps}
 use Rattle.stall_laws.proofs.ReceiverLaws.{answered_none, fresh_none, held_before}
 
@@ -86,62 +94,113 @@ length_set [] i state = refl
 length_set (first ∷ states) zero state = refl
 length_set (first ∷ states) (suc i) state = ap (λ n. suc n) (length_set states i state)
 
--- ---- calls that a server keeps
+-- ---- calls that a kernel keeps
 
--- a call that the server of that number has, and of which such requests are wanted, is kept there, or is in hand
-abbrev pub CallKept : (Request → Bool) → (ℕ → Server → Asked → Type 0) → ℕ → Server → Call → Type 0
-CallKept Wanted InHand kernel s call =
-    (body : Request) → call.owner ≡ kernel → holds (part_of kernel call.receivers) ≡ true → asked_request call.body ≡ Some body → Wanted body ≡ true
-    → StandsIn (asked_of call body) (s.asking ++ s.waiting) ⊎ InHand kernel s (asked_of call body)
+-- of which requests it is told that they are kept: at servers, and at clients
+pub record Wants : Type 0 where
+  pub at_servers : Request → Bool
+  pub at_clients : Request → Bool
 
-pub record ServerSo (Wanted : Request → Bool) (InHand : ℕ → Server → Asked → Type 0) (machine : Machine) (kernel : ℕ) (s : Server) : Type 0 where
-  pub such : KeepsSuch s
-  pub kept : AllByRecursion (CallKept Wanted InHand kernel s) machine.unfinished
+abbrev pub is_wanted : Wants → KernelState → Request → Bool
+is_wanted wants (kernels.Server server) body = wants.at_servers body
+is_wanted wants (kernels.Client client) body = wants.at_clients body
 
-abbrev pub KernelSo : (Request → Bool) → (ℕ → Server → Asked → Type 0) → Machine → ℕ → KernelState → Type 0
-KernelSo Wanted InHand machine kernel (kernels.Server server) = ServerSo Wanted InHand machine kernel server
-KernelSo Wanted InHand machine kernel (kernels.Client client) = Unit {0}
+-- the kernel keeps it
+abbrev pub KeepsIt : KernelState → Asked → Type 0
+KeepsIt (kernels.Server server) asked = StandsIn asked (server.asking ++ server.waiting)
+KeepsIt (kernels.Client client) asked = IsKept asked.tx client
+
+-- where it comes, the kernel has an answer to it, or doesn't leave it alone
+abbrev pub TakesOn : KernelState → Request → Type 0
+TakesOn (kernels.Server server) body = has_answer server body ≡ true
+TakesOn (kernels.Client client) body = is_left body client ≡ false
+
+-- what is so of all that the kernel keeps
+abbrev pub KeepsSo : Machine → KernelState → Type 0
+KeepsSo machine (kernels.Server server) = KeepsSuch server
+KeepsSo machine (kernels.Client client) = ClientSo machine client
+
+-- a call that the kernel of that number has, and of which such requests are wanted, is kept there, or is in hand
+abbrev pub CallKept : Wants → (ℕ → KernelState → Asked → Type 0) → ℕ → KernelState → Call → Type 0
+CallKept wants InHand kernel state call =
+    (body : Request) → call.owner ≡ kernel → holds (part_of kernel call.receivers) ≡ true → asked_request call.body ≡ Some body → is_wanted wants state body ≡ true
+    → KeepsIt state (asked_of call body) ⊎ InHand kernel state (asked_of call body)
+
+pub record KernelSo (wants : Wants) (InHand : ℕ → KernelState → Asked → Type 0) (machine : Machine) (kernel : ℕ) (state : KernelState) : Type 0 where
+  pub such : KeepsSo machine state
+  pub kept : AllByRecursion (CallKept wants InHand kernel state) machine.unfinished
 
 -- such a call is answered by one of these, or kept
-abbrev pub CallHeld : (Request → Bool) → ℕ → Rows → Rows → List (TxNo × ReplyBody) → Call → Type 0
-CallHeld Wanted kernel asking waiting answers call =
-    (body : Request) → call.owner ≡ kernel → holds (part_of kernel call.receivers) ≡ true → asked_request call.body ≡ Some body → Wanted body ≡ true → Held (asked_of call body) asking waiting answers
+abbrev pub CallHeld : Wants → ℕ → KernelState → List (TxNo × ReplyBody) → Call → Type 0
+CallHeld wants kernel state answers call =
+    (body : Request) → call.owner ≡ kernel → holds (part_of kernel call.receivers) ≡ true → asked_request call.body ≡ Some body → is_wanted wants state body ≡ true
+    → AnswersIn call.tx answers ⊎ KeepsIt state (asked_of call body)
 
 -- nothing
-abbrev pub NoHand : ℕ → Server → Asked → Type 0
-NoHand kernel s asked = ⊥
+abbrev pub NoHand : ℕ → KernelState → Asked → Type 0
+NoHand kernel state asked = ⊥
 
--- a request that comes is in hand: the server of that number has an answer to it
-abbrev pub Comes : Input → ℕ → State → ℕ → Server → Asked → Type 0
-Comes input kernel s other server asked = (other ≡ kernel) × (kernel_at kernel s ≡ Some (kernels.Server server)) × (input ≡ inputs.Request asked.tx asked.from asked.body) × (has_answer server asked.body ≡ true)
+-- a request that comes is in hand: the kernel of that number takes it on
+abbrev pub Comes : Input → ℕ → State → ℕ → KernelState → Asked → Type 0
+Comes input kernel s other state asked = (other ≡ kernel) × (kernel_at kernel s ≡ Some state) × (input ≡ inputs.Request asked.tx asked.from asked.body) × TakesOn state asked.body
 
-module _ (Wanted : Request → Bool) where
-  kept_bears : (InHand : ℕ → Server → Asked → Type 0) (kernel : ℕ) (s : Server) → Bears (CallKept Wanted InHand kernel s)
-  kept_bears InHand kernel s = record {
+-- ---- what is so of all that a kernel keeps
+
+so_after : (act : Act) (machine : Machine) (state : KernelState) → KeepsSo machine state → KeepsSo (after machine act) state
+so_after act machine (kernels.Server server) h = h
+so_after act machine (kernels.Client client) h = client_after act machine client h
+
+-- where a request is handed out
+pub so_handed : (copy : PacketCopy) (machine : Machine) (state : KernelState) → KeepsSo machine state → KeepsSo (delivered_as FirstRequest copy Once (landed copy machine)) state
+so_handed copy machine (kernels.Server server) h = h
+so_handed copy machine (kernels.Client client) h = client_handed copy machine client h
+
+so_run : (steps : List (Act × Counts)) (machine : Machine) (state : KernelState) → KeepsSo machine state → KeepsSo (reached machine steps) state
+so_run steps machine (kernels.Server server) h = h
+so_run steps machine (kernels.Client client) h = client_run steps machine client h
+
+pub so_takes : (input : Input) (next : TxNo) (step : ℕ) (machine : Machine) (state : KernelState) → Ordered machine → Fits input machine → KeepsSo machine state → KeepsSo machine (kernel_step state input next step).0
+so_takes input next step machine (kernels.Server server) ordered fits h = step_keeps server input next h
+so_takes input next step machine (kernels.Client client) ordered fits h = client_takes input next step machine client ordered fits h
+
+module _ (wants : Wants) where
+  kept_bears : (InHand : ℕ → KernelState → Asked → Type 0) (kernel : ℕ) (state : KernelState) → Bears (CallKept wants InHand kernel state)
+  kept_bears InHand kernel state = record {
     tried_so = λ call k. k;
     silent_so = λ at call k body owner held asks wanted. k body owner (held_before at kernel Silent call.receivers refl held) asks wanted;
     answered_so = λ reply call k body owner held asks wanted. k body owner (held_before call.owner kernel Answered call.receivers refl held) asks wanted;
   }
 
-  pub kernel_quiet : (InHand : ℕ → Server → Asked → Type 0) (act : Act) (machine : Machine) → IsQuiet machine act → (kernel : ℕ) (state : KernelState) → KernelSo Wanted InHand machine kernel state → KernelSo Wanted InHand (after machine act) kernel state
-  kernel_quiet InHand act machine quiet kernel (kernels.Server server) h = record { such = h.such; kept = quiet_keeps (CallKept Wanted InHand kernel server) (kept_bears InHand kernel server) act machine quiet h.kept }
-  kernel_quiet InHand act machine quiet kernel (kernels.Client client) h = tt
+  pub kernel_quiet : (InHand : ℕ → KernelState → Asked → Type 0) (act : Act) (machine : Machine) → IsQuiet machine act → (kernel : ℕ) (state : KernelState) → KernelSo wants InHand machine kernel state → KernelSo wants InHand (after machine act) kernel state
+  kernel_quiet InHand act machine quiet kernel state h = record { such = so_after act machine state h.such; kept = quiet_keeps (CallKept wants InHand kernel state) (kept_bears InHand kernel state) act machine quiet h.kept }
 
-  pub kernel_weaken : (InHand Other : ℕ → Server → Asked → Type 0) (machine : Machine) (kernel : ℕ) (state : KernelState) → ((s : Server) (asked : Asked) → InHand kernel s asked → Other kernel s asked) → KernelSo Wanted InHand machine kernel state → KernelSo Wanted Other machine kernel state
-  kernel_weaken InHand Other machine kernel (kernels.Server server) weaken h = record { such = h.such; kept = each_weaken (CallKept Wanted InHand kernel server) (CallKept Wanted Other kernel server) machine.unfinished (λ call k body owner held asks wanted. by (asked_of call body) (k body owner held asks wanted)) h.kept }
+  pub kernel_weaken : (InHand Other : ℕ → KernelState → Asked → Type 0) (machine : Machine) (kernel : ℕ) (state : KernelState) → ((asked : Asked) → InHand kernel state asked → Other kernel state asked) → KernelSo wants InHand machine kernel state → KernelSo wants Other machine kernel state
+  kernel_weaken InHand Other machine kernel state weaken h = record { such = h.such; kept = each_weaken (CallKept wants InHand kernel state) (CallKept wants Other kernel state) machine.unfinished (λ call k body owner held asks wanted. by (asked_of call body) (k body owner held asks wanted)) h.kept }
     where
-      by : (asked : Asked) → StandsIn asked (server.asking ++ server.waiting) ⊎ InHand kernel server asked → StandsIn asked (server.asking ++ server.waiting) ⊎ Other kernel server asked
-      by asked (inl stands) = inl stands
-      by asked (inr hand) = inr (weaken server asked hand)
-  kernel_weaken InHand Other machine kernel (kernels.Client client) weaken h = tt
+      by : (asked : Asked) → KeepsIt state asked ⊎ InHand kernel state asked → KeepsIt state asked ⊎ Other kernel state asked
+      by asked (inl keeps) = inl keeps
+      by asked (inr hand) = inr (weaken asked hand)
 
-  pub kernel_image : (InHand : ℕ → Server → Asked → Type 0) (machine : Machine) (kernel pid : ℕ) (image : processes.Machine) (state : KernelState) → KernelSo Wanted InHand machine kernel state → KernelSo Wanted InHand machine kernel (image_put pid image state)
-  kernel_image InHand machine kernel pid image (kernels.Server server) h = h
-  kernel_image InHand machine kernel pid image (kernels.Client client) h = tt
+  pub kernel_image : (machine : Machine) (kernel pid : ℕ) (image : processes.Machine) (state : KernelState) → KernelSo wants NoHand machine kernel state → KernelSo wants NoHand machine kernel (image_put pid image state)
+  kernel_image machine kernel pid image (kernels.Server server) h = h
+  kernel_image machine kernel pid image (kernels.Client client) h = record {
+    such = client_image machine pid image client h.such;
+    kept = each_weaken (CallKept wants NoHand kernel (kernels.Client client)) (CallKept wants NoHand kernel (kernels.Client (with_image pid image client))) machine.unfinished
+        (λ call k body owner held asks wanted. by (asked_of call body) (k body owner held asks wanted)) h.kept;
+  }
+    where
+      by : (asked : Asked) → IsKept asked.tx client ⊎ ⊥ → IsKept asked.tx (with_image pid image client) ⊎ ⊥
+      by asked (inl keeps) = inl (image_keeps asked.tx pid image client keeps)
+      by asked (inr none) = absurd none
 
   -- ---- what a step says goes out
 
   module _ {L : Type 0} (faults asked : L → ℕ → ℕ → ℕ) (c : Description) (kernel : ℕ) (out : Out) (old new : Wired L) (said : Said) (g : GoesOut faults asked c kernel out old new said) where
+    so_out : (state : KernelState) → KeepsSo old.machine state → KeepsSo new.machine state
+    so_out state h =
+        subst (λ (machine : Machine). KeepsSo machine state) (sym g.answers.ran.reaches) (so_run g.answers.steps g.between.machine state
+        (subst (λ (machine : Machine). KeepsSo machine state) (sym g.requests.ran.reaches) (so_run g.requests.steps old.machine state h)))
+
     -- first the remote calls
     begun_keeps : (other : ℕ) (F : Call → Type 0) → ((call : Call) → (holds (part_of other call.receivers) ≡ true → ⊥) → F call) → AllByRecursion F old.machine.unfinished → AllByRecursion F g.between.machine.unfinished
     begun_keeps other F new h =
@@ -149,66 +208,81 @@ module _ (Wanted : Request → Bool) where
         (begins_keep F (λ machine from port servers owner body going about before. new (new_call machine from port servers owner body going.tries about before) (fresh_none other servers)) c kernel out.sends old.machine g.requests.steps g.requests.each h)
 
     -- another kernel's stay as they are
-    pub other_out : (other : ℕ) (state : KernelState) → KernelSo Wanted NoHand old.machine other state → KernelSo Wanted NoHand new.machine other state
-    other_out other (kernels.Server server) h = record {
-      such = h.such;
+    pub other_out : (other : ℕ) (state : KernelState) → KernelSo wants NoHand old.machine other state → KernelSo wants NoHand new.machine other state
+    other_out other state h = record {
+      such = so_out state h.such;
       kept =
-          subst (λ (machine : Machine). AllByRecursion (CallKept Wanted NoHand other server) machine.unfinished) (sym g.answers.ran.reaches)
-          (answers_keep (CallKept Wanted NoHand other server) (kept_bears NoHand other server) kernel out.answers g.between.machine g.answers.steps g.answers.each
-          (begun_keeps other (CallKept Wanted NoHand other server) (λ call none body owner held asks wanted. absurd (none held)) h.kept));
+          subst (λ (machine : Machine). AllByRecursion (CallKept wants NoHand other state) machine.unfinished) (sym g.answers.ran.reaches)
+          (answers_keep (CallKept wants NoHand other state) (kept_bears NoHand other state) kernel out.answers g.between.machine g.answers.steps g.answers.each
+          (begun_keeps other (CallKept wants NoHand other state) (λ call none body owner held asks wanted. absurd (none held)) h.kept));
     }
-    other_out other (kernels.Client client) h = tt
 
     -- one answer goes back
-    past_answer : (s : Server) (answer : TxNo × ReplyBody) (answers : List (TxNo × ReplyBody)) (call : Call) → is_call answer.0 call ≡ false → CallHeld Wanted kernel s.asking s.waiting (answer ∷ answers) call → CallHeld Wanted kernel s.asking s.waiting answers call
-    past_answer s answer answers call off k body owner held asks wanted = by (k body owner held asks wanted)
+    past_answer : (state : KernelState) (answer : TxNo × ReplyBody) (answers : List (TxNo × ReplyBody)) (call : Call) → is_call answer.0 call ≡ false → CallHeld wants kernel state (answer ∷ answers) call → CallHeld wants kernel state answers call
+    past_answer state answer answers call off k body owner held asks wanted = by (k body owner held asks wanted)
       where
-        by : Held (asked_of call body) s.asking s.waiting (answer ∷ answers) → Held (asked_of call body) s.asking s.waiting answers
-        by (InAnswers (inl here)) = absurd (true≢false (sym (ap (λ (tx : TxNo). call.tx.0 == tx.0) here ∙ eq_same call.tx.0) ∙ off))
-        by (InAnswers (inr later)) = InAnswers later
-        by (InAsking stands) = InAsking stands
-        by (InWaiting stands) = InWaiting stands
+        by : AnswersIn call.tx (answer ∷ answers) ⊎ KeepsIt state (asked_of call body) → AnswersIn call.tx answers ⊎ KeepsIt state (asked_of call body)
+        by (inl (inl here)) = absurd (true≢false (sym (ap (λ (tx : TxNo). call.tx.0 == tx.0) here ∙ eq_same call.tx.0) ∙ off))
+        by (inl (inr later)) = inl later
+        by (inr keeps) = inr keeps
 
-    held_answered : (s : Server) (answers : List (TxNo × ReplyBody)) (reply : List ℕ) (call : Call) → CallHeld Wanted kernel s.asking s.waiting answers (answered reply call)
-    held_answered s answers reply call body owner held asks wanted = absurd (answered_none kernel call.receivers (subst (λ n. holds (part_of kernel (with_part n Answered call.receivers)) ≡ true) owner held))
+    held_answered : (state : KernelState) (answers : List (TxNo × ReplyBody)) (reply : List ℕ) (call : Call) → CallHeld wants kernel state answers (answered reply call)
+    held_answered state answers reply call body owner held asks wanted = absurd (answered_none kernel call.receivers (subst (λ n. holds (part_of kernel (with_part n Answered call.receivers)) ≡ true) owner held))
 
-    answers_held : (s : Server) (answers : List (TxNo × ReplyBody)) (machine : Machine) (steps : List (Act × Counts)) → EachDone (goes_back kernel) IsAnswer answers machine steps → Ordered machine → AllByRecursion (CallHeld Wanted kernel s.asking s.waiting answers) machine.unfinished → AllByRecursion (CallHeld Wanted kernel s.asking s.waiting []) (reached machine steps).unfinished
-    answers_held s [] machine steps e ordered h = subst (λ (all : List (Act × Counts)). AllByRecursion (CallHeld Wanted kernel s.asking s.waiting []) (reached machine all).unfinished) (sym e) h
-    answers_held s (answer ∷ answers) machine [] e ordered h = absurd e
-    answers_held s (answer ∷ answers) machine (step ∷ steps) e ordered h =
+    answers_held : (state : KernelState) (answers : List (TxNo × ReplyBody)) (machine : Machine) (steps : List (Act × Counts)) → EachDone (goes_back kernel) IsAnswer answers machine steps → Ordered machine → AllByRecursion (CallHeld wants kernel state answers) machine.unfinished → AllByRecursion (CallHeld wants kernel state []) (reached machine steps).unfinished
+    answers_held state [] machine steps e ordered h = subst (λ (all : List (Act × Counts)). AllByRecursion (CallHeld wants kernel state []) (reached machine all).unfinished) (sym e) h
+    answers_held state (answer ∷ answers) machine [] e ordered h = absurd e
+    answers_held state (answer ∷ answers) machine (step ∷ steps) e ordered h =
         let packet : Packet = e.0.way in
         let number : packet.tx ≡ answer.0 = answer_tx kernel answer (asker kernel machine answer.0) packet e.0.planned in
         let act_is : step.0 ≡ Answer answer.0 (spelling packet) e.0.done.given = e.0.done.is ∙ ap (λ (tx : TxNo). Answer tx (spelling packet) e.0.done.given) number in
         let there = (unfinished_replied (call_of machine answer.0) e.0.done.given machine).0 in
-        answers_held s answers (after machine step.0) steps e.1 (ordered_after machine step.0 ordered)
-        (subst (λ (a : Act). AllByRecursion (CallHeld Wanted kernel s.asking s.waiting answers) (after machine a).unfinished) (sym act_is)
-        (subst (λ (calls : List Call). AllByRecursion (CallHeld Wanted kernel s.asking s.waiting answers) (changed (is_call answer.0) (answered (spelling packet)) calls)) (sym there)
-        (each_changed (CallHeld Wanted kernel s.asking s.waiting (answer ∷ answers)) (CallHeld Wanted kernel s.asking s.waiting answers) answer.0 (answered (spelling packet)) 0 machine.begun machine.unfinished ordered (λ call off k. past_answer s answer answers call off k) (λ found is k. held_answered s answers (spelling packet) found) h)))
+        answers_held state answers (after machine step.0) steps e.1 (ordered_after machine step.0 ordered)
+        (subst (λ (a : Act). AllByRecursion (CallHeld wants kernel state answers) (after machine a).unfinished) (sym act_is)
+        (subst (λ (calls : List Call). AllByRecursion (CallHeld wants kernel state answers) (changed (is_call answer.0) (answered (spelling packet)) calls)) (sym there)
+        (each_changed (CallHeld wants kernel state (answer ∷ answers)) (CallHeld wants kernel state answers) answer.0 (answered (spelling packet)) 0 machine.begun machine.unfinished ordered (λ call off k. past_answer state answer answers call off k) (λ found is k. held_answered state answers (spelling packet) found) h)))
 
-    left_kept : (s : Server) (call : Call) → CallHeld Wanted kernel s.asking s.waiting [] call → CallKept Wanted NoHand kernel s call
-    left_kept s call k body owner held asks wanted = by (k body owner held asks wanted)
+    left_kept : (state : KernelState) (call : Call) → CallHeld wants kernel state [] call → CallKept wants NoHand kernel state call
+    left_kept state call k body owner held asks wanted = by (k body owner held asks wanted)
       where
-        by : Held (asked_of call body) s.asking s.waiting [] → StandsIn (asked_of call body) (s.asking ++ s.waiting) ⊎ NoHand kernel s (asked_of call body)
-        by (InAnswers none) = absurd none
-        by (InAsking stands) = inl (stands_front s.asking s.waiting (asked_of call body) stands)
-        by (InWaiting stands) = inl (stands_behind s.asking s.waiting (asked_of call body) stands)
+        by : ⊥ ⊎ KeepsIt state (asked_of call body) → KeepsIt state (asked_of call body) ⊎ ⊥
+        by (inl none) = absurd none
+        by (inr keeps) = inl keeps
 
-    pub own_out : (s : Server) → Ordered old.machine → AllByRecursion (CallHeld Wanted kernel s.asking s.waiting out.answers) old.machine.unfinished → AllByRecursion (CallKept Wanted NoHand kernel s) new.machine.unfinished
-    own_out s ordered h =
-        let begun : AllByRecursion (CallHeld Wanted kernel s.asking s.waiting out.answers) g.between.machine.unfinished = begun_keeps kernel (CallHeld Wanted kernel s.asking s.waiting out.answers) (λ call none body owner held asks wanted. absurd (none held)) h in
+    pub own_out : (state : KernelState) → Ordered old.machine → KeepsSo old.machine state → AllByRecursion (CallHeld wants kernel state out.answers) old.machine.unfinished → KernelSo wants NoHand new.machine kernel state
+    own_out state ordered such h =
+        let begun : AllByRecursion (CallHeld wants kernel state out.answers) g.between.machine.unfinished = begun_keeps kernel (CallHeld wants kernel state out.answers) (λ call none body owner held asks wanted. absurd (none held)) h in
         let between : Ordered g.between.machine = subst Ordered (sym g.requests.ran.reaches) (ordered_run g.requests.steps old.machine ordered) in
-        each_weaken (CallHeld Wanted kernel s.asking s.waiting []) (CallKept Wanted NoHand kernel s) new.machine.unfinished (left_kept s)
-        (subst (λ (machine : Machine). AllByRecursion (CallHeld Wanted kernel s.asking s.waiting []) machine.unfinished) (sym g.answers.ran.reaches) (answers_held s out.answers g.between.machine g.answers.steps g.answers.each between begun))
+        record {
+          such = so_out state such;
+          kept = each_weaken (CallHeld wants kernel state []) (CallKept wants NoHand kernel state) new.machine.unfinished (left_kept state)
+              (subst (λ (machine : Machine). AllByRecursion (CallHeld wants kernel state []) machine.unfinished) (sym g.answers.ran.reaches) (answers_held state out.answers g.between.machine g.answers.steps g.answers.each between begun));
+        }
 
   -- ---- what comes to a kernel
 
-  -- each call that a server has is answered in its step, or kept
-  pub server_steps : (input : Input) (next : TxNo) (kernel : ℕ) (s : State) (server : Server) (machine : Machine) → ServerSo Wanted (Comes input kernel s) machine kernel server
-      → AllByRecursion (CallHeld Wanted kernel (server_step server input next).0.asking (server_step server input next).0.waiting (server_step server input next).1.answers) machine.unfinished
-  server_steps input next kernel s server machine h =
-      each_weaken (CallKept Wanted (Comes input kernel s) kernel server) (CallHeld Wanted kernel (server_step server input next).0.asking (server_step server input next).0.waiting (server_step server input next).1.answers) machine.unfinished
-      (λ call k body owner held asks wanted. step_done server input next (asked_of call body) h.such (owed (asked_of call body) (k body owner held asks wanted))) h.kept
+  -- each call that a kernel has is answered in its step, or kept
+  pub kernel_steps : (input : Input) (next : TxNo) (step kernel : ℕ) (s : State) (state : KernelState) (machine : Machine) → KernelSo wants (Comes input kernel s) machine kernel state
+      → AllByRecursion (CallHeld wants kernel (kernel_step state input next step).0 (kernel_step state input next step).1.answers) machine.unfinished
+  kernel_steps input next step kernel s (kernels.Server server) machine h =
+      each_weaken (CallKept wants (Comes input kernel s) kernel (kernels.Server server)) (CallHeld wants kernel (kernels.Server behind) (server_step server input next).1.answers) machine.unfinished
+      (λ call k body owner held asks wanted. done (asked_of call body) (step_done server input next (asked_of call body) h.such (owed (asked_of call body) (k body owner held asks wanted)))) h.kept
     where
-      owed : (asked : Asked) → StandsIn asked (server.asking ++ server.waiting) ⊎ Comes input kernel s kernel server asked → IsOwed server input asked
+      behind : Server
+      behind = (server_step server input next).0
+
+      owed : (asked : Asked) → StandsIn asked (server.asking ++ server.waiting) ⊎ Comes input kernel s kernel (kernels.Server server) asked → IsOwed server input asked
       owed asked (inl stands) = WasKept (kept_there server asked stands)
       owed asked (inr came) = HasCome came.2 came.3
+
+      done : (asked : Asked) → Held asked (server_step server input next).0.asking (server_step server input next).0.waiting (server_step server input next).1.answers → AnswersIn asked.tx (server_step server input next).1.answers ⊎ StandsIn asked ((server_step server input next).0.asking ++ (server_step server input next).0.waiting)
+      done asked (InAnswers there) = inl there
+      done asked (InAsking stands) = inr (stands_front (server_step server input next).0.asking (server_step server input next).0.waiting asked stands)
+      done asked (InWaiting stands) = inr (stands_behind (server_step server input next).0.asking (server_step server input next).0.waiting asked stands)
+  kernel_steps input next step kernel s (kernels.Client client) machine h =
+      each_weaken (CallKept wants (Comes input kernel s) kernel (kernels.Client client)) (CallHeld wants kernel (kernels.Client (client_step client input next step).0) (client_step client input next step).1.answers) machine.unfinished
+      (λ call k body owner held asks wanted. owed (asked_of call body) (k body owner held asks wanted)) h.kept
+    where
+      owed : (asked : Asked) → IsKept asked.tx client ⊎ Comes input kernel s kernel (kernels.Client client) asked → AnswersIn asked.tx (client_step client input next step).1.answers ⊎ IsKept asked.tx (client_step client input next step).0
+      owed asked (inl keeps) = client_owes client input next step asked.tx (was_kept client input asked.tx keeps)
+      owed asked (inr came) = client_owes client input next step asked.tx (has_come client input asked.tx asked.from asked.body came.2 came.3)

@@ -1,5 +1,5 @@
 -- Of each reached cluster: who has which call, and which are kept at servers; and what is left where it can't go on.
-use Rattle.std.proofs.Common.{arith, ◌≡◌, ℕ, suc, ◌+◌, ◌-◌, ◌<◌, ◌⊎◌, inl, inr, ◌==◌, Bool, true, false, ◌&&◌, ◌||◌, List, [], ◌∷◌, ◌++◌, length, slice_get, Some, refl, sym, ap, ◌∙◌, subst, true≢false}
+use Rattle.std.proofs.Common.{arith, ◌≡◌, ℕ, suc, ◌+◌, ◌-◌, ◌<◌, ◌≤◌, ◌⊎◌, inl, inr, ◌==◌, Bool, true, false, ◌&&◌, ◌||◌, not, List, [], ◌∷◌, ◌++◌, length, slice_get, Some, refl, sym, ap, ◌∙◌, subst, true≢false}
 use Rattle.std.specs.List.{list_any}
 use Rattle.sprite_ids.specs.declared.FileId.{FileId}
 use Rattle.sprite_ids.specs.declared.TxNo.{TxNo}
@@ -8,6 +8,7 @@ use Rattle.sprite_paths.specs.declared.Path.{Path}
 use Rattle.packet_bodies.specs.declared.Request.{Request}
 use Rattle.packet_bodies.specs.declared.Request.TheVariants as requests
 use Rattle.kernel_rpc.specs.declared.call.Call.{Call}
+use Rattle.kernel_rpc.specs.declared.call.Part.TheVariants.{Holding}
 use Rattle.kernel_rpc.specs.Machine.{Machine, call_of, idle, is_call, part_of}
 use Rattle.kernel_rpc.specs.Sound.{Wired}
 use Rattle.kernel_rpc.proofs.PartLaws.{eq_same}
@@ -23,13 +24,16 @@ use Rattle.server_kernel.specs.Facts.{is_call_to}
 use Rattle.server_kernel.specs.Files.{is_busy, kept_of}
 use Rattle.server_kernel.specs.Waits.{is_about}
 use Rattle.server_answers.specs.Servers.{IsKept}
-use Rattle.kept_requests.specs.Kept.{KeepsSuch, has_answer}
-use Rattle.kept_requests.proofs.ServedLaws.{Rows, StandsIn}
+use Rattle.kept_requests.specs.Kept.{KeepsSuch, has_answer, is_always_answered}
+use Rattle.kept_requests.proofs.ServedLaws.{Rows}
 use Rattle.kept_requests.proofs.StepLaws.{boot_keeps, kept_there, step_keeps}
+use Rattle.client_homes.specs.declared.ClientProcs.{ClientProcs}
+use Rattle.client_requests.specs.Requests.{is_always_taken, is_left}
 use Rattle.cluster_kernels.specs.declared.KernelState.{KernelState}
 use Rattle.cluster_kernels.specs.declared.KernelState.TheVariants as kernels
 use Rattle.cluster_kernels.specs.declared.State.{State}
 use Rattle.cluster_kernels.specs.Booted.{AreKernels, IsKernel}
+use Rattle.cluster_kernels.specs.States.{kernel_at}
 use Rattle.cluster_bursts.specs.Bursts.{job_at}
 use Rattle.sprite_cluster.specs.Reached.{At, Reached}
 use Rattle.sprite_cluster.specs.Steps.{begun_turn}
@@ -38,19 +42,20 @@ use Rattle.sprite_cluster.proofs.ReachedLaws.{Lasts, lasts_on}
 use Rattle.reached_servers.specs.Servers.{FilesAreBusySo}
 use Rattle.reached_servers.proofs.ServerLaws.{files_busy, servers_have}
 use Rattle.reached_domains.specs.Domains.{asked_request}
-use Rattle.stall_laws.specs.Stalls.{AllCallsAreTaken, AllTakenAreKept, AllUnfinishedAreKept, GoesToServer, HasCall, IsWithOwner, KeepsNothing, NoCallIsLeftAtServers, NoCallbackNothingKept, NoneIsLeftAtServers, OwnersAloneHold, ServersKeepSuch, TakenAreKept, UnfinishedAreKept, asked_of, is_always_answered}
+use Rattle.stall_laws.specs.Stalls.{AllCallsAreTaken, AllTakenAreKept, AllUnfinishedAreKept, GoesToServer, HasCall, IsWithOwner, KeepsNothing, NoCallIsLeftAtServers, NoCallbackNothingKept, NoneIsLeftAtServers, OwnersAloneHold, ServersKeepSuch, TakenAreKept, UnfinishedAreKept, asked_of}
 use Rattle.stall_laws.proofs.CallLaws.{CallSo, Nobody}
-use Rattle.stall_laws.proofs.KernelLaws.{CallKept, KernelSo, NoHand, ServerSo}
+use Rattle.stall_laws.proofs.ClientLaws.{client_begins}
+use Rattle.stall_laws.proofs.KernelLaws.{CallKept, KeepsIt, KernelSo, NoHand, Wants, is_wanted}
 use Rattle.stall_laws.proofs.ReceiverLaws.{held_found, holds_is}
 use Rattle.stall_laws.proofs.StillLaws.{stuck_taken}
-use Rattle.stall_laws.proofs.TurnLaws.{HaveAnswers, Stands, asks_so, begun_stands, ended, happened, told}
+use Rattle.stall_laws.proofs.TurnLaws.{AreTakenOn, Stands, asks_so, begun_stands, ended, happened, told}
 
 -- ---- the boot
 
-kernel_begins : (Wanted : Request → Bool) (c : Description) (serves : List Path) (kernel : ℕ) (state : KernelState) → IsKernel c kernel serves state → KernelSo Wanted NoHand idle kernel state
-kernel_begins Wanted c [] kernel state e = subst (KernelSo Wanted NoHand idle kernel) (sym e) tt
-kernel_begins Wanted c (path ∷ paths) kernel (kernels.Server made) e = record { such = boot_keeps c kernel made e; kept = tt }
-kernel_begins Wanted c (path ∷ paths) kernel (kernels.Client made) e = absurd e
+kernel_begins : (wants : Wants) (c : Description) (serves : List Path) (kernel : ℕ) (state : KernelState) → IsKernel c kernel serves state → KernelSo wants NoHand idle kernel state
+kernel_begins wants c [] kernel state e = subst (KernelSo wants NoHand idle kernel) (sym e) (record { such = client_begins c kernel; kept = tt })
+kernel_begins wants c (path ∷ paths) kernel (kernels.Server made) e = record { such = boot_keeps c kernel made e; kept = tt }
+kernel_begins wants c (path ∷ paths) kernel (kernels.Client made) e = absurd e
 
 as_many : (c : Description) (lines : List KernelLine) (states : List KernelState) (kernel : ℕ) → AreKernels c kernel lines states → length states ≡ length lines
 as_many c [] [] kernel e = refl
@@ -60,58 +65,75 @@ as_many c (line ∷ lines) [] kernel e = absurd e
 
 -- ---- each change
 
-module _ {L : Type 0} (faults asked : L → ℕ → ℕ → ℕ) (Wanted : Request → Bool) (c : Description) (begun : L) (answers : (old : At L) → Reached faults asked c begun old → HaveAnswers Wanted old.wire.machine old.state) where
-  stands_last : Lasts faults asked c begun (λ (at : At L). Stands Wanted c at.wire.machine at.state)
+module _ {L : Type 0} (faults asked : L → ℕ → ℕ → ℕ) (wants : Wants) (c : Description) (begun : L) (takes : (old : At L) → Reached faults asked c begun old → AreTakenOn wants old.wire.machine old.state) where
+  stands_last : Lasts faults asked c begun (λ (at : At L). Stands wants c at.wire.machine at.state)
   stands_last = record {
-    begins = λ first b. subst (λ (machine : Machine). Stands Wanted c machine first.state) (sym b.idles)
-        (record { ordered = omega arith; calls = tt; kernels = booted (KernelSo Wanted NoHand idle) c (kernel_begins Wanted c) c.kernels first.state.kernels 1 b.boots.kernels_are; many = as_many c c.kernels first.state.kernels 1 b.boots.kernels_are });
-    chose = λ kernel choice old now reached goes h. told Wanted c Nobody NoHand now.wire.machine goes.changes.turn now.state (ap (λ (s : State). s.kernels) goes.changes.stands)
-        (happened Wanted c faults asked kernel goes.low choice old.wire now.wire (begun_turn old.state) goes.changes.turn (answers old reached) goes.changes.happens (told Wanted c Nobody NoHand old.wire.machine old.state (begun_turn old.state) refl h));
-    began = λ kernel old now reached goes h. subst (Stands Wanted c now.wire.machine) (sym goes.changes.begun)
-        (begun_stands Wanted c (job_at c kernel old.state) now.wire.machine kernel old.state (subst (λ (wire : Wired L). Stands Wanted c wire.machine old.state) (sym goes.changes.same_wire) h));
-    took = λ kernel b old now reached goes h. told Wanted c Nobody NoHand now.wire.machine goes.changes.turn now.state (ap (λ (s : State). s.kernels) goes.changes.stands)
-        (ended Wanted c faults asked kernel goes.low goes.changes.ends.what b old.wire now.wire (begun_turn old.state) goes.changes.turn goes.changes.ends.ends (told Wanted c Nobody NoHand old.wire.machine old.state (begun_turn old.state) refl h));
+    begins = λ first b. subst (λ (machine : Machine). Stands wants c machine first.state) (sym b.idles)
+        (record { ordered = omega arith; calls = tt; kernels = booted (KernelSo wants NoHand idle) c (kernel_begins wants c) c.kernels first.state.kernels 1 b.boots.kernels_are; many = as_many c c.kernels first.state.kernels 1 b.boots.kernels_are });
+    chose = λ kernel choice old now reached goes h. told wants c Nobody NoHand now.wire.machine goes.changes.turn now.state (ap (λ (s : State). s.kernels) goes.changes.stands)
+        (happened wants c faults asked kernel goes.low choice old.wire now.wire (begun_turn old.state) goes.changes.turn (takes old reached) goes.changes.happens (told wants c Nobody NoHand old.wire.machine old.state (begun_turn old.state) refl h));
+    began = λ kernel old now reached goes h. subst (Stands wants c now.wire.machine) (sym goes.changes.begun)
+        (begun_stands wants c (job_at c kernel old.state) now.wire.machine kernel old.state (subst (λ (wire : Wired L). Stands wants c wire.machine old.state) (sym goes.changes.same_wire) h));
+    took = λ kernel b old now reached goes h. told wants c Nobody NoHand now.wire.machine goes.changes.turn now.state (ap (λ (s : State). s.kernels) goes.changes.stands)
+        (ended wants c faults asked kernel goes.low goes.changes.ends.what b old.wire now.wire (begun_turn old.state) goes.changes.turn goes.changes.ends.ends (told wants c Nobody NoHand old.wire.machine old.state (begun_turn old.state) refl h));
     lost = λ kernel b old now reached goes h.
-        ended Wanted c faults asked kernel goes.low goes.changes.ends.what b old.wire now.wire (begun_turn old.state) now.state goes.changes.ends.ends (told Wanted c Nobody NoHand old.wire.machine old.state (begun_turn old.state) refl h);
+        ended wants c faults asked kernel goes.low goes.changes.ends.what b old.wire now.wire (begun_turn old.state) now.state goes.changes.ends.ends (told wants c Nobody NoHand old.wire.machine old.state (begun_turn old.state) refl h);
   }
 
-  all_stand : (now : At L) → Reached faults asked c begun now → Stands Wanted c now.wire.machine now.state
-  all_stand now reached = lasts_on faults asked c begun (λ (at : At L). Stands Wanted c at.wire.machine at.state) now stands_last reached
+  pub all_stand : (now : At L) → Reached faults asked c begun now → Stands wants c now.wire.machine now.state
+  all_stand now reached = lasts_on faults asked c begun (λ (at : At L). Stands wants c at.wire.machine at.state) now stands_last reached
 
-  -- what a server has is kept there
-  kept_call : (now : At L) (tx : TxNo) (call : Call) (server : Server) (body : Request) → Reached faults asked c begun now → HasCall now tx call server body → Wanted body ≡ true → IsKept server (asked_of call body)
-  kept_call now tx call server body reached has wanted =
-      let there : ServerSo Wanted NoHand now.wire.machine call.owner server = one_at (KernelSo Wanted NoHand now.wire.machine) call.owner (kernels.Server server) now.state.kernels has.numbered (all_stand now reached).kernels has.there in
-      let kept : CallKept Wanted NoHand call.owner server call = found_sound (CallKept Wanted NoHand call.owner server) (is_call tx) call now.wire.machine.unfinished has.unfinished there.kept in
-      by (kept body refl (holds_is (part_of call.owner call.receivers) has.taken) has.asks wanted)
+  -- what a kernel has is kept there
+  pub kept_call : (now : At L) (tx : TxNo) (call : Call) (state : KernelState) (body : Request) → Reached faults asked c begun now → call_of now.wire.machine tx ≡ Some call → 1 ≤ call.owner → part_of call.owner call.receivers ≡ Some Holding
+      → kernel_at call.owner now.state ≡ Some state → asked_request call.body ≡ Some body → is_wanted wants state body ≡ true → KeepsIt state (asked_of call body)
+  kept_call now tx call state body reached unfinished low taken there asks wanted =
+      let so : KernelSo wants NoHand now.wire.machine call.owner state = one_at (KernelSo wants NoHand now.wire.machine) call.owner state now.state.kernels low (all_stand now reached).kernels there in
+      let kept : CallKept wants NoHand call.owner state call = found_sound (CallKept wants NoHand call.owner state) (is_call tx) call now.wire.machine.unfinished unfinished so.kept in
+      by (kept body refl (holds_is (part_of call.owner call.receivers) taken) asks wanted)
     where
-      by : StandsIn (asked_of call body) (server.asking ++ server.waiting) ⊎ NoHand call.owner server (asked_of call body) → IsKept server (asked_of call body)
-      by (inl stands) = kept_there server (asked_of call body) stands
+      by : KeepsIt state (asked_of call body) ⊎ ⊥ → KeepsIt state (asked_of call body)
+      by (inl keeps) = keeps
       by (inr none) = absurd none
 
--- where nothing is wanted
-none_answers : (machine : Machine) (s : State) → HaveAnswers (λ body. false) machine s
-none_answers machine s tx call server body found low waits there asks wanted = absurd (cc)
+-- ---- what is wanted
+
+-- nothing, what kernels take on whatever they have, all at servers, all at clients
+abbrev pub nothing : Wants
+nothing = record { at_servers = λ body. false; at_clients = λ body. false }
+
+abbrev pub whatever : Wants
+whatever = record { at_servers = is_always_answered; at_clients = is_always_taken }
+
+abbrev pub all_at_servers : Wants
+all_at_servers = record { at_servers = λ body. true; at_clients = λ body. false }
+
+abbrev pub all_at_clients : Wants
+all_at_clients = record { at_servers = λ body. false; at_clients = λ body. true }
 
 always_answers : (body : Request) (server : Server) → is_always_answered body ≡ true → has_answer server body ≡ true
-always_answers requests.Echo server e = refl
-always_answers (requests.Opening r) server e = refl
-always_answers (requests.Name r) server e = e
-always_answers (requests.Make r) server e = refl
-always_answers (requests.Close r) server e = refl
-always_answers (requests.Op r) server e = refl
-always_answers (requests.Fetch r) server e = refl
-always_answers (requests.WriteBack r) server e = refl
-always_answers (requests.Move r) server e = refl
-always_answers (requests.PageOut r) server e = refl
-always_answers body server e = absurd (cc)
+always_answers (requests.Prefix path) server e = absurd (cc)
+always_answers (requests.PageIn pid page) server e = absurd (cc)
+always_answers body server e = e
+
+always_takes : (body : Request) (client : ClientProcs) → is_always_taken body ≡ true → is_left body client ≡ false
+always_takes (requests.Transfer request) client e = absurd (cc)
+always_takes (requests.Launch request) client e = absurd (cc)
+always_takes body client e = ap not e
+
+pub nothing_wanted : (machine : Machine) (s : State) → AreTakenOn nothing machine s
+nothing_wanted machine s tx call (kernels.Server server) body found low waits there asks wanted = absurd (cc)
+nothing_wanted machine s tx call (kernels.Client client) body found low waits there asks wanted = absurd (cc)
+
+pub whatever_is : (machine : Machine) (s : State) → AreTakenOn whatever machine s
+whatever_is machine s tx call (kernels.Server server) body found low waits there asks wanted = always_answers body server wanted
+whatever_is machine s tx call (kernels.Client client) body found low waits there asks wanted = always_takes body client wanted
 
 -- ---- the laws
 
 -- each unfinished call
-call_so : {L : Type 0} (faults asked : L → ℕ → ℕ → ℕ) (c : Description) (begun : L) (now : At L) (tx : TxNo) (call : Call) → Reached faults asked c begun now → call_of now.wire.machine tx ≡ Some call → CallSo c Nobody call
+pub call_so : {L : Type 0} (faults asked : L → ℕ → ℕ → ℕ) (c : Description) (begun : L) (now : At L) (tx : TxNo) (call : Call) → Reached faults asked c begun now → call_of now.wire.machine tx ≡ Some call → CallSo c Nobody call
 call_so {L} faults asked c begun now tx call reached e =
-    let h : Stands (λ body. false) c now.wire.machine now.state = all_stand faults asked (λ body. false) c begun (λ old past. none_answers old.wire.machine old.state) now reached in
+    let h : Stands nothing c now.wire.machine now.state = all_stand faults asked nothing c begun (λ old past. nothing_wanted old.wire.machine old.state) now reached in
     found_sound (CallSo c Nobody) (is_call tx) call now.wire.machine.unfinished e h.calls
 
 pub owners_hold : {L : Type 0} (faults asked : L → ℕ → ℕ → ℕ) → OwnersAloneHold faults asked
@@ -128,11 +150,17 @@ keep_such faults asked = servers_have faults asked KeepsSuch step_keeps boot_kee
 
 pub taken_kept : {L : Type 0} (faults asked : L → ℕ → ℕ → ℕ) → TakenAreKept faults asked
 taken_kept faults asked c begun now tx call server body reached has always =
-    kept_call faults asked is_always_answered c begun (λ old past number one at request found low waits there asks wanted. always_answers request at wanted) now tx call server body reached has always
+    kept_there server (asked_of call body)
+    (kept_call faults asked whatever c begun (λ old past. whatever_is old.wire.machine old.state) now tx call (kernels.Server server) body reached has.unfinished has.numbered has.taken has.there has.asks always)
 
 pub all_kept : {L : Type 0} (faults asked : L → ℕ → ℕ → ℕ) → AllTakenAreKept faults asked
-all_kept faults asked c begun now tx call server body reached answers has =
-    kept_call faults asked (λ request. true) c begun (λ old past number one at request found low waits there asks wanted. answers old number one at request past found low waits there asks) now tx call server body reached has refl
+all_kept {L} faults asked c begun now tx call server body reached answers has =
+    kept_there server (asked_of call body)
+    (kept_call faults asked all_at_servers c begun answered now tx call (kernels.Server server) body reached has.unfinished has.numbered has.taken has.there has.asks refl)
+  where
+    answered : (old : At L) → Reached faults asked c begun old → AreTakenOn all_at_servers old.wire.machine old.state
+    answered old past number one (kernels.Server at) request found low waits there asks wanted = answers old number one at request past found low waits there asks
+    answered old past number one (kernels.Client at) request found low waits there asks wanted = absurd (cc)
 
 pub all_taken : {L : Type 0} (faults asked : L → ℕ → ℕ → ℕ) → AllCallsAreTaken faults asked
 all_taken faults asked c begun now tx call reached stuck e = stuck_taken c now.wire.machine now.state tx call stuck (call_so faults asked c begun now tx call reached e) e
@@ -171,7 +199,7 @@ pub none_kept : {L : Type 0} (faults asked : L → ℕ → ℕ → ℕ) → NoCa
 none_kept faults asked c begun now kernel server reached e none = quiet_keeps_nothing server (files_busy faults asked c begun now kernel server reached e) none
 
 -- nothing is kept there
-not_kept : (server : Server) (request : Asked) → KeepsNothing server → IsKept server request → ⊥
+pub not_kept : (server : Server) (request : Asked) → KeepsNothing server → IsKept server request → ⊥
 not_kept server request none kept =
     let empty : server.asking ++ server.waiting ≡ [] = ap (λ (rows : Rows). rows ++ server.waiting) none.asking ∙ none.waiting in
     nothing kept.at (kept.file, request) (sym (ap (λ (rows : Rows). slice_get rows kept.at) empty) ∙ kept.there)

@@ -1,1 +1,3 @@
 pub mod Stalls
+pub mod Clients
+pub mod Inside

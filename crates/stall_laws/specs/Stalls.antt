@@ -1,11 +1,10 @@
 -- What a cluster waits for that can't go on: which remote calls are unfinished then, and where they are kept.
-use Rattle.std.specs.Prelude.{◌≡◌, ◌≤◌, ℕ, Bool, true, false, List, [], length, None, Some}
+use Rattle.std.specs.Prelude.{◌≡◌, ◌≤◌, ℕ, true, false, List, [], length, None, Some}
 use Rattle.std.specs.List.{AllByRecursion}
 use Rattle.sprite_ids.specs.declared.FileId.{FileId}
 use Rattle.sprite_ids.specs.declared.Finish.TheVariants as finish
 use Rattle.sprite_ids.specs.declared.TxNo.{TxNo}
 use Rattle.packet_bodies.specs.declared.Request.{Request}
-use Rattle.packet_bodies.specs.declared.Request.TheVariants as requests
 use Rattle.kernel_rpc.specs.declared.call.Call.{Call}
 use Rattle.kernel_rpc.specs.declared.call.PacketCopy.{PacketCopy}
 use Rattle.kernel_rpc.specs.declared.call.Part.TheVariants.{Holding, Waiting}
@@ -16,7 +15,7 @@ use Rattle.server_kernel.specs.declared.Asked.{Asked}
 use Rattle.server_kernel.specs.declared.Server.{Server}
 use Rattle.server_kernel.specs.Files.{is_busy}
 use Rattle.server_answers.specs.Servers.{IsKept}
-use Rattle.kept_requests.specs.Kept.{KeepsSuch, has_answer, is_done}
+use Rattle.kept_requests.specs.Kept.{KeepsSuch, has_answer, is_always_answered}
 use Rattle.cluster_kernels.specs.declared.KernelState.TheVariants as kernels
 use Rattle.cluster_kernels.specs.declared.State.{State}
 use Rattle.cluster_kernels.specs.States.{kernel_at}
@@ -69,21 +68,6 @@ AllCallsAreTaken {L} faults asked =
 -- the request of a call, as its owner takes it
 abbrev pub asked_of : Call → Request → Asked
 asked_of call body = record { tx = call.tx; from = call.from; body = body }
-
--- whether each server has an answer to a request, whatever it has: it doesn't ask for the server of a prefix, nor for a page, and goes to
--- servers
-abbrev pub is_always_answered : Request → Bool
-is_always_answered requests.Echo = true
-is_always_answered (requests.Opening r) = true
-is_always_answered (requests.Name r) = is_done r.op r.second
-is_always_answered (requests.Make r) = true
-is_always_answered (requests.Close r) = true
-is_always_answered (requests.Op r) = true
-is_always_answered (requests.Fetch r) = true
-is_always_answered (requests.WriteBack r) = true
-is_always_answered (requests.Move r) = true
-is_always_answered (requests.PageOut r) = true
-is_always_answered body = false
 
 -- the server of that number has the call: it is the owner, and took its request
 pub record HasCall {L : Type 0} (now : At L) (tx : TxNo) (call : Call) (server : Server) (body : Request) : Type 0 where
