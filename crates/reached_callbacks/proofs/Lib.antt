@@ -1,0 +1,12 @@
+pub mod AnswerLaws
+pub mod TurnWalk
+pub mod MachineLaws
+pub mod KindLaws
+pub mod BackLaws
+pub mod SettledLaws
+pub mod FlushedLaws
+pub mod RowLaws
+pub mod OutLaws
+pub mod CallbackLaws
+pub mod StallLaws
+pub mod WaitLaws

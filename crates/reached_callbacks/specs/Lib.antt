@@ -1,0 +1,4 @@
+pub mod Clients
+pub mod Callbacks
+pub mod Stalls
+pub mod Waits

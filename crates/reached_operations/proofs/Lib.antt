@@ -1,0 +1,7 @@
+pub mod WireLaws
+pub mod CallLaws
+pub mod TurnLaws
+pub mod OwnLaws
+pub mod FitLaws
+pub mod KeepLaws
+pub mod UnfinishedLaws

@@ -1,0 +1,5 @@
+pub mod WireWalk
+pub mod KindLaws
+pub mod CallLaws
+pub mod RootLaws
+pub mod ReceiverLaws
