@@ -1,5 +1,5 @@
 -- Grants and callbacks.
-use Rattle.std.specs.Prelude.{ℕ, Bool, if◌then◌else◌, List, [], ◌∷◌}
+use Rattle.std.specs.Prelude.{ℕ, ◌==◌, Bool, false, if◌then◌else◌, List, [], ◌∷◌}
 use Rattle.sprite_ids.specs.declared.TxNo.{TxNo}
 use Rattle.sprite_ids.specs.declared.FileId.{FileId}
 use Rattle.sprite_ids.specs.declared.BlockNo.{BlockNo}
@@ -17,7 +17,7 @@ use Rattle.unix_calls.specs.declared.Event.TheVariants.{Mode, Dropped}
 use Rattle.block_cache.specs.Ranges.{file_blocks}
 use Rattle.block_cache.specs.Files.{keeps}
 use Rattle.block_cache.specs.Blocks.{held_under, dirty_under}
-use Rattle.block_cache.specs.Held.{is_newer, after_grant, after_callback, flushed_of}
+use Rattle.block_cache.specs.Held.{Held, is_newer, after_grant, after_callback, flushed_of}
 use Rattle.write_delay.specs.Delays.{is_of}
 use Rattle.client_file_tables.specs.declared.ClientFiles.{ClientFiles}
 use Rattle.client_file_tables.specs.Says.{notes, answers}
@@ -63,12 +63,20 @@ abbrev pub grants_newer : Grant → Bool → List BlockNo → ClientFiles → Cl
 grants_newer grant stay blocks s =
     drops_unless stay grant.file blocks (cause_of_grant grant.on) (notes (Mode grant.file grant.stamp (mode_of_grant grant.on)) s)
 
--- a grant is taken, where it is newer: part of the Delivering of what brings it
-abbrev pub takes_grant : Grant → ClientFiles → ClientFiles
-takes_grant grant s =
+-- what a kernel may use of a grant: one without a cache never caches a file, whatever it is granted
+unfoldable pub usable : Held → Grant → Grant
+usable cache grant = if cache.size == 0 then record grant { on = false } else grant
+
+-- that is taken, where it is newer
+abbrev pub takes_usable : Grant → ClientFiles → ClientFiles
+takes_usable grant s =
     if is_newer s.cache grant
     then grants_newer grant (keeps (state_in grant.file s) grant) (held_in grant.file s) (with_cache (after_grant s.cache grant) s)
     else s
+
+-- a grant is taken: part of the Delivering of what brings it
+abbrev pub takes_grant : Grant → ClientFiles → ClientFiles
+takes_grant grant s = takes_usable (usable s.cache grant) s
 
 -- the blocks after a callback: after a recall they are clean, after a stop they go
 abbrev pub settles_called : CallKind → FileId → List BlockNo → List BlockNo → ClientFiles → ClientFiles

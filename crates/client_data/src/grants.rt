@@ -1,6 +1,6 @@
 ghost use Rattle.std.specs.Prelude.{◌≡◌, OnOk};
 ghost use Rattle.block_cache.specs.Files.{keeps};
-ghost use Rattle.client_data.specs.Grants.{takes_grant, drops_one, drops_all, cleans_one, cleans_all, mode_of_grant, cause_of_grant, settles_called, called_back};
+ghost use Rattle.client_data.specs.Grants.{takes_grant, takes_usable, usable, drops_one, drops_all, cleans_one, cleans_all, mode_of_grant, cause_of_grant, settles_called, called_back};
 
 use block_cache::FileState;
 use client_file_tables::ClientFiles;
@@ -10,9 +10,33 @@ use unix_calls::{DropCause, Event};
 
 /// Takes a grant of a file's server, where it is newer than what is known of the file: the file has its mode, and the blocks
 /// that aren't of its version, or all where the file isn't cached any more, are dropped and wait no more to be written back
-/// (Nelson, Welch and Ousterhout 1988). The one error is want of memory.
+/// (Nelson, Welch and Ousterhout 1988). A kernel whose cache has room for no block caches no file, whatever it is granted (this
+/// project). The one error is want of memory.
 pub fn take_grant(files: &mut ClientFiles, grant: &Grant) -> Result<(), NoMemory>
     ensures { OnOk result (files.new ≡ takes_grant grant.now files.old) }
+{
+    let taken = usable(files, grant);
+    take_usable(files, &taken)
+}
+
+// What the kernel may use of a grant.
+#[tactic(auto, unfolding(crate::specs::Grants::usable))]
+fn usable(files: &ClientFiles, grant: &Grant) -> Grant
+    ensures { result ≡ usable files.now.cache grant.now }
+{
+    if files.cache.size() == 0 {
+        Grant {
+            on: false,
+            ..*grant
+        }
+    } else {
+        *grant
+    }
+}
+
+// Takes what it may use.
+fn take_usable(files: &mut ClientFiles, grant: &Grant) -> Result<(), NoMemory>
+    ensures { OnOk result (files.new ≡ takes_usable grant.now files.old) }
 {
     let held = files.cache.held(grant.file)?;
     let keeps = keeps_blocks(&files.known(&grant.file), grant);

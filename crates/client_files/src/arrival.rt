@@ -2,21 +2,21 @@ ghost use Rattle.std.specs.Prelude.{◌≡◌, OnOk};
 ghost use Rattle.std.specs.List.{list_all, list_any};
 ghost use Rattle.stream_table.specs.Entries.{is_placed, is_start};
 ghost use Rattle.stream_table.specs.Streams.{same_fd};
-ghost use Rattle.client_files.specs.Arrivals.{arrives, takes_carried, puts_streams, can_arrive, is_fit, are_apart, is_repeated};
+ghost use Rattle.client_files.specs.Arrivals.{arrives, takes_carried, puts_streams, can_arrive, is_fit, is_known_so, leads_there, same_object, same_file, same_device, are_apart, is_repeated};
 
 use crate::asked::take_some;
 use client_file_tables::ClientFiles;
 use packet_bodies::CarriedStream;
-use sprite_ids::{NoMemory, Object, Pid};
+use sprite_ids::{DeviceId, FileId, NoMemory, Object, Pid};
 use sprite_paths::Path;
-use stream_table::{Carried, Place, Stream};
+use stream_table::{Carried, Place, Stream, Streams};
 
 /// A process arrives with its streams (Douglis and Ousterhout 1991): the grants that came with them are taken, in their order,
 /// and then it has its working directory, and each stream at its descriptor. To a stream that is here already its grants are
 /// added once, and its offset is kept where that of the arriving one is.
 ///
-/// The streams are put in only where the process has no descriptor here, and the descriptors are of 0 to 15 and all different.
-/// The one error is want of memory, which is also the answer where a stream here has over 2,000,000,000 grants.
+/// The streams are put in only where the process has no descriptor here, the descriptors are of 0 to 15 and all different, and a stream
+/// that is here already leads where the arriving one does. The one error is want of memory, which is also the answer where a stream here has over 2,000,000,000 grants.
 pub fn install(
     files: &mut ClientFiles,
     pid: Pid,
@@ -61,7 +61,7 @@ fn can_arrive(files: &ClientFiles, pid: Pid, carried: &[Carried]) -> bool
     if files.streams.has_descriptors(pid) || !are_apart(carried) {
         return false;
     }
-    are_fit(carried)
+    are_fit(carried) && are_known_so(&files.streams, carried)
 }
 
 // Whether each item may be put in.
@@ -76,6 +76,56 @@ fn is_fit(item: &Carried) -> bool
     ensures { result ≡ is_fit item.now }
 {
     item.fd < 16 && item.stream.grants <= 2_000_000_000 && is_placed(&item.stream)
+}
+
+// Whether each item leads where its stream does, where that is open here.
+fn are_known_so(streams: &Streams, carried: &[Carried]) -> bool
+    ensures { result ≡ list_all (is_known_so streams.now.entries) carried.now }
+{
+    carried.iter().all(|item| is_known_so(streams, item))
+}
+
+// Whether one does.
+fn is_known_so(streams: &Streams, item: &Carried) -> bool
+    ensures { result ≡ is_known_so streams.now.entries item.now }
+{
+    leads_there(item.stream.object, &streams.stream(item.number))
+}
+
+// Whether an object is that of a looked-up open stream, where there is one.
+fn leads_there(object: Object, known: &Option<Stream>) -> bool
+    ensures { result ≡ leads_there object known.now }
+{
+    match known {
+        Some(stream) => same_object(object, stream.object),
+        None => true,
+    }
+}
+
+// Whether both are one file, or the same end of one pseudo-device.
+fn same_object(object: Object, other: Object) -> bool
+    ensures { result ≡ same_object object other }
+{
+    match (object, other) {
+        (Object::File(file), Object::File(other)) => same_file(file, other),
+        (Object::Device(device), Object::Device(other)) => same_device(device, other),
+        (Object::Master(device), Object::Master(other)) => same_device(device, other),
+        _ => false,
+    }
+}
+
+// Whether both are one file.
+fn same_file(file: FileId, other: FileId) -> bool
+    ensures { result ≡ same_file file other }
+{
+    file.server == other.server && file.number == other.number
+}
+
+// Whether both are one pseudo-device.
+fn same_device(device: DeviceId, other: DeviceId) -> bool
+    ensures { result ≡ same_device device other }
+{
+    device.kernel == other.kernel && device.number == other.number
 }
 
 // Whether the stream's offset is where it may be.

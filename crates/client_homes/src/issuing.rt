@@ -29,8 +29,9 @@ impl ClientProcs {
         }
     }
 
-    // The call that the process is in, as a home is asked for it.
-    fn own_request(&self, alloc: Global, pid: Pid) -> Result<Option<HomeRequest>, NoMemory>
+    /// The call that the process is in, as a home is asked for it; None exactly where the process isn't here, or is in no call that a home
+    /// does. The one error is want of memory.
+    pub fn own_request(&self, alloc: Global, pid: Pid) -> Result<Option<HomeRequest>, NoMemory>
         ensures { IfOk result (λ request. request ≡ own_request pid self.now) }
     {
         match self.procs.get(&pid) {
@@ -278,8 +279,8 @@ fn is_death(call: &HomeCall) -> bool
     }
 }
 
-// The child that a `fork` of that reply made.
-fn child_in(reply: &Reply) -> Option<Pid>
+/// The child that a `fork` of that reply made; None exactly where it made none.
+pub fn child_in(reply: &Reply) -> Option<Pid>
     ensures { result ≡ child_in reply.now }
 {
     match reply {

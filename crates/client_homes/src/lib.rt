@@ -20,5 +20,6 @@ mod words;
 
 pub use client::{ClientProcs, KillState, Leaving, Parked, Unfinished};
 pub use cluster::{give_in, is_client};
+pub use issuing::child_in;
 pub use process::{Proc, ProcState};
 pub use words::{packet_of, pid_of, reply_of};

@@ -8,3 +8,4 @@ pub mod Turning
 pub mod Steps
 pub mod Readers
 pub mod Boot
+pub mod CanTake

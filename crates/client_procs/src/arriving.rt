@@ -39,7 +39,7 @@ pub(crate) fn arrive(
 }
 
 // The process that the request brings.
-fn brought(body: &Request) -> Option<Pid>
+pub(crate) fn brought(body: &Request) -> Option<Pid>
     ensures { result ≡ brought body.now }
 {
     match body {
@@ -50,7 +50,7 @@ fn brought(body: &Request) -> Option<Pid>
 }
 
 // Whether the process is neither here nor on its way from here.
-fn is_new(client: &ClientProcs, pid: Pid) -> bool
+pub(crate) fn is_new(client: &ClientProcs, pid: Pid) -> bool
     ensures { result ≡ is_new pid client.now }
 {
     !client.procs.has(&pid) && !client.leaving.has(&pid)

@@ -6,6 +6,7 @@
 mod answers;
 mod arriving;
 mod booting;
+mod fitting;
 mod issuing;
 mod launching;
 mod moving;
@@ -16,5 +17,6 @@ mod turns;
 
 pub use booting::boot;
 pub use client_homes::ClientProcs;
+pub use fitting::can_take;
 pub use readers::{all_ended, due, image, number, ready, set_image};
 pub use step::take;

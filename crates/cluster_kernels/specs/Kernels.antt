@@ -1,10 +1,15 @@
 -- One kernel of the cluster.
-use Rattle.std.specs.Prelude.{ℕ, Bool, true}
+use Rattle.std.specs.Prelude.{ℕ, Bool, true, is_some}
 use Rattle.sprite_ids.specs.declared.TxNo.{TxNo}
 use Rattle.process_machine.specs.Machine.{Machine}
+use Rattle.packet_bodies.specs.declared.Request.{Request}
+use Rattle.packet_bodies.specs.declared.Request.TheVariants as requests
+use Rattle.swap_pages.specs.Swap.{bytes_of}
 use Rattle.kernel_steps.specs.declared.Input.{Input}
+use Rattle.kernel_steps.specs.declared.Input.TheVariants as inputs
 use Rattle.kernel_steps.specs.declared.Out.{Out}
 use Rattle.client_homes.specs.declared.ClientProcs.{ClientProcs}
+use Rattle.client_procs.specs.CanTake as clients
 use Rattle.client_procs.specs.Steps.{client_step}
 use Rattle.client_procs.specs.Readers.{all_ended, with_image}
 use Rattle.server_kernel.specs.declared.Server.{Server}
@@ -23,6 +28,20 @@ as_server made = (kernels.Server made.0, made.1)
 abbrev pub kernel_step : KernelState → Input → TxNo → ℕ → KernelState × Out
 kernel_step (kernels.Client client) input next step = as_client (client_step client input next step)
 kernel_step (kernels.Server server) input next step = as_server (server_step server input next)
+
+-- whether a server keeps the page for which it is asked, where it is asked for one
+abbrev pub has_page_of : Request → Server → Bool
+has_page_of (requests.PageIn pid page) server = is_some (bytes_of server.swap pid page)
+has_page_of _ server = true
+
+abbrev pub has_wanted_page : Input → Server → Bool
+has_wanted_page (inputs.Request tx source body) server = has_page_of body server
+has_wanted_page _ server = true
+
+-- whether a kernel can take what comes
+abbrev pub can_take : Input → KernelState → Bool
+can_take input (kernels.Client client) = clients.can_take input client
+can_take input (kernels.Server server) = has_wanted_page input server
 
 -- a process has that image
 abbrev pub image_put : ℕ → Machine → KernelState → KernelState

@@ -1,5 +1,5 @@
 -- The kernels of a cluster, and what each of them does.
-use Rattle.std.specs.Prelude.{ℕ, ◌+◌, ◌-◌, Bool, false, List, [], ◌∷◌, ◌++◌, Option, Some, None, slice_get, slice_index, slice_set}
+use Rattle.std.specs.Prelude.{ℕ, ◌+◌, ◌-◌, Bool, true, false, List, [], ◌∷◌, ◌++◌, Option, Some, None, slice_get, slice_index, slice_set}
 use Rattle.std.specs.Map.{keys_of}
 use Rattle.sprite_ids.specs.declared.BlockNo.{BlockNo}
 use Rattle.sprite_ids.specs.declared.FileId.{FileId}
@@ -16,7 +16,7 @@ use Rattle.client_procs.specs.Readers.{image_in, number_in}
 use Rattle.cluster_kernels.specs.declared.kernel_state.KernelState.{KernelState}
 use Rattle.cluster_kernels.specs.declared.kernel_state.KernelState.TheVariants as kernels
 use Rattle.cluster_kernels.specs.declared.state.State.{State}
-use Rattle.cluster_kernels.specs.Kernels.{image_put, kernel_step}
+use Rattle.cluster_kernels.specs.Kernels.{can_take, image_put, kernel_step}
 
 -- the kernel of that number
 abbrev pub kernel_at : ℕ → State → Option KernelState
@@ -64,6 +64,15 @@ stepped_by kernel (Some found) input next s = put_step kernel s (kernel_step fou
 -- the kernels after one step of one of them, which sees no other kernel, and what it said
 abbrev pub stepped : ℕ → Input → TxNo → State → State × Out
 stepped kernel input next s = stepped_by kernel (kernel_at kernel s) input next s
+
+-- whether a looked-up kernel can take what comes
+abbrev pub can_take_by : Input → Option KernelState → Bool
+can_take_by input None = true
+can_take_by input (Some found) = can_take input found
+
+-- and the kernel of that number
+abbrev pub can_take_at : ℕ → Input → State → Bool
+can_take_at kernel input s = can_take_by input (kernel_at kernel s)
 
 -- a process of a looked-up kernel has that image
 abbrev pub image_put_at : ℕ → ℕ → Machine → Option KernelState → State → State

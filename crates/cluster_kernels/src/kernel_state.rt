@@ -1,8 +1,9 @@
 ghost use Rattle.std.specs.Prelude.{◌≡◌, IfOk};
-ghost use Rattle.cluster_kernels.specs.Kernels.{kernel_step, has_ended, image_put};
+ghost use Rattle.cluster_kernels.specs.Kernels.{can_take, has_ended, has_wanted_page, image_put, kernel_step};
 
 use client_procs::ClientProcs;
 use kernel_steps::{Input, Out};
+use packet_bodies::Request;
 use process_machine::Image;
 use server_kernel::Server;
 use sprite_ids::{NoMemory, Pid, TxNo};
@@ -30,6 +31,29 @@ pub(crate) fn step_kernel(
     match kernel {
         KernelState::Client(client) => client_procs::take(client, alloc, input, next, step),
         KernelState::Server(server) => server.take(alloc, input, next),
+    }
+}
+
+/// Whether the kernel can take what comes. The one error is want of memory.
+pub(crate) fn can_take(alloc: Global, kernel: &KernelState, input: &Input) -> Result<bool, NoMemory>
+    ensures { IfOk result (λ can. can ≡ can_take input.now kernel.now) }
+{
+    match kernel {
+        KernelState::Client(client) => client_procs::can_take(client, alloc, input),
+        KernelState::Server(server) => Ok(has_wanted_page(server, input)),
+    }
+}
+
+// Whether the server keeps the page for which it is asked, where it is asked for one.
+fn has_wanted_page(server: &Server, input: &Input) -> bool
+    ensures { result ≡ has_wanted_page input.now server.now }
+{
+    match input {
+        Input::Request { body, .. } => match body {
+            Request::PageIn { pid, page } => server.swap.has(*pid, *page),
+            _ => true,
+        },
+        _ => true,
     }
 }
 

@@ -1,5 +1,5 @@
 ghost use Rattle.std.specs.Prelude.{◌≡◌, ◌<◌, ◌-◌, [], IfOk, OnOk, option_map};
-ghost use Rattle.cluster_kernels.specs.States.{as_client, client_at, count_at, counted, due_at, image_at, is_ready_at, kernel_at, noted_step, numbered_at, put_image, put_out, stepped, with_last};
+ghost use Rattle.cluster_kernels.specs.States.{as_client, can_take_at, client_at, count_at, counted, due_at, image_at, is_ready_at, kernel_at, noted_step, numbered_at, put_image, put_out, stepped, with_last};
 
 use crate::kernel_state;
 use crate::kernel_state::{KernelState, step_kernel};
@@ -118,6 +118,18 @@ impl State {
             return step_kernel(alloc, self.kernels.at_mut(place), input, next, step);
         }
         Ok(Out::new(alloc, next))
+    }
+
+    /// Whether the kernel can take what comes: a process that it brings to a client is neither there nor on its way from there, and was
+    /// born, where that is its home; the stream that a name call makes, which it answers, isn't open; and a server that is asked for a
+    /// page keeps it (Douglis and Ousterhout 1991; this project). The one error is want of memory.
+    pub fn can_take(&self, alloc: Global, kernel: Kernel, input: &Input) -> Result<bool, NoMemory>
+        ensures { IfOk result (λ can. can ≡ can_take_at kernel input.now self.now) }
+    {
+        match self.kernel(kernel) {
+            Some(found) => kernel_state::can_take(alloc, found, input),
+            None => Ok(true),
+        }
     }
 
     /// The process has that image from now on, where it is kept at the kernel.

@@ -7,7 +7,7 @@ use Rattle.cluster_kernels.specs.declared.KernelState.{KernelState}
 use Rattle.cluster_wire.specs.declared.Said.{Said}
 use Rattle.cluster_kernels.specs.declared.State.{State}
 use Rattle.unix_calls.specs.declared.Event.{Event}
-use Rattle.cluster_kernels.specs.States.{kernel_at, noted_step, stepped, stepped_by}
+use Rattle.cluster_kernels.specs.States.{can_take_at, kernel_at, noted_step, stepped, stepped_by}
 use Rattle.cluster_wire.specs.Noted.{faulted_all, noted_all, untold, without_faults}
 use Rattle.cluster_wire.specs.Faults.{FaultsTold, faults_told, is_fault_between}
 use Rattle.cluster_wire.proofs.FaultLaws.{other_more, told_all, told_faults}
@@ -99,9 +99,9 @@ all_after kernel input next s between t out (Ok said) made number told =
 all_after kernel input next s between t out (Err e) made number told = tt
 
 -- the parts of what a kernel takes
-pub takes_so : {L : Type 0} (faults asked : L → ℕ → ℕ → ℕ) (c : Description) (kernel : ℕ) (input : Input) (old new : Wired L) (s t : State) (r : Result Said NoMemory) → IfOk r (λ said. t ≡ took kernel input said s) → IfOk r (λ said. said.next ≡ next_of old.machine) → IfOk r (λ said. GoesOut faults asked c kernel (stepped kernel input said.next s).1 old new said) → IfOk r (λ said. all_fit c (stepped kernel input said.next s).1.sends ≡ true) → IfOk r (λ said. AllGo c kernel (stepped kernel input said.next s).1.sends) → IfOk r (λ said. untold (stepped kernel input said.next s).1.events said.sent ≡ []) → IfOk r (λ said. without_faults t.told ≡ without_faults s.told ++ (stepped kernel input said.next s).1.events) → IfOk r (AskedFor faults asked kernel old.link new.link) → IfOk r (λ said. TakesSo faults asked c kernel input said old new s t)
-takes_so faults asked c kernel input old new s t (Ok said) state next says fit go whole all asks = record { next = next; state = state; goes_out = says; fit = fit; go = go; whole = whole; all = all; asks = asks }
-takes_so faults asked c kernel input old new s t (Err e) state next says fit go whole all asks = tt
+pub takes_so : {L : Type 0} (faults asked : L → ℕ → ℕ → ℕ) (c : Description) (kernel : ℕ) (input : Input) (old new : Wired L) (s t : State) (r : Result Said NoMemory) → IfOk r (λ said. can_take_at kernel input s ≡ true) → IfOk r (λ said. t ≡ took kernel input said s) → IfOk r (λ said. said.next ≡ next_of old.machine) → IfOk r (λ said. GoesOut faults asked c kernel (stepped kernel input said.next s).1 old new said) → IfOk r (λ said. all_fit c (stepped kernel input said.next s).1.sends ≡ true) → IfOk r (λ said. AllGo c kernel (stepped kernel input said.next s).1.sends) → IfOk r (λ said. untold (stepped kernel input said.next s).1.events said.sent ≡ []) → IfOk r (λ said. without_faults t.told ≡ without_faults s.told ++ (stepped kernel input said.next s).1.events) → IfOk r (AskedFor faults asked kernel old.link new.link) → IfOk r (λ said. TakesSo faults asked c kernel input said old new s t)
+takes_so faults asked c kernel input old new s t (Ok said) taken state next says fit go whole all asks = record { taken = taken; next = next; state = state; goes_out = says; fit = fit; go = go; whole = whole; all = all; asks = asks }
+takes_so faults asked c kernel input old new s t (Err e) taken state next says fit go whole all asks = tt
 
 -- the wire went on by steps of its runs
 pub takes_ran : {L : Type 0} (faults asked : L → ℕ → ℕ → ℕ) (c : Description) (kernel : ℕ) (input : Input) (said : Said) (old new : Wired L) (s t : State) → TakesSo faults asked c kernel input said old new s t → RanOn faults asked old new

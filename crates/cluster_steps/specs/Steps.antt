@@ -5,7 +5,7 @@ use Rattle.kernel_steps.specs.declared.Input.{Input}
 use Rattle.kernel_steps.specs.declared.Out.{Out}
 use Rattle.unix_calls.specs.declared.Description.{Description}
 use Rattle.cluster_kernels.specs.declared.State.{State}
-use Rattle.cluster_kernels.specs.States.{stepped}
+use Rattle.cluster_kernels.specs.States.{can_take_at, stepped}
 use Rattle.cluster_wire.specs.Calling.{Begun}
 use Rattle.cluster_wire.specs.Goings.{AllGo, next_of}
 use Rattle.cluster_wire.specs.Links.{AskedFor}
@@ -28,10 +28,12 @@ pub record GoesOut {L : Type 0} (faults asked : L → ℕ → ℕ → ℕ) (c : 
   pub requests : Begun faults asked c kernel out.sends old between said.sent
   pub answers : Answered faults asked kernel out.answers between new said.answered
 
--- the kernel takes an input, over a wire that goes from here to there: one step of it, with the number of the next remote call. All goes
+-- the kernel takes an input that it can take, over a wire that goes from here to there: one step of it, with the number of the next remote
+-- call. All goes
 -- out that the step says, each request to kernels of the cluster that take such, and each answer to the one that waits for it; each packet
 -- that went out is told, and of all that is told the faults alone aren't what the step did; the link is asked about these packets alone
 pub record TakesSo {L : Type 0} (faults asked : L → ℕ → ℕ → ℕ) (c : Description) (kernel : ℕ) (input : Input) (said : Said) (old new : Wired L) (s t : State) : Type 0 where
+  pub taken : can_take_at kernel input s ≡ true
   pub next : said.next ≡ next_of old.machine
   pub state : t ≡ took kernel input said s
   pub goes_out : GoesOut faults asked c kernel (stepped kernel input said.next s).1 old new said

@@ -2,7 +2,7 @@ ghost use Rattle.std.specs.Prelude.{◌≡◌, [], ◌++◌, true, IfOk};
 ghost use Rattle.unix_calls.specs.Lawful.{Lawful};
 ghost use Rattle.cluster_steps.specs.Receivers.{all_fit};
 ghost use Rattle.cluster_steps.specs.Steps.{says, took, GoesOut, TakesSo};
-ghost use Rattle.cluster_kernels.specs.States.{stepped};
+ghost use Rattle.cluster_kernels.specs.States.{can_take_at, stepped};
 ghost use Rattle.cluster_wire.specs.Goings.{AllGo, next_of};
 ghost use Rattle.cluster_wire.specs.Links.{AskedFor};
 ghost use Rattle.cluster_wire.specs.Noted.{untold, without_faults};
@@ -19,9 +19,9 @@ use unix_calls::Description;
 use wire_format::Packet;
 
 /// The kernel does one step with that, and all that it says goes out and is told: its requests, and its answers to the callers that wait
-/// for them. The one error is want of memory; it is also the answer where a request has no one to go to or goes to a kernel that doesn't
-/// take such, where no one waits for an answer, and where what the step did and the packets that went out don't belong together, none of
-/// which ever comes.
+/// for them. The one error is want of memory. It is also the answer where the kernel can't take what comes, where a request has no one to go
+/// to or goes to a kernel that doesn't take such, where no one waits for an answer, and where what the step did and the packets that went
+/// out don't belong together; no run is known in which one of these comes.
 #[tactic(auto, using(crate::proofs::TakenLaws::takes_so))]
 pub fn take<L: Link>(
     alloc: Global,
@@ -48,6 +48,7 @@ fn take_in<L: Link>(
     input: &Input,
 ) -> Result<Said, NoMemory>
     requires lawful { Lawful c.now }
+    ensures taken { IfOk result (λ _. can_take_at kernel input.now state.old ≡ true) }
     ensures state { IfOk result (λ said. state.new ≡ took kernel input.now said state.old) }
     ensures next { IfOk result (λ said. said.next ≡ next_of wire.old.machine) }
     ensures goes_out { IfOk result (λ said. GoesOut L.faults L.asked c.now kernel (stepped kernel input.now said.next state.old).1 wire.old wire.new said) }
@@ -57,6 +58,9 @@ fn take_in<L: Link>(
     ensures all { IfOk result (λ said. without_faults state.new.told ≡ without_faults state.old.told ++ (stepped kernel input.now said.next state.old).1.events) }
     ensures asked { IfOk result (AskedFor L.faults L.asked kernel wire.old.link wire.new.link) }
 {
+    if !state.can_take(alloc, kernel, input)? {
+        return Err(NoMemory);
+    }
     let next = next_call(wire)?;
     let mut out = state.step(alloc, kernel, input, next)?;
     say(alloc, c, state, wire, kernel, next, &mut out)

@@ -1,5 +1,5 @@
 -- The processes of one home.
-use Rattle.std.specs.Prelude.{ℕ, ◌+◌, ◌-◌, ◌*◌, ◌==◌, Bool, true, false, ◌&&◌, not, if◌then◌else◌, List, [], ◌∷◌, ◌++◌, Option, Some, None, option_map, slice_get, slice_set}
+use Rattle.std.specs.Prelude.{ℕ, ◌+◌, ◌-◌, ◌*◌, ◌==◌, Bool, true, false, ◌&&◌, not, if◌then◌else◌, List, [], ◌∷◌, ◌++◌, Option, Some, None, is_some, option_map, slice_get, slice_set}
 use Rattle.std.specs.List.{list_any, position}
 use Rattle.sprite_ids.specs.Pid.{home_of, birth_of}
 use Rattle.sprite_ids.specs.declared.Ending.{Ending}
@@ -83,6 +83,10 @@ is_ended_child parent birth = is_child parent birth && is_ended birth.life
 -- whether it is a child of which no `wait` was told
 abbrev pub is_unwaited_child : ℕ → Birth → Bool
 is_unwaited_child parent birth = is_child parent birth && is_unwaited birth.life
+
+-- whether the process was born
+abbrev pub was_born : Table → ℕ → Bool
+was_born table pid = is_some (birth_at table.births pid)
 
 -- a looked-up answer, `no` where there is none
 abbrev pub is_so : (Life → Bool) → Option Life → Bool

@@ -1,6 +1,6 @@
 ghost use Rattle.std.specs.Prelude.{◌≡◌, ◌≤◌, ◌<◌, ◌+◌, ◌*◌, ◌↔◌, ◌++◌, ◌∷◌, [], option_map, slice_get, IfOk, OnOk, OnErr, IsTrue, IsErrOf, IfSome, Some, true, length};
 ghost use Rattle.sprite_ids.specs.Pid.{home_of, birth_of};
-ghost use Rattle.home_table.specs.Home.{index_of, is_of, pid_at, birth_at, life_at, place_at, parent_at, born, with_life, with_place, moved, ended, wait_answer, waited, told, telling, killed, is_ended_child, is_unwaited_child, is_pending_at, is_living_at, has_ended_at, is_any_living};
+ghost use Rattle.home_table.specs.Home.{index_of, is_of, pid_at, birth_at, life_at, place_at, parent_at, born, with_life, with_place, moved, ended, wait_answer, waited, told, telling, killed, is_ended_child, is_unwaited_child, is_pending_at, is_living_at, has_ended_at, is_any_living, was_born};
 ghost use Rattle.std.specs.List.{list_any, position};
 
 use crate::birth::{Birth, Life, status_of};
@@ -151,6 +151,14 @@ impl Home {
             Some(life) => !life.is_living(),
             None => false,
         }
+    }
+
+    /// Whether the process was born.
+    pub fn was_born(&self, pid: Pid) -> bool
+        requires { home_of pid ≡ self.now.home }
+        ensures { result ≡ was_born self.now pid }
+    {
+        self.birth(pid).is_some()
     }
 
     /// Whether any process of this home lives.

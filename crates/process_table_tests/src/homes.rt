@@ -21,6 +21,8 @@ enum Step {
     Stands(u32, bool, bool, u8),
     // The number of its living parent.
     Parent(u32, u32),
+    // Whether it was born.
+    WasBorn(u32, bool),
     Tick(u64),
     // Whether a process of it lives.
     Lives(bool),
@@ -29,7 +31,7 @@ enum Step {
 }
 
 // Home 3: process 1 makes 2, moves, and makes 3 and 4; 2 makes 5.
-static STEPS: [Step; 40] = [
+static STEPS: [Step; 42] = [
     Step::Lives(false),
     Step::Born(0, 3001),
     Step::Wait(1, 0, 0),
@@ -64,6 +66,8 @@ static STEPS: [Step; 40] = [
     Step::Parent(5, 0),
     Step::Wait(2, 0, 1),
     Step::Kill(6, false),
+    Step::WasBorn(5, true),
+    Step::WasBorn(6, false),
     Step::Stands(6, false, false, 3),
     Step::Parent(6, 0),
     Step::Tick(1),
@@ -154,6 +158,10 @@ fn does(home: &mut Home, step: Step) -> bool {
             _ => false,
         },
         Step::Stands(birth, killed, ended, place) => stands(home, birth, killed, ended, place),
+        Step::WasBorn(birth, born) => match process(home, birth) {
+            Some(pid) => home.was_born(pid) == born,
+            None => false,
+        },
         Step::Parent(birth, parent) => match process(home, birth) {
             Some(pid) => match home.parent(pid) {
                 Some(known) => known.number() == parent,

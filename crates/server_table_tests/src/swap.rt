@@ -72,7 +72,7 @@ fn takes(swap: &mut Swap, birth: u8, page: u8, wanted: Option<u8>) -> bool {
     let Some(pid) = process(birth) else {
         return false;
     };
-    take(swap, pid, page) == wanted
+    swap.has(pid, page) == wanted.is_some() && take(swap, pid, page) == wanted
 }
 
 // The one byte of the page, where it is kept.

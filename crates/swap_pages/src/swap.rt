@@ -1,4 +1,4 @@
-ghost use Rattle.std.specs.Prelude.{◌≡◌, [], OnOk, OnErr, option_map};
+ghost use Rattle.std.specs.Prelude.{◌≡◌, [], OnOk, OnErr, is_some, option_map};
 ghost use Rattle.swap_pages.specs.Swap.{bytes_of, put, without};
 
 use indexmap::IndexMap;
@@ -47,6 +47,13 @@ impl Swap {
         self.pages
             .insert(PageKey { pid, page }, Bytes::of_vec(bytes))?;
         Ok(())
+    }
+
+    /// Whether the page is kept.
+    pub fn has(&self, pid: Pid, page: u8) -> bool
+        ensures { result ≡ is_some (bytes_of self.now pid page) }
+    {
+        self.pages.contains_key(&PageKey { pid, page })
     }
 
     /// Takes the page out; None exactly where it isn't kept.

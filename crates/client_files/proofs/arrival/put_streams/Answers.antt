@@ -1,16 +1,19 @@
-use Rattle.std.proofs.Common.{rules, tests, ◌≡◌, ℕ, ◌≤◌, ◌<◌, true, List}
+use Rattle.std.proofs.Common.{rules, tests, ◌≡◌, ℕ, ◌≤◌, ◌<◌, true, ◌&&◌, List}
 use Rattle.std.specs.List.{list_all}
+use Rattle.std.proofs.lemmas.Bool.{and_parts}
 use Rattle.stream_table.specs.declared.Carried.{Carried}
 use Rattle.stream_table.specs.Owners.{is_used, numbers_of}
 use Rattle.stream_table.specs.Entries.{is_placed}
 use Rattle.client_file_tables.specs.declared.ClientFiles.{ClientFiles}
-use Rattle.client_files.specs.Arrivals.{are_apart, can_arrive, is_fit}
+use Rattle.client_files.specs.Arrivals.{are_apart, can_arrive, is_fit, is_known_so}
 use Rattle.client_files.proofs.ArrivalLaws.{apart_once, each_fit, few_of, grants_of, placed_of, test_parts}
 use Rattle.client_files.proofs.arrival.put_streams.Goals as goal
 
 -- the test gives that the descriptors differ and that each item fits
 parts : (pid : ℕ) (items : List Carried) (s : ClientFiles) → can_arrive pid items s ≡ true → (are_apart items ≡ true) × (list_all is_fit items ≡ true)
-parts pid items s h = test_parts (is_used (numbers_of s.streams.owners pid)) (are_apart items) (list_all is_fit items) h
+parts pid items s h =
+    let tested = test_parts (is_used (numbers_of s.streams.owners pid)) (are_apart items) (list_all is_fit items && list_all (is_known_so s.streams.entries) items) h in
+    (tested.0, (and_parts (list_all is_fit items) (list_all (is_known_so s.streams.entries) items) tested.1).0)
 
 pub put_all-requires-clause-differ : goal.put_all-requires-clause-differ
 put_all-requires-clause-differ c =
