@@ -161,11 +161,14 @@ steady_granted : (stay : Bool) (file : FileId) (blocks : List BlockNo) (cause : 
 steady_granted true file blocks cause s t h = h
 steady_granted false file blocks cause s t h = steady_join s t _ h (steady_drops_all file blocks cause t)
 
-pub steady_takes_grant : (grant : Grant) (s : ClientFiles) → Steady s (grants.takes_grant grant s)
-steady_takes_grant grant s =
+steady_takes_usable : (grant : Grant) (s : ClientFiles) → Steady s (grants.takes_usable grant s)
+steady_takes_usable grant s =
     let newer : ClientFiles = with_cache (after_grant s.cache grant) s in
     let noted : ClientFiles = notes (Mode grant.file grant.stamp (grants.mode_of_grant grant.on)) newer in
     steady_if (is_newer s.cache grant) s _ _ (steady_granted (stays_at (state_in grant.file s) grant) grant.file (grants.held_in grant.file s) (grants.cause_of_grant grant.on) s noted (plain s noted refl refl refl)) (steady_self s)
+
+pub steady_takes_grant : (grant : Grant) (s : ClientFiles) → Steady s (grants.takes_grant grant s)
+steady_takes_grant grant s = steady_takes_usable (grants.usable s.cache grant) s
 
 steady_settles_called : (kind : CallKind) (file : FileId) (dirty blocks : List BlockNo) (s : ClientFiles) → Steady s (grants.settles_called kind file dirty blocks s)
 steady_settles_called Recall file dirty blocks s = steady_cleans_all file dirty s

@@ -168,9 +168,9 @@ module _ (tx : TxNo) (first : Counts) where
   beside : (came : Input) (s : ClientProcs) → Bears came (Beside s)
   beside came s = bears came (total (wait_of tx) s.waits) (total (ask_of tx) s.asked)
 
-  files : (came : Input) → KeepsFiles Always Holds
+  files : (came : Input) → KeepsFiles came Always Holds
   files came = record {
-    uses_files = λ s h about call device u p. let used : ClientProcs = procs_of.in_state about.pid states.InFiles s in
+    uses_files = λ s h about call device e u p. let used : ClientProcs = procs_of.in_state about.pid states.InFiles s in
         files_side.issues came (Beside used) (beside came used).telling about call device used.files (frames.state_kept (Since tx first) about.pid states.InFiles s p);
     called_back = λ s h asker request u p. files_side.called_back came (Beside s) (beside came s).telling asker request s.files p;
     due_goes = λ s h file block u p. files_side.due_goes came (Beside s) (beside came s).telling file block s.files p;

@@ -103,7 +103,7 @@ goes_by : (freeze : Freeze) (o : Option Carried) (room : ℕ) → next_of freeze
 goes_by freeze (Some item) room e fit h = record { way = (e, fit); less = h }
 goes_by freeze None room e fit h = record { way = tt; less = omega arith }
 
-some_room : (moving : OneMove) → next_of moving.freeze ≡ Some moving.item → MovesFit moving.freeze → 1 ≤ room_in moving.freeze.moved
+pub some_room : (moving : OneMove) → next_of moving.freeze ≡ Some moving.item → MovesFit moving.freeze → 1 ≤ room_in moving.freeze.moved
 some_room moving e fit = by_room (room_in moving.freeze.moved) refl
   where
     by_room : (n : ℕ) → room_in moving.freeze.moved ≡ n → 1 ≤ n

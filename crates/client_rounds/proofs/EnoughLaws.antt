@@ -272,6 +272,10 @@ stages : (count : ℕ) (s : ClientProcs) → MayTurn s → Stage s count (turnin
 stages zero s may = record { may = may; left = refl }
 stages (suc count) s may = round_by (turning.is_quiet (turning.turns count s)) count s (turning.turns count s) refl (stages count s may)
 
+-- the turns of the files' side keep what the rounds need
+pub files_keep_this : (s : ClientProcs) → MayTurn s → MayTurn (record s { files = file_turns.goes_on s.files })
+files_keep_this s may = may_turn (price (side_of s)) 0 (run s) (run_first s (stands s may))
+
 -- so many rounds keep what they need
 pub turns_keep_this : (count : ℕ) (s : ClientProcs) → MayTurn s → MayTurn (turning.turns count s)
 turns_keep_this count s may = (stages count s may).may

@@ -395,7 +395,7 @@ hand_by : (b : Bool) (o : Option Unfinished) (body : ReplyBody) (s : ClientProcs
 hand_by true o body s next step hand = hand
 hand_by false o body s next step hand = heard_begun o body s next step hand
 
-hand_begun : (input : Input) (s : ClientProcs) (next : TxNo) (step : ℕ) → InHand (brought input s) s → InHand (brought input (stepping.begins_step next step s)) (stepping.begins_step next step s)
+pub hand_begun : (input : Input) (s : ClientProcs) (next : TxNo) (step : ℕ) → InHand (brought input s) s → InHand (brought input (stepping.begins_step next step s)) (stepping.begins_step next step s)
 hand_begun (inputs.Issued pid number call) s next step hand = hand
 hand_begun (inputs.Request tx source body) s next step hand = same_hand (coming_if (arriving.brought body)) s next step hand
 hand_begun (inputs.Replied tx source body) s next step hand = hand_by (owns tx s.files) (first_under procs_of.is_call tx s.unfinished) body s next step hand

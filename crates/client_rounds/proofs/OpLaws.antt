@@ -60,7 +60,7 @@ module _ (pid : ℕ) (Q R : Ledger → Type 0) (runs : RunsData pid Q R) where
     waits_lock = λ s e p. runs.waits (ledger_of (locking.locks pid call.stream s)) _ (turns.locks (P Q) (no_turns Q) pid call.stream s p);
     not_open = λ s e p. runs.waits (ledger_of s) _ p;
     places = λ s place p. on_if Q (may_be_at place (stream_at call.stream s)) _ s p p;
-    begins_filling = λ s p. turns.begins_filling (P Q) (no_turns Q) pid s p;
+    begins_filling = λ s on p. turns.begins_filling (P Q) (no_turns Q) pid s p;
     comes_first = λ s e p. p;
     waits_turn = λ s e p. runs.waits (ledger_of s) _ p;
     filled = λ s p. p;

@@ -37,10 +37,10 @@ use Rattle.client_homes.specs.Says.{value}
 use Rattle.client_homes.specs.Waits as waiting
 use Rattle.client_homes.specs.Words as words
 use Rattle.client_walks.specs.Hands.{Nothing, Holding, child_heard, forked, hand_of, heard}
-use Rattle.client_walks.proofs.Deeds.{Always, Hand, KeepsApart, KeepsAtHome, KeepsWithin, WalkApart, WalkWithin, holds}
+use Rattle.client_walks.proofs.Deeds.{Always, Hand, KeepsApart, KeepsAtHome, KeepsHomeDeeds, KeepsWithin, WalkApart, WalkWithin, holds}
 use Rattle.client_walks.proofs.ReplyLaws.{NotSo}
 
-module _ (P : ClientProcs → Hand → Type 0) (came : Input) (keeps : KeepsApart came Always P) (h : Hand) where
+module _ (P : ClientProcs → Hand → Type 0) (came : Input) (keeps : KeepsHomeDeeds came P) (h : Hand) where
   -- no process is in hand
   abbrev At : ClientProcs → Type 0
   At s = P s (holds Nothing h)
@@ -288,7 +288,7 @@ module _ (P : ClientProcs → Hand → Type 0) (came : Input) (keeps : KeepsApar
       keeps.homes.answers (calling.kills request target s) h tx (calling.kill_reply target s) tt (killed request target s p)
 
 -- each of these functions keeps what its deeds keep
-pub at_home : (P : ClientProcs → Hand → Type 0) (came : Input) → KeepsApart came Always P → KeepsAtHome P came
+pub at_home : (P : ClientProcs → Hand → Type 0) (came : Input) → KeepsHomeDeeds came P → KeepsAtHome P came
 at_home P came keeps = record {
   dies = λ s h pid p. died P came keeps h pid s p;
   issues = λ s h pid p. issued_home P came keeps h pid s p;
@@ -305,7 +305,7 @@ at_home P came keeps = record {
 
 -- and so the walk may go by its deeds
 pub apart_by_deeds : (P : ClientProcs → Hand → Type 0) (came : Input) → KeepsApart came Always P → WalkApart P came
-apart_by_deeds P came keeps = record { files = keeps.files; calls = keeps.calls; home = at_home P came keeps; devices = keeps.devices; moves = keeps.moves; comings = keeps.comings }
+apart_by_deeds P came keeps = record { files = keeps.files; calls = keeps.calls; home = at_home P came (record { calls = keeps.calls; homes = keeps.homes; kills = keeps.kills }); devices = keeps.devices; moves = keeps.moves; comings = keeps.comings }
 
 pub by_deeds : (P : ClientProcs → Hand → Type 0) (came : Input) → KeepsWithin came Always P → WalkWithin P came
 by_deeds P came keeps = record { apart = apart_by_deeds P came keeps.apart; turns = keeps.turns }

@@ -30,6 +30,7 @@ use Rattle.client_file_tables.specs.declared.states.NameState.TheVariants as sta
 use Rattle.client_file_tables.specs.Rows.{first_of, less_of}
 use Rattle.client_file_tables.specs.Says.{about_of}
 use Rattle.client_homes.specs.declared.client.ClientProcs.{ClientProcs}
+use Rattle.client_homes.specs.declared.client.Leaving.{Leaving}
 use Rattle.client_homes.specs.declared.client.Parked.{Parked}
 use Rattle.client_names.specs.Requests.{echo_to, request_to}
 use Rattle.client_walks.specs.Answers.{is_redirect}
@@ -113,15 +114,16 @@ kept_more seen pid operation = record seen { rows = seen.rows ++ (pid, operation
 abbrev pub waits_more : Seen → Sending → SendKind → ℕ → NameWork → NameState → Seen
 waits_more seen sending kind pid work state = kept_more (sent_more seen sending kind) pid (waiting_so work state)
 
--- and what else of its kernel a fact may see: what is known of the processes of this home
+-- and what else of its kernel a fact may see: what is known of the processes of this home, and who leaves
 pub record HomeSide : Type 0 where
   pub kernel : ℕ
   pub kernels : List KernelLine
   pub home : Table
   pub waits : List (ℕ × Parked)
+  pub leaving : List (ℕ × Leaving)
 
 abbrev pub home_side : ClientProcs → HomeSide
-home_side s = record { kernel = s.kernel; kernels = s.kernels; home = s.home; waits = s.waits }
+home_side s = record { kernel = s.kernel; kernels = s.kernels; home = s.home; waits = s.waits; leaving = s.leaving }
 
 pub record BearsTelling (came : Input) (Q : Seen → Type 0) : Type 0 where
   pub tells : (seen : Seen) (event : Event) → is_quiet event ≡ true → Q seen → Q (told_more seen event)

@@ -186,13 +186,16 @@ module _ (came : Input) (Q : Seen → Type 0) (bears : BearsTelling came Q) wher
   drops_unless : (stay : Bool) (file : FileId) (list : List BlockNo) (cause : DropCause) (s : ClientFiles) → P s → P (grants.drops_unless stay file list cause s)
   drops_unless stay file list cause s p = on_if stay s _ p (drops_all list file cause s p)
 
-  pub takes_grant : (grant : Grant) (s : ClientFiles) → P s → P (grants.takes_grant grant s)
-  takes_grant grant s p =
+  takes_usable : (grant : Grant) (s : ClientFiles) → P s → P (grants.takes_usable grant s)
+  takes_usable grant s p =
       let newer : ClientFiles = with_cache (held.after_grant s.cache grant) s in
       let event : Event = events.Mode grant.file grant.stamp (grants.mode_of_grant grant.on) in
       on_if (is_newer s.cache grant) _ s
       (drops_unless (cached_files.keeps (state_in grant.file s) grant) grant.file (grants.held_in grant.file s) (grants.cause_of_grant grant.on) (says.notes event newer) (noted event newer refl p))
       p
+
+  pub takes_grant : (grant : Grant) (s : ClientFiles) → P s → P (grants.takes_grant grant s)
+  takes_grant grant s p = takes_usable (grants.usable s.cache grant) s p
 
   settles_called : (kind : CallKind) (file : FileId) (dirty list : List BlockNo) (s : ClientFiles) → P s → P (grants.settles_called kind file dirty list s)
   settles_called Recall file dirty list s p = cleans_all dirty file s p

@@ -7,6 +7,7 @@ use Rattle.sprite_ids.specs.declared.DeviceId.{DeviceId}
 use Rattle.sprite_ids.specs.declared.Errno.{Errno}
 use Rattle.sprite_ids.specs.declared.Errno.TheVariants.{NoProcess}
 use Rattle.sprite_ids.specs.declared.FileId.{FileId}
+use Rattle.sprite_ids.specs.declared.Grant.{Grant}
 use Rattle.sprite_ids.specs.declared.TxNo.{TxNo}
 use Rattle.sprite_ids.specs.Lists.{less, without}
 use Rattle.kernel_steps.specs.declared.Input.{Input}
@@ -24,6 +25,7 @@ use Rattle.packet_bodies.specs.declared.ReplyBody.{ReplyBody}
 use Rattle.packet_bodies.specs.declared.ReplyBody.TheVariants.{Done, Gone}
 use Rattle.packet_bodies.specs.declared.Request.TheVariants as requests
 use Rattle.pseudo_device.specs.declared.ask.Ask.{Ask}
+use Rattle.stream_table.specs.declared.Place.{Place}
 use Rattle.unix_calls.specs.declared.About.{About}
 use Rattle.unix_calls.specs.declared.Event.TheVariants.{Freeze, Thaw}
 use Rattle.migrate_freeze.specs.declared.freeze.Freeze as frozen_type
@@ -32,6 +34,7 @@ use Rattle.migrate_freeze.specs.declared.process.Process.{Process}
 use Rattle.migrate_freeze.specs.OneMove.{OneMove}
 use Rattle.migrate_freeze.specs.Packing.{can_move}
 use Rattle.client_file_tables.specs.declared.moves.Report.{Report}
+use Rattle.client_file_tables.specs.declared.moves.Report.TheVariants as reports
 use Rattle.client_file_tables.specs.Steps as tables_of_files
 use Rattle.client_data.specs.Grants as file_grants
 use Rattle.client_data.specs.WriteBacks as write_backs
@@ -94,9 +97,9 @@ pub record KeepsSteps (F P : ClientProcs → Hand → Type 0) : Type 0 where
   pub begins : (s : ClientProcs) (h : Hand) (next : TxNo) (step : ℕ) → F s h → P s h → P (stepping.begins_step next step s) h
   pub ends_step : (s : ClientProcs) (h : Hand) → F s (holds Nothing h) → P s (holds Nothing h) → P (stepping.ends_step s) (holds Nothing h)
 
--- what the files' side does but with its own operations
-pub record KeepsFiles (F P : ClientProcs → Hand → Type 0) : Type 0 where
-  pub uses_files : (s : ClientProcs) (h : Hand) (about : About) (call : Call) (device : Option DeviceId) → F s (holds Nothing h) → P s (holds Nothing h) → P (issuing_calls.uses_files about call device s) (holds Nothing h)
+-- what the files' side does but with its own operations, where that input came
+pub record KeepsFiles (came : Input) (F P : ClientProcs → Hand → Type 0) : Type 0 where
+  pub uses_files : (s : ClientProcs) (h : Hand) (about : About) (call : Call) (device : Option DeviceId) → came ≡ inputs.Issued about.pid about.number call → F s (holds Nothing h) → P s (holds Nothing h) → P (issuing_calls.uses_files about call device s) (holds Nothing h)
   pub called_back : (s : ClientProcs) (h : Hand) (tx : TxNo) (request : CallbackRequest) → F s (holds Nothing h) → P s (holds Nothing h) → P (record s { files = file_grants.called_back tx request s.files }) (holds Nothing h)
   pub due_goes : (s : ClientProcs) (h : Hand) (file : FileId) (block : BlockNo) → F s (holds Nothing h) → P s (holds Nothing h) → P (record s { files = write_backs.due_goes file block s.files }) (holds Nothing h)
   pub takes_report : (s : ClientProcs) (h : Hand) (report : Report) (rest : List Report) → s.files.results ≡ report ∷ rest → F s (holds Nothing h) → P s (holds Nothing h) → P (record s { files = record s.files { results = rest } }) (holds Nothing h)
@@ -206,7 +209,7 @@ pub record KeepsComings (F P : ClientProcs → Hand → Type 0) : Type 0 where
 
 -- all that is done within a step but with the operations of the files' side, where that input came
 pub record KeepsApart (came : Input) (F P : ClientProcs → Hand → Type 0) : Type 0 where
-  pub files : KeepsFiles F P
+  pub files : KeepsFiles came F P
   pub calls : KeepsCalls came F P
   pub homes : KeepsHomes F P
   pub kills : KeepsKills F P
@@ -245,11 +248,48 @@ pub record KeepsAtHome (P : ClientProcs → Hand → Type 0) (came : Input) : Ty
 -- what a walk through what is done within a step, but with the operations of the files' side, must keep that was given that: what is done at
 -- homes as a whole, and the deeds of the rest
 pub record WalkApart (P : ClientProcs → Hand → Type 0) (came : Input) : Type 0 where
-  pub files : KeepsFiles Always P
+  pub files : KeepsFiles came Always P
   pub calls : KeepsCalls came Always P
   pub home : KeepsAtHome P came
   pub devices : KeepsDevices came Always P
   pub moves : KeepsMoves Always P
+  pub comings : KeepsComings Always P
+
+-- what is done at homes and with kills goes by these
+pub record KeepsHomeDeeds (came : Input) (P : ClientProcs → Hand → Type 0) : Type 0 where
+  pub calls : KeepsCalls came Always P
+  pub homes : KeepsHomes Always P
+  pub kills : KeepsKills Always P
+
+-- what the files' side does but with its own operations and its reports, where that input came
+pub record KeepsUses (came : Input) (P : ClientProcs → Hand → Type 0) : Type 0 where
+  pub uses_files : (s : ClientProcs) (h : Hand) (about : About) (call : Call) (device : Option DeviceId) → came ≡ inputs.Issued about.pid about.number call → Always s (holds Nothing h) → P s (holds Nothing h) → P (issuing_calls.uses_files about call device s) (holds Nothing h)
+  pub called_back : (s : ClientProcs) (h : Hand) (tx : TxNo) (request : CallbackRequest) → Always s (holds Nothing h) → P s (holds Nothing h) → P (record s { files = file_grants.called_back tx request s.files }) (holds Nothing h)
+  pub due_goes : (s : ClientProcs) (h : Hand) (file : FileId) (block : BlockNo) → Always s (holds Nothing h) → P s (holds Nothing h) → P (record s { files = write_backs.due_goes file block s.files }) (holds Nothing h)
+  pub takes_reply : (s : ClientProcs) (h : Hand) (row : ℕ × Reply) (rest : List (ℕ × Reply)) → s.files.out.replies ≡ row ∷ rest → Always s (holds Nothing h) → P s (holds Nothing h) → P (record s { files = record s.files { out = record s.files.out { replies = rest } } }) (holds Nothing h)
+
+-- whether it is reported that a stream has moved
+abbrev pub tells_move : Report → Bool
+tells_move (reports.Moved pid place grant many) = true
+tells_move (reports.MasterClosed device) = false
+tells_move (reports.AllClosed pid) = false
+
+-- processes that are frozen and leave, each function as a whole; where it may be that a page of one was put
+pub record KeepsLeaving (Put : Type 0) (P : ClientProcs → Hand → Type 0) : Type 0 where
+  pub leaves_on : (s : ClientProcs) (h : Hand) (pid : ℕ) → Put → P s (holds Nothing h) → P (leaving_of.leaves_on pid s) (holds Nothing h)
+  pub has_moved : (s : ClientProcs) (h : Hand) (pid : ℕ) (place : Place) (grant : Option Grant) (many : ℕ) (rest : List Report) → s.files.results ≡ reports.Moved pid place grant many ∷ rest → P s (holds Nothing h)
+      → P (leaving_of.has_moved pid place grant many (record s { files = record s.files { results = rest } })) (holds Nothing h)
+  pub freezes : (s : ClientProcs) (h : Hand) (pid : ℕ) (route : Route) → P s (holds Nothing h) → P (freezing.freezes pid route s) (holds Nothing h)
+  pub takes_report : (s : ClientProcs) (h : Hand) (report : Report) (rest : List Report) → s.files.results ≡ report ∷ rest → tells_move report ≡ false → P s (holds Nothing h) → P (record s { files = record s.files { results = rest } }) (holds Nothing h)
+  pub takes_ended : (s : ClientProcs) (h : Hand) (pid : ℕ) → P s (holds Nothing h) → P (freezing.takes_proc pid s) (holds Nothing h)
+
+-- the walk with what is done at homes and with processes that leave as a whole
+pub record WalkParts (Put : Type 0) (P : ClientProcs → Hand → Type 0) (came : Input) : Type 0 where
+  pub files : KeepsUses came P
+  pub calls : KeepsCalls came Always P
+  pub home : KeepsAtHome P came
+  pub devices : KeepsDevices came Always P
+  pub leaving : KeepsLeaving Put P
   pub comings : KeepsComings Always P
 
 -- and with these operations

@@ -9,9 +9,9 @@ joined_steps F P f p = record {
   ends_step = λ s h u k. (f.ends_step s h u k.0, p.ends_step s h k.0 k.1);
 }
 
-joined_files : (F P : ClientProcs → Hand → Type 0) → KeepsFiles Always F → KeepsFiles F P → KeepsFiles Always (Both F P)
-joined_files F P f p = record {
-  uses_files = λ s h about call device u k. (f.uses_files s h about call device u k.0, p.uses_files s h about call device k.0 k.1);
+joined_files : (came : Input) (F P : ClientProcs → Hand → Type 0) → KeepsFiles came Always F → KeepsFiles came F P → KeepsFiles came Always (Both F P)
+joined_files came F P f p = record {
+  uses_files = λ s h about call device e0 u k. (f.uses_files s h about call device e0 u k.0, p.uses_files s h about call device e0 k.0 k.1);
   called_back = λ s h tx request u k. (f.called_back s h tx request u k.0, p.called_back s h tx request k.0 k.1);
   due_goes = λ s h file block u k. (f.due_goes s h file block u k.0, p.due_goes s h file block k.0 k.1);
   takes_report = λ s h report rest e0 u k. (f.takes_report s h report rest e0 u k.0, p.takes_report s h report rest e0 k.0 k.1);
@@ -25,7 +25,7 @@ joined_turns came F P f p = record {
   goes_on = λ s h e0 u k. (f.goes_on s h e0 u k.0, p.goes_on s h e0 k.0 k.1);
 }
 
-joined_calls : (came : Input) (F P : ClientProcs → Hand → Type 0) → KeepsCalls came Always F → KeepsCalls came F P → KeepsCalls came Always (Both F P)
+pub joined_calls : (came : Input) (F P : ClientProcs → Hand → Type 0) → KeepsCalls came Always F → KeepsCalls came F P → KeepsCalls came Always (Both F P)
 joined_calls came F P f p = record {
   comes_to = λ s h about call e0 u k. (f.comes_to s h about call e0 u k.0, p.comes_to s h about call e0 k.0 k.1);
   counts = λ s h u k. (f.counts s h u k.0, p.counts s h k.0 k.1);
@@ -37,7 +37,7 @@ joined_calls came F P f p = record {
   takes_call = λ s h tx u k. (f.takes_call s h tx u k.0, p.takes_call s h tx k.0 k.1);
 }
 
-joined_homes : (F P : ClientProcs → Hand → Type 0) → KeepsHomes Always F → KeepsHomes F P → KeepsHomes Always (Both F P)
+pub joined_homes : (F P : ClientProcs → Hand → Type 0) → KeepsHomes Always F → KeepsHomes F P → KeepsHomes Always (Both F P)
 joined_homes F P f p = record {
   enters_home = λ s h request reply e0 u k. (f.enters_home s h request reply e0 u k.0, p.enters_home s h request reply e0 k.0 k.1);
   ticks_for = λ s h request u k. (f.ticks_for s h request u k.0, p.ticks_for s h request k.0 k.1);
@@ -64,7 +64,7 @@ joined_homes F P f p = record {
   lets_go = λ s h pid u k. (f.lets_go s h pid u k.0, p.lets_go s h pid k.0 k.1);
 }
 
-joined_kills : (F P : ClientProcs → Hand → Type 0) → KeepsKills Always F → KeepsKills F P → KeepsKills Always (Both F P)
+pub joined_kills : (F P : ClientProcs → Hand → Type 0) → KeepsKills Always F → KeepsKills F P → KeepsKills Always (Both F P)
 joined_kills F P f p = record {
   flags = λ s h pid u k. (f.flags s h pid u k.0, p.flags s h pid k.0 k.1);
   breaks_off = λ s h pid device max proc e0 e1 u k. (f.breaks_off s h pid device max proc e0 e1 u k.0, p.breaks_off s h pid device max proc e0 e1 k.0 k.1);
@@ -76,7 +76,7 @@ joined_kills F P f p = record {
   tells_place = λ s h tx pid kernel u k. (f.tells_place s h tx pid kernel u k.0, p.tells_place s h tx pid kernel k.0 k.1);
 }
 
-joined_devices : (came : Input) (F P : ClientProcs → Hand → Type 0) → KeepsDevices came Always F → KeepsDevices came F P → KeepsDevices came Always (Both F P)
+pub joined_devices : (came : Input) (F P : ClientProcs → Hand → Type 0) → KeepsDevices came Always F → KeepsDevices came F P → KeepsDevices came Always (Both F P)
 joined_devices came F P f p = record {
   asks_here = λ s h pid ask u k. (f.asks_here s h pid ask u k.0, p.asks_here s h pid ask k.0 k.1);
   asks_for = λ s h tx source request e0 u k. (f.asks_for s h tx source request e0 u k.0, p.asks_for s h tx source request e0 k.0 k.1);
@@ -106,7 +106,7 @@ joined_moves F P f p = record {
   sends_process = λ s h pid sent about e0 u k. (f.sends_process s h pid sent about e0 u k.0, p.sends_process s h pid sent about e0 k.0 k.1);
 }
 
-joined_comings : (F P : ClientProcs → Hand → Type 0) → KeepsComings Always F → KeepsComings F P → KeepsComings Always (Both F P)
+pub joined_comings : (F P : ClientProcs → Hand → Type 0) → KeepsComings Always F → KeepsComings F P → KeepsComings Always (Both F P)
 joined_comings F P f p = record {
   brings = λ s h pid e0 u k. (f.brings s h pid e0 u k.0, p.brings s h pid e0 k.0 k.1);
   refuses = λ s h pid e0 u k. (f.refuses s h pid e0 u k.0, p.refuses s h pid e0 k.0 k.1);
@@ -124,7 +124,7 @@ joined_comings F P f p = record {
 
 joined_apart : (came : Input) (F P : ClientProcs → Hand → Type 0) → KeepsApart came Always F → KeepsApart came F P → KeepsApart came Always (Both F P)
 joined_apart came F P f p = record {
-  files = joined_files F P f.files p.files;
+  files = joined_files came F P f.files p.files;
   calls = joined_calls came F P f.calls p.calls;
   homes = joined_homes F P f.homes p.homes;
   kills = joined_kills F P f.kills p.kills;

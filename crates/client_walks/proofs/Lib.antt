@@ -2,6 +2,7 @@ pub mod ReplyLaws
 pub mod Deeds
 pub mod JoinedLaws
 pub mod AtHomeLaws
+pub mod LeavingLaws
 pub mod WalkLaws
 pub mod Bearing
 pub mod DataBearing

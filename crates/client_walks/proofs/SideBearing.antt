@@ -1,6 +1,6 @@
 -- All deeds of a client's kernel but those with the operations of its files' side: what any fact of that side bears, each of them keeps; a fact
 -- that sees the home too is kept where what is done at homes keeps it.
-use Rattle.std.proofs.Common.{◌≡◌, ℕ, Bool, true, false, cond, List, [], ◌∷◌, Option, Some, None, option_map, refl}
+use Rattle.std.proofs.Common.{◌≡◌, ℕ, Bool, true, false, cond, List, [], ◌∷◌, ◌++◌, Option, Some, None, option_map, refl}
 use Rattle.sprite_ids.specs.declared.Errno.{Errno}
 use Rattle.sprite_ids.specs.declared.Errno.TheVariants as errnos
 use Rattle.sprite_ids.specs.declared.TxNo.{TxNo}
@@ -18,6 +18,7 @@ use Rattle.pseudo_device.specs.declared.TakeEnd.TheVariants as takes
 use Rattle.pseudo_device.specs.Device.{Asks, take_refusal, told}
 use Rattle.home_table.specs.Home.{Table}
 use Rattle.kernel_steps.specs.declared.Input.{Input}
+use Rattle.kernel_steps.specs.declared.Input.TheVariants as inputs
 use Rattle.kernel_steps.specs.declared.Sending.{Sending}
 use Rattle.kernel_steps.specs.Rows.{first_under, is_under}
 use Rattle.unix_calls.specs.declared.About.{About}
@@ -50,6 +51,7 @@ use Rattle.sprite_ids.specs.declared.FileId.{FileId}
 use Rattle.client_files.specs.Arrivals as arrivals
 use Rattle.client_files.specs.CallIssues as file_issues
 use Rattle.client_homes.specs.declared.client.ClientProcs.{ClientProcs}
+use Rattle.client_homes.specs.declared.client.Leaving.{Leaving}
 use Rattle.client_homes.specs.declared.process.Proc.{Proc}
 use Rattle.client_homes.specs.declared.process.ProcState.{ProcState}
 use Rattle.client_homes.specs.declared.process.ProcState.TheVariants as states
@@ -76,7 +78,7 @@ use Rattle.client_moves.specs.Returning as returning
 use Rattle.client_procs.specs.Issues as issuing_calls
 use Rattle.client_procs.specs.Launching as launching
 use Rattle.client_walks.specs.Answers.{is_redirect}
-use Rattle.client_walks.proofs.Deeds.{Always, Hand, KeepsApart, KeepsAtHome, KeepsCalls, KeepsComings, KeepsDevices, KeepsFiles, KeepsHomes, KeepsKills, KeepsMoves, WalkApart}
+use Rattle.client_walks.proofs.Deeds.{Always, Hand, KeepsApart, KeepsAtHome, KeepsCalls, KeepsComings, KeepsDevices, KeepsFiles, KeepsHomes, KeepsKills, KeepsMoves, KeepsUses, WalkApart, nothing}
 use Rattle.client_walks.proofs.Bearing.{HomeSide, home_side, is_quiet}
 use Rattle.client_walks.proofs.ReplyLaws.{Caused, NotSo, Safe, born_safe, calls_unreachable, home_safe, wait_safe}
 
@@ -95,12 +97,47 @@ pub record BearsSide (came : Input) (P : ClientFiles → Type 0) : Type 0 where
   pub forks : (s : ClientFiles) (parent child : ℕ) → P s → P (record s { streams = forked s.streams parent child })
   pub takes_report : (s : ClientFiles) (rest : List Report) → P s → P (record s { results = rest })
   pub takes_reply : (s : ClientFiles) (rest : List (ℕ × Reply)) → P s → P (record s { out = record s.out { replies = rest } })
-  pub issues : (s : ClientFiles) (about : About) (call : Call) (device : Option DeviceId) → P s → P (file_issues.issues about call device s)
+  pub issues : (s : ClientFiles) (about : About) (call : Call) (device : Option DeviceId) → came ≡ inputs.Issued about.pid about.number call → P s → P (file_issues.issues about call device s)
   pub called_back : (s : ClientFiles) (tx : TxNo) (request : CallbackRequest) → P s → P (file_grants.called_back tx request s)
   pub due_goes : (s : ClientFiles) (file : FileId) (block : BlockNo) → P s → P (write_backs.due_goes file block s)
   pub arrives : (s : ClientFiles) (pid : ℕ) (cwd : List (List ℕ)) (streams : List CarriedStream) (items : List Carried) → P s → P (arrivals.arrives pid cwd streams items s)
 
-module _ (came : Input) (R : HomeSide → ClientFiles → Type 0) (bears : (own : HomeSide) → BearsSide came (R own)) where
+-- the same but for the operations that begin for a process's streams, and the reports that are taken off
+pub record BearsRest (came : Input) (P : ClientFiles → Type 0) : Type 0 where
+  pub tells : (s : ClientFiles) (event : Event) → is_quiet event ≡ true → P s → P (file_says.notes event s)
+  pub enters : (s : ClientFiles) (entry : Entry) → Caused came (is_unreachable_entry entry) → P s → P (file_says.notes (events.Enter entry) s)
+  pub sends : (s : ClientFiles) (sending : Sending) → P s → P (file_says.sends sending sendings.Other s)
+  pub answers : (s : ClientFiles) (tx : TxNo) (body : ReplyBody) → is_redirect body ≡ false → P s → P (file_says.answers tx body s)
+  pub gives : (s : ClientFiles) (pid : ℕ) (reply : Reply) → P s → P (file_says.replies pid reply s)
+  pub closes : (s : ClientFiles) (pid : ℕ) (about : Option About) → P s → P (file_closes.closes_all pid about s)
+  pub has_cwd : (s : ClientFiles) (pid : ℕ) (path : List (List ℕ)) → P s → P (file_streams.sets_cwd pid path s)
+  pub drops_cwd : (s : ClientFiles) (pid : ℕ) → P s → P (record s { cwds = less_of pid s.cwds })
+  pub forks : (s : ClientFiles) (parent child : ℕ) → P s → P (record s { streams = forked s.streams parent child })
+  pub takes_reply : (s : ClientFiles) (rest : List (ℕ × Reply)) → P s → P (record s { out = record s.out { replies = rest } })
+  pub issues : (s : ClientFiles) (about : About) (call : Call) (device : Option DeviceId) → came ≡ inputs.Issued about.pid about.number call → P s → P (file_issues.issues about call device s)
+  pub called_back : (s : ClientFiles) (tx : TxNo) (request : CallbackRequest) → P s → P (file_grants.called_back tx request s)
+  pub due_goes : (s : ClientFiles) (file : FileId) (block : BlockNo) → P s → P (write_backs.due_goes file block s)
+  pub arrives : (s : ClientFiles) (pid : ℕ) (cwd : List (List ℕ)) (streams : List CarriedStream) (items : List Carried) → P s → P (arrivals.arrives pid cwd streams items s)
+
+rest_of : (came : Input) (P : ClientFiles → Type 0) → BearsSide came P → BearsRest came P
+rest_of came P bears = record {
+  tells = bears.tells;
+  enters = bears.enters;
+  sends = bears.sends;
+  answers = bears.answers;
+  gives = bears.gives;
+  closes = bears.closes;
+  has_cwd = bears.has_cwd;
+  drops_cwd = bears.drops_cwd;
+  forks = bears.forks;
+  takes_reply = bears.takes_reply;
+  issues = bears.issues;
+  called_back = bears.called_back;
+  due_goes = bears.due_goes;
+  arrives = bears.arrives;
+}
+
+module _ (came : Input) (F : ClientProcs → Hand → Type 0) (R : HomeSide → ClientFiles → Type 0) (bears : (own : HomeSide) → BearsRest came (R own)) where
   abbrev P : ClientProcs → Type 0
   P s = R (home_side s) s.files
 
@@ -113,14 +150,14 @@ module _ (came : Input) (R : HomeSide → ClientFiles → Type 0) (bears : (own 
 
   -- What is said
 
-  noted : (event : Event) (s : ClientProcs) → is_quiet event ≡ true → P s → P (says.notes event s)
+  pub noted : (event : Event) (s : ClientProcs) → is_quiet event ≡ true → P s → P (says.notes event s)
   noted event s h p = (bears (home_side s)).tells s.files event h p
 
   entered : (entry : Entry) (s : ClientProcs) → Caused came (is_unreachable_entry entry) → P s → P (says.notes (events.Enter entry) s)
   entered entry s cause p = (bears (home_side s)).enters s.files entry cause p
 
   -- a request more
-  sent : (sending : Sending) (s : ClientProcs) → P s → R (home_side s) (file_says.sends sending sendings.Other s.files)
+  pub sent : (sending : Sending) (s : ClientProcs) → P s → R (home_side s) (file_says.sends sending sendings.Other s.files)
   sent sending s p = (bears (home_side s)).sends s.files sending p
 
   -- a request is answered
@@ -137,7 +174,7 @@ module _ (came : Input) (R : HomeSide → ClientFiles → Type 0) (bears : (own 
   with_kept pid None f s p = p
   with_kept pid (Some proc) f s p = p
 
-  in_state : (pid : ℕ) (state : ProcState) (s : ClientProcs) → P s → P (procs_of.in_state pid state s)
+  pub in_state : (pid : ℕ) (state : ProcState) (s : ClientProcs) → P s → P (procs_of.in_state pid state s)
   in_state pid state s p = with_kept pid (procs_of.proc_at pid s) (λ proc. record proc { state = state }) s p
 
   killed_at : (pid : ℕ) (s : ClientProcs) → P s → P (procs_of.killed_at pid s)
@@ -238,22 +275,21 @@ module _ (came : Input) (R : HomeSide → ClientFiles → Type 0) (bears : (own 
   has_page (bodies.Page bytes) pid page s p = with_kept pid (procs_of.proc_at pid s) (paging.with_page_in page bytes) s p
   has_page body pid page s p = p
 
-  enters_move : (o : Option About) (pid : ℕ) (s : ClientProcs) → P s → P (freezing.enters_move pid o s)
+  pub enters_move : (o : Option About) (pid : ℕ) (s : ClientProcs) → P s → P (freezing.enters_move pid o s)
   enters_move (Some about) pid s p = enters_own pid (value 0 0) s refl p
   enters_move None pid s p = p
 
   -- The deeds
 
-  files : KeepsFiles Always Holds
-  files = record {
-    uses_files = λ s h about call device u p. let used : ClientProcs = procs_of.in_state about.pid states.InFiles s in (bears (home_side used)).issues used.files about call device (in_state about.pid states.InFiles s p);
+  pub uses : KeepsUses came Holds
+  uses = record {
+    uses_files = λ s h about call device e u p. let used : ClientProcs = procs_of.in_state about.pid states.InFiles s in (bears (home_side used)).issues used.files about call device e (in_state about.pid states.InFiles s p);
     called_back = λ s h tx request u p. (bears (home_side s)).called_back s.files tx request p;
     due_goes = λ s h file block u p. (bears (home_side s)).due_goes s.files file block p;
-    takes_report = λ s h report rest e u p. (bears (home_side s)).takes_report s.files rest p;
     takes_reply = λ s h row rest e u p. (bears (home_side s)).takes_reply s.files rest p;
   }
 
-  calls : KeepsCalls came Always Holds
+  pub calls : KeepsCalls came F Holds
   calls = record {
     comes_to = λ s h about call e u p.
         noted (events.Issue about.pid about.number call) (issuing_calls.comes_to about call s) refl (with_kept about.pid (procs_of.proc_at about.pid s) (issuing_calls.inside about.number call) s p);
@@ -268,7 +304,7 @@ module _ (came : Input) (R : HomeSide → ClientFiles → Type 0) (bears : (own 
     takes_call = λ s h tx u p. p;
   }
 
-  devices : KeepsDevices came Always Holds
+  pub devices : KeepsDevices came F Holds
   devices = record {
     asks_here = λ s h pid ask u p. entered _ (procs_of.in_state pid (states.InAsk None) s) (NotSo refl) (in_state pid (states.InAsk None) s p);
     asks_for = λ s h tx source request e u p. entered _ s (NotSo refl) p;
@@ -283,26 +319,11 @@ module _ (came : Input) (R : HomeSide → ClientFiles → Type 0) (bears : (own 
     ends_making = λ s h pid reply u p. unmakes_if (first_under procs_of.is_pid pid s.making) reply (record s { making = less (is_under procs_of.is_pid pid) s.making }) p;
   }
 
-  moves : KeepsMoves Always Holds
-  moves = record {
-    freezes = λ s h pid route e u p. enters_move route.about pid (says.notes (events.Freeze pid) s) (noted (events.Freeze pid) s refl p);
-    takes_proc = λ s h pid proc e u p. p;
-    takes_none = λ s h pid e u p. p;
-    takes_ended = λ s h pid u p. p;
-    puts_page = λ s h pid page bytes u p. sent _ s p;
-    drops_cwd = λ s h pid u p. (bears (home_side s)).drops_cwd s.files pid p;
-    keeps_leaving = λ s h pid step about u p. p;
-    takes_leaving = λ s h pid found e u p. p;
-    leaves_none = λ s h pid e u p. p;
-    begins_move = λ s h pid one about u p. (bears (home_side s)).moves s.files pid (record { about = about; stream = one.item.number; to = one.freeze.to; state = move_states.WaitLock }) refl p;
-    sends_process = λ s h pid sent_one about e u p. sent _ s p;
-  }
-
   -- where a process of this home comes home
-  abbrev pub KeepsPlaces : Type 0
-  KeepsPlaces = (s : ClientProcs) (pid kernel : ℕ) → P s → P (homes.moves_to pid kernel s)
+  abbrev pub PlacesKept : Type 0
+  PlacesKept = (s : ClientProcs) (pid kernel : ℕ) → P s → P (homes.moves_to pid kernel s)
 
-  comings : KeepsPlaces → KeepsComings Always Holds
+  pub comings : PlacesKept → KeepsComings F Holds
   comings places = record {
     brings = λ s h pid e u p. p;
     refuses = λ s h pid e u p. p;
@@ -320,16 +341,16 @@ module _ (came : Input) (R : HomeSide → ClientFiles → Type 0) (bears : (own 
 
   -- Homes, for facts that see nothing of them
 
-  abbrev pub AnyHome : Type 0
-  AnyHome = (own other : HomeSide) (files : ClientFiles) → R own files → R other files
+  abbrev pub OfAnyHome : Type 0
+  OfAnyHome = (own other : HomeSide) (files : ClientFiles) → other.leaving ≡ own.leaving → R own files → R other files
 
-  home_if : AnyHome → (b : Bool) (table : Table) (s : ClientProcs) → P s → P (cond b (record s { home = table }) s)
-  home_if any_home b table s p = on_if b (record s { home = table }) s (any_home (home_side s) _ s.files p) p
+  pub home_if : OfAnyHome → (b : Bool) (table : Table) (s : ClientProcs) → P s → P (cond b (record s { home = table }) s)
+  home_if any_home b table s p = on_if b (record s { home = table }) s (any_home (home_side s) _ s.files refl p) p
 
-  homes_kept : AnyHome → KeepsHomes Always Holds
+  pub homes_kept : OfAnyHome → KeepsHomes F Holds
   homes_kept any_home = record {
     enters_home = λ s h request reply e u p. enters_home request reply s (home_safe request.call request.pid s reply e) p;
-    ticks_for = λ s h request u p. enters_home request (calling.tick_reply s) (homes.ticks s) refl (any_home _ _ _ p);
+    ticks_for = λ s h request u p. enters_home request (calling.tick_reply s) (homes.ticks s) refl (any_home _ _ _ refl p);
     forks = λ s h request u p. enters_home request _ (homes.bears request.pid s) (born_safe (homes.born_pid request.pid s)) (home_if any_home (homes.is_native request.pid s) _ s p);
     waits = λ s h request u p. waits_if (waiting.wait_reply request.pid s) request (homes.waited_at request.pid s) (wait_safe (homes.told_to_wait request.pid s) (homes.is_killed request.pid s)) (home_if any_home (homes.is_native request.pid s) _ s p);
     kills_living = λ s h request target e u p. enters_home request (value 0 0) (homes.kills_at target s) refl (home_if any_home (homes.is_native target s) _ s p);
@@ -338,10 +359,10 @@ module _ (came : Input) (R : HomeSide → ClientFiles → Type 0) (bears : (own 
     ends_by_death = λ s h about u p. let done : ClientProcs = says.enters_death about s in home_if any_home (homes.is_native about.pid done) _ done (entered _ s (NotSo refl) p);
     dies_elsewhere = λ s h about e u p. in_state about.pid (states.Dying (next_tx s)) _ (sent _ s p);
     ends = λ s h pid about u p. ends pid about s p;
-    takes_waiter = λ s h pid u p. any_home _ _ _ p;
+    takes_waiter = λ s h pid u p. any_home _ _ _ refl p;
     ends_wait = λ s h pid tx reply u p. ends_wait tx pid reply s p;
-    parks = λ s h pid parked u p. any_home _ _ _ p;
-    parks_here = λ s h request u p. any_home _ _ _ (in_state request.pid states.Waiting s p);
+    parks = λ s h pid parked u p. any_home _ _ _ refl p;
+    parks_here = λ s h request u p. any_home _ _ _ refl (in_state request.pid states.Waiting s p);
     fetches_for_fork = λ s h pid page u p. in_state pid (states.ForkPages (next_tx s) page) (pages.fetches pid page s) (fetches pid page s p);
     asks_home = λ s h kernel request e u p. on_if (issuing.is_fork request.call) _ _ (in_state request.pid (states.AtHome (next_tx s)) _ (sent _ s p)) (in_state request.pid (states.AtHome (next_tx s)) _ (sent _ s p));
     answers = λ s h tx reply u p. replied reply tx s p;
@@ -353,7 +374,7 @@ module _ (came : Input) (R : HomeSide → ClientFiles → Type 0) (bears : (own 
     lets_go = λ s h pid u p. p;
   }
 
-  kills_kept : AnyHome → KeepsKills Always Holds
+  pub kills_kept : OfAnyHome → KeepsKills F Holds
   kills_kept any_home = record {
     flags = λ s h pid u p. killed_at pid s p;
     breaks_off = λ s h pid device max proc e g u p. answers_here pid (Error errnos.Interrupted) _ (NotSo refl) p;
@@ -365,10 +386,73 @@ module _ (came : Input) (R : HomeSide → ClientFiles → Type 0) (bears : (own 
     tells_place = λ s h tx pid kernel u p. answered tx bodies.Done (homes.moves_to pid kernel s) refl (home_if any_home (homes.is_native pid s) _ s p);
   }
 
+-- all of them, for facts that bear these too
+
+module _ (came : Input) (R : HomeSide → ClientFiles → Type 0) (bears : (own : HomeSide) → BearsSide came (R own)) where
+  abbrev Stays : ClientProcs → Hand → Type 0
+  Stays s h = R (home_side s) s.files
+
+  bears_rest : (own : HomeSide) → BearsRest came (R own)
+  bears_rest own = rest_of came (R own) (bears own)
+
+  files : KeepsFiles came Always Stays
+  files = record {
+    uses_files = (uses came Always R bears_rest).uses_files;
+    called_back = (uses came Always R bears_rest).called_back;
+    due_goes = (uses came Always R bears_rest).due_goes;
+    takes_report = λ s h report rest e u p. (bears (home_side s)).takes_report s.files rest p;
+    takes_reply = (uses came Always R bears_rest).takes_reply;
+  }
+
+  -- where it doesn't matter who leaves
+  abbrev pub AnyLeaving : Type 0
+  AnyLeaving = (own : HomeSide) (rows : List (ℕ × Leaving)) (files : ClientFiles) → R own files → R (record own { leaving = rows }) files
+
+  moves : AnyLeaving → KeepsMoves Always Stays
+  moves any_leaving = record {
+    freezes = λ s h pid route e u p. enters_move came Always R bears_rest route.about pid (says.notes (events.Freeze pid) s) (noted came Always R bears_rest (events.Freeze pid) s refl p);
+    takes_proc = λ s h pid proc e u p. p;
+    takes_none = λ s h pid e u p. p;
+    takes_ended = λ s h pid u p. p;
+    puts_page = λ s h pid page bytes u p. sent came Always R bears_rest _ s p;
+    drops_cwd = λ s h pid u p. (bears (home_side s)).drops_cwd s.files pid p;
+    keeps_leaving = λ s h pid step about u p. any_leaving (home_side s) (s.leaving ++ (pid, record { step = step; about = about }) ∷ []) s.files p;
+    takes_leaving = λ s h pid found e u p. any_leaving (home_side s) (less (is_under procs_of.is_pid pid) s.leaving) s.files p;
+    leaves_none = λ s h pid e u p. any_leaving (home_side s) (less (is_under procs_of.is_pid pid) s.leaving) s.files p;
+    begins_move = λ s h pid one about u p. (bears (home_side s)).moves s.files pid (record { about = about; stream = one.item.number; to = one.freeze.to; state = move_states.WaitLock }) refl p;
+    sends_process = λ s h pid sent_one about e u p. sent came Always R bears_rest _ s p;
+  }
+
+  -- where a process of this home comes home
+  abbrev pub KeepsPlaces : Type 0
+  KeepsPlaces = (s : ClientProcs) (pid kernel : ℕ) → Stays s nothing → Stays (homes.moves_to pid kernel s) nothing
+
+  -- for facts that see nothing of homes, and not who leaves
+  abbrev pub AnyHome : Type 0
+  AnyHome = (own other : HomeSide) (files : ClientFiles) → R own files → R other files
+
   -- the walk, where what is done at homes keeps the fact
-  pub apart : KeepsAtHome Holds came → KeepsPlaces → WalkApart Holds came
-  apart home places = record { files = files; calls = calls; home = home; devices = devices; moves = moves; comings = comings places }
+  pub apart : AnyLeaving → KeepsAtHome Stays came → KeepsPlaces → WalkApart Stays came
+  apart any_leaving home places = record {
+    files = files;
+    calls = calls came Always R bears_rest;
+    home = home;
+    devices = devices came Always R bears_rest;
+    moves = moves any_leaving;
+    comings = comings came Always R bears_rest places;
+  }
+
+  of_any : AnyHome → (own other : HomeSide) (files : ClientFiles) → other.leaving ≡ own.leaving → R own files → R other files
+  of_any any_home own other files same p = any_home own other files p
 
   -- all these deeds
-  pub all_apart : AnyHome → KeepsApart came Always Holds
-  all_apart any_home = record { files = files; calls = calls; homes = homes_kept any_home; kills = kills_kept any_home; devices = devices; moves = moves; comings = comings (λ s pid kernel p. home_if any_home (homes.is_native pid s) _ s p) }
+  pub all_apart : AnyHome → KeepsApart came Always Stays
+  all_apart any_home = record {
+    files = files;
+    calls = calls came Always R bears_rest;
+    homes = homes_kept came Always R bears_rest (of_any any_home);
+    kills = kills_kept came Always R bears_rest (of_any any_home);
+    devices = devices came Always R bears_rest;
+    moves = moves (λ own rows files p. any_home own (record own { leaving = rows }) files p);
+    comings = comings came Always R bears_rest (λ s pid kernel p. home_if came Always R bears_rest (of_any any_home) (homes.is_native pid s) _ s p);
+  }

@@ -226,9 +226,9 @@ module _ (F : ClientProcs → Hand → Type 0) (Q : Spots → Held → Type 0) (
     goes_on = λ s h e f p. p;
   }
 
-  files : KeepsFiles F Holds
-  files = record {
-    uses_files = λ s h about call device f p. state_kept Nothing about.pid states.InFiles s p;
+  files : (came : Input) → KeepsFiles came F Holds
+  files came = record {
+    uses_files = λ s h about call device e f p. state_kept Nothing about.pid states.InFiles s p;
     called_back = λ s h tx request f p. p;
     due_goes = λ s h file block f p. p;
     takes_report = λ s h report rest e f p. p;
@@ -345,7 +345,7 @@ module _ (F : ClientProcs → Hand → Type 0) (Q : Spots → Held → Type 0) (
   by_spots = record {
     steps = steps;
     within = λ came. record {
-      apart = record { files = files; calls = calls came; homes = homes_kept; kills = kills_kept; devices = devices came; moves = moves; comings = comings };
+      apart = record { files = files came; calls = calls came; homes = homes_kept; kills = kills_kept; devices = devices came; moves = moves; comings = comings };
       turns = turns came;
     };
   }

@@ -35,7 +35,7 @@ seen_side came Q bears = record {
   forks = λ s parent child p. p;
   takes_report = λ s rest p. p;
   takes_reply = λ s rest p. p;
-  issues = λ s about call device p. files_side.issues came Q bears about call device s p;
+  issues = λ s about call device e p. files_side.issues came Q bears about call device s p;
   called_back = λ s tx request p. files_side.called_back came Q bears tx request s p;
   due_goes = λ s file block p. files_side.due_goes came Q bears file block s p;
   arrives = λ s pid cwd streams items p. files_side.arrives came Q bears pid cwd streams items s p;
@@ -60,8 +60,8 @@ module _ (came : Input) (R : HomeSide → Seen → Type 0) (bears : (own : HomeS
   sides own = seen_side came (R own) (bears own)
 
   -- the walk, where what is done at homes keeps the fact
-  pub with_home : KeepsAtHome Holds came → side.KeepsPlaces came Sees sides → WalkWithin Holds came
-  with_home home places = record { apart = side.apart came Sees sides home places; turns = turns }
+  pub with_home : side.AnyLeaving came Sees sides → KeepsAtHome Holds came → side.KeepsPlaces came Sees sides → WalkWithin Holds came
+  with_home any_leaving home places = record { apart = side.apart came Sees sides any_leaving home places; turns = turns }
 
   pub within : side.AnyHome came Sees sides → KeepsWithin came Always Holds
   within any_home = record { apart = side.all_apart came Sees sides any_home; turns = turns }

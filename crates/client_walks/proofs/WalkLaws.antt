@@ -88,7 +88,8 @@ use Rattle.client_procs.specs.Turning as turning
 use Rattle.client_facts.proofs.PlaceLaws.{by_bool}
 use Rattle.client_walks.specs.Hands.{Nothing, Coming, Holding, brought, coming_if, heard}
 use Rattle.client_walks.proofs.AtHomeLaws.{apart_by_deeds, by_deeds}
-use Rattle.client_walks.proofs.Deeds.{Always, Hand, Keeps, KeepsSteps, KeepsWithin, Walk, WalkApart, WalkWithin, holds}
+use Rattle.client_walks.proofs.Deeds.{Always, Hand, Keeps, KeepsSteps, KeepsWithin, Walk, WalkApart, WalkParts, WalkWithin, holds}
+use Rattle.client_walks.proofs.LeavingLaws.{parts_of}
 use Rattle.client_walks.proofs.ReplyLaws.{NotSo, Refused, Safe}
 
 -- whether what comes is neither an answer to a remote call nor the end of one
@@ -97,7 +98,7 @@ IsOther (inputs.Replied tx source body) = ⊥
 IsOther (inputs.GaveUp tx) = ⊥
 IsOther _ = Unit {0}
 
-module _ (P : ClientProcs → Hand → Type 0) (came : Input) (walk : WalkApart P came) (h : Hand) where
+module _ (Put : Type 0) (P : ClientProcs → Hand → Type 0) (came : Input) (walk : WalkParts Put P came) (h : Hand) where
   -- no process is in hand
   abbrev At : ClientProcs → Type 0
   At s = P s (holds Nothing h)
@@ -121,15 +122,15 @@ module _ (P : ClientProcs → Hand → Type 0) (came : Input) (walk : WalkApart 
   getters_served : (device : ℕ) (s : ClientProcs) → At s → At (getting.serves_getters device s)
   getters_served device s p = getters_turns (length s.getters) device s p
 
-  pub entered_by : (device : ℕ) (ask : Ask) (s : ClientProcs) → At s → At (asking.enters_by device ask s)
-  entered_by device ask s p = by_alive (tables.is_alive_at device s) refl
+  pub entered_in : (device : ℕ) (ask : Ask) (s : ClientProcs) → At s → At (asking.enters_by device ask s)
+  entered_in device ask s p = by_alive (tables.is_alive_at device s) refl
     where
       by_alive : (b : Bool) → tables.is_alive_at device s ≡ b → At (cond (not b) (asking.ends_ask ask (Error errnos.NoServer) s) (getting.serves_getters device (tables.waits_at device ask s)))
       by_alive true e = getters_served device (tables.waits_at device ask s) (walk.devices.waits_at s h device ask e tt p)
       by_alive false e = walk.devices.ends_ask s h ask (Error errnos.NoServer) tt p
 
   ask_served : (tx : TxNo) (source : ℕ) (request : AskRequest) (s : ClientProcs) → came ≡ inputs.Request tx source (requests.Ask request) → At s → At (asking.serves_ask tx request s)
-  ask_served tx source request s e p = entered_by request.device.number (carried_ask request) (asking.notes_ask (carried_ask request) (Some tx) s) (walk.devices.asks_for s h tx source request e tt p)
+  ask_served tx source request s e p = entered_in request.device.number (carried_ask request) (asking.notes_ask (carried_ask request) (Some tx) s) (walk.devices.asks_for s h tx source request e tt p)
 
   sent_if : (o : Option AskRequest) (pid : ℕ) (s : ClientProcs) → At s → At (asking.sends_if pid o s)
   sent_if (Some request) pid s p = walk.devices.sends_ask s h pid request tt p
@@ -140,7 +141,7 @@ module _ (P : ClientProcs → Hand → Type 0) (came : Input) (walk : WalkApart 
   asked_by (Some ask) pid device s p =
       let inside : ClientProcs = procs_of.in_state pid (states.InAsk None) s in
       on_if (holds Nothing h) (device.kernel == s.kernel) (asking.enters_ask device.number ask None inside) (asking.sends_if pid (packed_ask ask device) s)
-      (λ e. entered_by device.number ask (asking.notes_ask ask None inside) (walk.devices.asks_here s h pid ask tt p)) (λ e. sent_if (packed_ask ask device) pid s p)
+      (λ e. entered_in device.number ask (asking.notes_ask ask None inside) (walk.devices.asks_here s h pid ask tt p)) (λ e. sent_if (packed_ask ask device) pid s p)
 
   got_by : (pid device max : ℕ) (s : ClientProcs) → At s → At (masters.waits_for_ask pid device max s)
   got_by pid device max s p = getters_served device (record (procs_of.in_state pid (states.Getting device max) s) { getters = s.getters ++ (device, pid) ∷ [] }) (walk.devices.waits_for_ask s h pid device max tt p)
@@ -160,68 +161,13 @@ module _ (P : ClientProcs → Hand → Type 0) (came : Input) (walk : WalkApart 
   master_closed : (device : ℕ) (s : ClientProcs) → At s → At (making.closes_master device s)
   master_closed device s p = asks_ended (tables.asks_at device s) (tables.left_at device s) (walk.devices.left_at s h device tt p)
 
-  -- Processes that leave
-
-  move_begun : (pid : ℕ) (one : OneMove) (about : Option About) (s : ClientProcs) → P s (holds (Holding pid) h) → P (leaving_of.begins_if pid one about s) (holds (Holding pid) h)
-  move_begun pid one about s p =
-      on_if (holds (Holding pid) h) (not (list_any (is_under procs_of.is_pid pid) s.files.pending)) (leaving_of.begins_move pid one about s) s (λ e. walk.moves.begins_move s h pid one about tt p) (λ e. p)
-
-  left_as : (step : MoveStep) (pid : ℕ) (about : Option About) (s : ClientProcs) → P s (holds (Holding pid) h) → At (leaving_of.leaves_as pid step about s)
-  left_as (steps.Moving one) pid about s p = walk.moves.keeps_leaving (leaving_of.begins_if pid one about s) h pid (steps.Moving one) about tt (move_begun pid one about s p)
-  left_as (steps.Sent sent) pid about s p =
-      on_if (holds Nothing h) (list_any (leaving_of.is_page_out pid) s.unfinished) (leaving_of.keeps_leaving pid (steps.Sent sent) about s) (leaving_of.sends_process sent about s)
-      (λ e. walk.moves.keeps_leaving s h pid (steps.Sent sent) about tt p) (λ e. walk.moves.sends_process s h pid sent about e tt p)
-
-  left_if : (o : Option Leaving) (pid : ℕ) (s : ClientProcs) → leaving_of.leaving_at pid s ≡ o → At s → At (leaving_of.leaves_if pid o (leaving_of.takes_leaving pid s))
-  left_if None pid s e p = walk.moves.leaves_none s h pid e tt p
-  left_if (Some found) pid s e p = left_as found.step pid found.about (leaving_of.takes_leaving pid s) (walk.moves.takes_leaving s h pid found e tt p)
-
-  left_on : (pid : ℕ) (s : ClientProcs) → At s → At (leaving_of.leaves_on pid s)
-  left_on pid s p = left_if (leaving_of.leaving_at pid s) pid s refl p
-
-  moved_if : (o : Option Leaving) (pid : ℕ) (place : Place) (grant : Option Grant) (many : ℕ) (s : ClientProcs) → leaving_of.leaving_at pid s ≡ o → At s → At (leaving_of.notes_move_if pid o place grant many (leaving_of.takes_leaving pid s))
-  moved_if None pid place grant many s e p = walk.moves.leaves_none s h pid e tt p
-  moved_if (Some found) pid place grant many s e p =
-      walk.moves.keeps_leaving (leaving_of.takes_leaving pid s) h pid (leaving_of.moved_step place grant many found.step) found.about tt (walk.moves.takes_leaving s h pid found e tt p)
-
-  stream_moved : (pid : ℕ) (place : Place) (grant : Option Grant) (many : ℕ) (s : ClientProcs) → At s → At (leaving_of.has_moved pid place grant many s)
-  stream_moved pid place grant many s p =
-      left_on pid (leaving_of.notes_move_if pid (leaving_of.leaving_at pid s) place grant many (leaving_of.takes_leaving pid s)) (moved_if (leaving_of.leaving_at pid s) pid place grant many s refl p)
-
-  pages_put : (pages : List (ℕ × List ℕ)) (pid : ℕ) (s : ClientProcs) → P s (holds (Holding pid) h) → P (freezing.puts_pages pid pages s) (holds (Holding pid) h)
-  pages_put [] pid s p = p
-  pages_put (page ∷ pages) pid s p = pages_put pages pid (freezing.puts_page pid page.0 page.1 s) (walk.moves.puts_page s h pid page.0 page.1 tt p)
-
-  sent_off : (pid : ℕ) (proc : Proc) (route : Route) (streams : List Carried) (s : ClientProcs) → P s (holds (Holding pid) h) → At (freezing.sends_off pid proc route streams s)
-  sent_off pid proc route streams s p =
-      let process : Process = freezing.process_of pid proc route streams s in
-      let dropped : ClientProcs = freezing.drops_cwd pid s in
-      let step : MoveStep = step_of (frozen_for process route.to route.program) in
-      left_on pid (leaving_of.keeps_leaving pid step route.about dropped) (walk.moves.keeps_leaving dropped h pid step route.about tt (walk.moves.drops_cwd s h pid tt p))
-
-  put_out_if : (o : Option Proc) (pid : ℕ) (route : Route) (streams : List Carried) (s : ClientProcs) → procs_of.proc_at pid s ≡ o → At s → At (freezing.puts_out_if pid o route streams (freezing.takes_proc pid s))
-  put_out_if None pid route streams s e p = walk.moves.takes_none s h pid e tt p
-  put_out_if (Some proc) pid route streams s e p =
-      let pages : List (ℕ × List ℕ) = freezing.pages_for route.program proc.image in
-      let taken : ClientProcs = freezing.takes_proc pid s in
-      sent_off pid (freezing.without_pages route.program proc) route streams (freezing.puts_pages pid pages taken) (pages_put pages pid taken (walk.moves.takes_proc s h pid proc e tt p))
-
-  frozen : (pid : ℕ) (route : Route) (s : ClientProcs) → At s → At (freezing.freezes pid route s)
-  frozen pid route s p = by_test (can_move (all_carried pid s)) refl
-    where
-      by_test : (b : Bool) → can_move (all_carried pid s) ≡ b → At (cond (not b) s (freezing.freezes_with pid route (all_carried pid s) s))
-      by_test false e = p
-      by_test true e =
-          let entered : ClientProcs = freezing.enters_move pid route.about (says.notes (Freeze pid) s) in
-          put_out_if (procs_of.proc_at pid entered) pid route (all_carried pid s) entered refl (walk.moves.freezes s h pid route e tt p)
-
   -- Calls that return
 
   evicted : (pid : ℕ) (s : ClientProcs) → At s → At (returning.is_evicted pid s)
   evicted pid s p =
       let stays : ClientProcs = returning.with_evict false pid s in
       let route : Route = record { to = home_of pid; about = None; program = None } in
-      on_if (holds Nothing h) (holds_master pid stays) stays (freezing.freezes pid route stays) (λ e. walk.calls.flags_evict s h pid false tt p) (λ e. frozen pid route stays (walk.calls.flags_evict s h pid false tt p))
+      on_if (holds Nothing h) (holds_master pid stays) stays (freezing.freezes pid route stays) (λ e. walk.calls.flags_evict s h pid false tt p) (λ e. walk.leaving.freezes stays h pid route (walk.calls.flags_evict s h pid false tt p))
 
   between_by : (o : Option Proc) (pid : ℕ) (s : ClientProcs) → At s → At (returning.goes_between_as pid (returning.standing_if o) s)
   between_by None pid s p = p
@@ -314,15 +260,15 @@ module _ (P : ClientProcs → Hand → Type 0) (came : Input) (walk : WalkApart 
   was_settled pid moved s p =
       on_if (holds Nothing h) (homes.is_native pid s) (arriving.comes_home pid moved s) (arriving.tells_home pid moved s) (λ e. came_home pid moved s e p) (λ e. walk.comings.tells_home s h pid moved e tt p)
 
-  pub installed : (process : Process) (fresh : Bool) (streams : List CarriedStream) (s : ClientProcs) → P s (holds (Holding process.pid) h) → At (arriving.installs (record { process = process; fresh = fresh }) streams s)
-  installed process fresh streams s p =
+  pub installed_in : (process : Process) (fresh : Bool) (streams : List CarriedStream) (s : ClientProcs) → P s (holds (Holding process.pid) h) → At (arriving.installs (record { process = process; fresh = fresh }) streams s)
+  installed_in process fresh streams s p =
       let opened : ClientProcs = arriving.has_streams process streams s in
       was_settled process.pid process.moving (births.puts_proc process.pid (arriving.arrived_proc process fresh) opened) (walk.comings.puts_in opened h process fresh tt (walk.comings.has_streams s h process streams tt p))
 
-  pub launched : (o : Option Machine) (arrival : Arrival) (program : ℕ) (streams : List CarriedStream) (s : ClientProcs) → P s (holds (Holding arrival.pid) h) → At (arriving.installs_if (arriving.launched_with arrival program o) streams s)
-  launched None arrival program streams s p = walk.home.lets_go s h arrival.pid p
-  launched (Some image) arrival program streams s p =
-      by_bool (λ come. arriving.installs_if come streams s) At (not (image.number == program)) _ _ (λ _. walk.home.lets_go s h arrival.pid p) (λ _. installed (process_with arrival image) true streams s p)
+  pub launched_in : (o : Option Machine) (arrival : Arrival) (program : ℕ) (streams : List CarriedStream) (s : ClientProcs) → P s (holds (Holding arrival.pid) h) → At (arriving.installs_if (arriving.launched_with arrival program o) streams s)
+  launched_in None arrival program streams s p = walk.home.lets_go s h arrival.pid p
+  launched_in (Some image) arrival program streams s p =
+      by_bool (λ come. arriving.installs_if come streams s) At (not (image.number == program)) _ _ (λ _. walk.home.lets_go s h arrival.pid p) (λ _. installed_in (process_with arrival image) true streams s p)
 
   -- where the kernel doesn't know it
   taken_as : (b : Bool) (pid : ℕ) (s t : ClientProcs) → arriving.is_new pid s ≡ b → (P s (holds (Holding pid) h) → At t) → P s (holds (Coming pid) h) → At (cond (not b) s t)
@@ -333,11 +279,11 @@ module _ (P : ClientProcs → Hand → Type 0) (came : Input) (walk : WalkApart 
   arrived (requests.Transfer request) tx s p =
       let told : ClientProcs = says.answers tx Done s in
       taken_as (arriving.is_new request.pid s) request.pid s _ refl
-      (λ held. installed (process_with (transfer_arrival request) request.image) false request.streams told (walk.comings.answers_done s h tx request.pid tt held)) p
+      (λ held. installed_in (process_with (transfer_arrival request) request.image) false request.streams told (walk.comings.answers_done s h tx request.pid tt held)) p
   arrived (requests.Launch request) tx s p =
       let told : ClientProcs = says.answers tx Done s in
       taken_as (arriving.is_new request.pid s) request.pid s _ refl
-      (λ held. launched (fresh_image s.programs request.program 0) (launch_arrival request) request.program request.streams told (walk.comings.answers_done s h tx request.pid tt held)) p
+      (λ held. launched_in (fresh_image s.programs request.program 0) (launch_arrival request) request.program request.streams told (walk.comings.answers_done s h tx request.pid tt held)) p
   arrived body tx s p = p
 
   place_heard : (o : Option Bool) (pid : ℕ) (s : ClientProcs) → At s → At (arriving.thaws_if pid o s)
@@ -362,7 +308,7 @@ module _ (P : ClientProcs → Hand → Type 0) (came : Input) (walk : WalkApart 
   gone_if (Some to) about program s p =
       let route : Route = record { to = to; about = Some about; program = program } in
       on_if (holds Nothing h) (holds_master about.pid s) (procs_of.answers_here about.pid (Error errnos.Busy) s) _ (λ e. answers about (Error errnos.Busy) s refl p)
-      (λ e. on_if (holds Nothing h) (to == s.kernel) (moving.stays about program s) (freezing.freezes about.pid route s) (λ f. stayed program about s p) (λ f. frozen about.pid route s p))
+      (λ e. on_if (holds Nothing h) (to == s.kernel) (moving.stays about program s) (freezing.freezes about.pid route s) (λ f. stayed program about s p) (λ f. walk.leaving.freezes s h about.pid route p))
 
   migrated : (about : About) (host : List ℕ) (program : Option ℕ) (s : ClientProcs) → At s → At (moving.moves_to_host about host program s)
   migrated about host program s p = gone_if (moving.client_named s.kernels host) about program s p
@@ -376,18 +322,18 @@ module _ (P : ClientProcs → Hand → Type 0) (came : Input) (walk : WalkApart 
   used_device true device about call s p = asked_by (asking.own_ask about.pid s) about.pid device s p
   used_device false device about call s p = answers about (Error errnos.BadMode) s refl p
 
-  used_object : (object : Object) (allowed : Bool) (about : About) (call : Call) (s : ClientProcs) → At s → At (issuing_calls.uses_by (asking.is_used_by (asking.data_aim object allowed)) about call (asking.uses_by about.pid (asking.data_aim object allowed) s))
-  used_object (objects.Device device) allowed about call s p = used_device allowed device about call s p
-  used_object (objects.File file) allowed about call s p = walk.files.uses_files s h about call None tt p
-  used_object (objects.Master device) allowed about call s p = walk.files.uses_files s h about call None tt p
+  used_object : (object : Object) (allowed : Bool) (about : About) (call : Call) (s : ClientProcs) → came ≡ inputs.Issued about.pid about.number call → At s → At (issuing_calls.uses_by (asking.is_used_by (asking.data_aim object allowed)) about call (asking.uses_by about.pid (asking.data_aim object allowed) s))
+  used_object (objects.Device device) allowed about call s e p = used_device allowed device about call s p
+  used_object (objects.File file) allowed about call s e p = walk.files.uses_files s h about call None e tt p
+  used_object (objects.Master device) allowed about call s e p = walk.files.uses_files s h about call None e tt p
 
-  used_read : (o : Option Stream) (about : About) (call : Call) (s : ClientProcs) → At s → At (issuing_calls.uses_by (asking.is_used_by (asking.read_aim o)) about call (asking.uses_by about.pid (asking.read_aim o) s))
-  used_read (Some stream) about call s p = used_object stream.object (reads stream.mode) about call s p
-  used_read None about call s p = walk.files.uses_files s h about call None tt p
+  used_read : (o : Option Stream) (about : About) (call : Call) (s : ClientProcs) → came ≡ inputs.Issued about.pid about.number call → At s → At (issuing_calls.uses_by (asking.is_used_by (asking.read_aim o)) about call (asking.uses_by about.pid (asking.read_aim o) s))
+  used_read (Some stream) about call s e p = used_object stream.object (reads stream.mode) about call s e p
+  used_read None about call s e p = walk.files.uses_files s h about call None e tt p
 
-  used_write : (o : Option Stream) (about : About) (call : Call) (s : ClientProcs) → At s → At (issuing_calls.uses_by (asking.is_used_by (asking.write_aim o)) about call (asking.uses_by about.pid (asking.write_aim o) s))
-  used_write (Some stream) about call s p = used_object stream.object (writes stream.mode) about call s p
-  used_write None about call s p = walk.files.uses_files s h about call None tt p
+  used_write : (o : Option Stream) (about : About) (call : Call) (s : ClientProcs) → came ≡ inputs.Issued about.pid about.number call → At s → At (issuing_calls.uses_by (asking.is_used_by (asking.write_aim o)) about call (asking.uses_by about.pid (asking.write_aim o) s))
+  used_write (Some stream) about call s e p = used_object stream.object (writes stream.mode) about call s e p
+  used_write None about call s e p = walk.files.uses_files s h about call None e tt p
 
   commanded : (object : Object) (about : About) (call : Call) (s : ClientProcs) → At s → At (issuing_calls.uses_by (asking.is_used_by (asking.command_on object)) about call (asking.uses_by about.pid (asking.command_on object) s))
   commanded (objects.Device device) about call s p = asked_by (asking.own_ask about.pid s) about.pid device s p
@@ -418,15 +364,15 @@ module _ (P : ClientProcs → Hand → Type 0) (came : Input) (walk : WalkApart 
   put_if None pid bytes number s p = walk.calls.answers_here s h pid (Error errnos.BadFd) (NotSo refl) tt p
 
   -- the call's first step
-  begun_other : (call : Call) (about : About) (s : ClientProcs) → At s → At (issuing_calls.begins_other about call s)
-  begun_other call about s p =
-      on_if (holds Nothing h) (issuing_calls.is_of_home call) (issuing.issues_home about.pid s) (issuing_calls.uses_files about call None s) (λ e. walk.home.issues s h about.pid p) (λ e. walk.files.uses_files s h about call None tt p)
+  begun_other : (call : Call) (about : About) (s : ClientProcs) → came ≡ inputs.Issued about.pid about.number call → At s → At (issuing_calls.begins_other about call s)
+  begun_other call about s is p =
+      on_if (holds Nothing h) (issuing_calls.is_of_home call) (issuing.issues_home about.pid s) (issuing_calls.uses_files about call None s) (λ e. walk.home.issues s h about.pid p) (λ e. walk.files.uses_files s h about call None is tt p)
 
   begun : (call : Call) (about : About) (s : ClientProcs) → came ≡ inputs.Issued about.pid about.number call → At s → At (issuing_calls.begins about call s)
-  begun (calls.Read fd many) about s e p = used_read (opened.stream_at about.pid fd s) about (calls.Read fd many) s p
-  begun (calls.Write fd bytes) about s e p = used_write (opened.stream_at about.pid fd s) about (calls.Write fd bytes) s p
+  begun (calls.Read fd many) about s e p = used_read (opened.stream_at about.pid fd s) about (calls.Read fd many) s e p
+  begun (calls.Write fd bytes) about s e p = used_write (opened.stream_at about.pid fd s) about (calls.Write fd bytes) s e p
   begun (calls.Ioctl fd command bytes) about s e p = used_command (opened.stream_at about.pid fd s) about (calls.Ioctl fd command bytes) s p
-  begun (calls.PdMake path) about s e p = walk.files.uses_files (making.makes_device about.pid s) h about (calls.PdMake path) (Some (making.next_device s)) tt (walk.devices.makes_device s h about.pid tt p)
+  begun (calls.PdMake path) about s e p = walk.files.uses_files (making.makes_device about.pid s) h about (calls.PdMake path) (Some (making.next_device s)) e tt (walk.devices.makes_device s h about.pid tt p)
   begun (calls.PdGet fd max) about s e p = got_if (opened.object_at about.pid fd s) about.pid max s p
   begun (calls.PdPut fd bytes errno) about s e p = put_if (opened.object_at about.pid fd s) about.pid bytes errno s p
   begun (calls.Exec name arg) about s e p = executed (program_named s.programs name) about arg s p
@@ -434,7 +380,7 @@ module _ (P : ClientProcs → Hand → Type 0) (came : Input) (walk : WalkApart 
   begun (calls.Rexec name host) about s e p = sent_to_run (program_named s.programs name) about host s p
   begun calls.Getpid about s e p = answers about (value about.pid 0) s refl p
   begun (calls.Refused errno) about s e p = walk.calls.answers_here s h about.pid (Error errno) (Refused about.pid about.number errno e refl) tt p
-  begun call about s e p = begun_other call about s p
+  begun call about s e p = begun_other call about s e p
 
   issued : (about : About) (call : Call) (s : ClientProcs) → came ≡ inputs.Issued about.pid about.number call → At s → At (issuing_calls.issues about call s)
   issued about call s is p = by_test (issuing_calls.is_next about s) refl
@@ -457,19 +403,19 @@ module _ (P : ClientProcs → Hand → Type 0) (came : Input) (walk : WalkApart 
   served (requests.Ask request) tx source s e p = ask_served tx source request s e p
   served body tx source s e p = p
 
-  heard_for : (call : Unfinished) (tx : TxNo) (body : ReplyBody) (s : ClientProcs) → P s (holds (heard (Some call) body s) h) → At (hearing.hears_for tx call body s)
-  heard_for (unfinished.PageOut pid) tx body s p = left_on pid s p
-  heard_for (unfinished.PageIn pid) tx body s p = came_by (procs_of.proc_at pid s) pid tx body s p
-  heard_for (unfinished.Home pid) tx body s p = walk.home.hears s h tx pid body p
-  heard_for (unfinished.Ask pid) tx body s p = walk.calls.replies s h pid (words.reply_of body) tt p
-  heard_for (unfinished.Death pid) tx body s p = walk.home.ends s h pid None p
-  heard_for (unfinished.Place pid) tx body s p = place_heard (arriving.arriving pid s) pid s p
-  heard_for (unfinished.Killed pid) tx body s p = walk.home.kill_replied s h pid body p
-  heard_for (unfinished.Transfer pid) tx body s p = p
+  heard_for : (call : Unfinished) (tx : TxNo) (body : ReplyBody) (s : ClientProcs) → Put → P s (holds (heard (Some call) body s) h) → At (hearing.hears_for tx call body s)
+  heard_for (unfinished.PageOut pid) tx body s put p = walk.leaving.leaves_on s h pid put p
+  heard_for (unfinished.PageIn pid) tx body s put p = came_by (procs_of.proc_at pid s) pid tx body s p
+  heard_for (unfinished.Home pid) tx body s put p = walk.home.hears s h tx pid body p
+  heard_for (unfinished.Ask pid) tx body s put p = walk.calls.replies s h pid (words.reply_of body) tt p
+  heard_for (unfinished.Death pid) tx body s put p = walk.home.ends s h pid None p
+  heard_for (unfinished.Place pid) tx body s put p = place_heard (arriving.arriving pid s) pid s p
+  heard_for (unfinished.Killed pid) tx body s put p = walk.home.kill_replied s h pid body p
+  heard_for (unfinished.Transfer pid) tx body s put p = p
 
-  heard_if : (o : Option Unfinished) (tx : TxNo) (body : ReplyBody) (s : ClientProcs) → P s (holds (heard o body s) h) → At (hearing.hears_if tx o body s)
-  heard_if (Some call) tx body s p = heard_for call tx body s p
-  heard_if None tx body s p = p
+  heard_if : (o : Option Unfinished) (tx : TxNo) (body : ReplyBody) (s : ClientProcs) → Put → P s (holds (heard o body s) h) → At (hearing.hears_if tx o body s)
+  heard_if (Some call) tx body s put p = heard_for call tx body s put p
+  heard_if None tx body s put p = p
 
   -- the call is heard; what is in hand doesn't depend on it
   call_taken : (o : Option Unfinished) (tx : TxNo) (body : ReplyBody) (s : ClientProcs) → P s (holds (heard o body s) h) → P (record s { unfinished = less (is_under procs_of.is_call tx) s.unfinished }) (holds (heard o body (record s { unfinished = less (is_under procs_of.is_call tx) s.unfinished })) h)
@@ -478,30 +424,27 @@ module _ (P : ClientProcs → Hand → Type 0) (came : Input) (walk : WalkApart 
   call_taken (Some call) tx body s p = walk.calls.takes_call s (holds Nothing h) tx tt p
 
   -- an answer to a remote call of the processes' side
-  pub walk_heard : (tx : TxNo) (body : ReplyBody) (s : ClientProcs) → P s (holds (heard (first_under procs_of.is_call tx s.unfinished) body s) h) → At (hearing.hears_own tx body s)
-  walk_heard tx body s p =
+  pub heard_in : (tx : TxNo) (body : ReplyBody) (s : ClientProcs) → Put → P s (holds (heard (first_under procs_of.is_call tx s.unfinished) body s) h) → At (hearing.hears_own tx body s)
+  heard_in tx body s put p =
       let call = first_under procs_of.is_call tx s.unfinished in
-      heard_if call tx body (record s { unfinished = less (is_under procs_of.is_call tx) s.unfinished }) (call_taken call tx body s p)
+      heard_if call tx body (record s { unfinished = less (is_under procs_of.is_call tx) s.unfinished }) put (call_taken call tx body s p)
 
   -- what comes but an answer to a remote call, or the end of one
-  pub other_taken : (input : Input) (s : ClientProcs) → came ≡ input → IsOther input → P s (holds (brought input s) h) → At (stepping.takes input s)
-  other_taken (inputs.Issued pid number call) s e other p = issued (about_of pid number) call s e p
-  other_taken (inputs.Request tx source body) s e other p = served body tx source s e p
-  other_taken (inputs.Replied tx source body) s e other p = absurd other
-  other_taken (inputs.GaveUp tx) s e other p = absurd other
-  other_taken (inputs.Due file block) s e other p = walk.files.due_goes s h file block tt p
-  other_taken (inputs.PageNeeded pid page) s e other p = page_needed pid page s p
+  pub taken_in : (input : Input) (s : ClientProcs) → came ≡ input → IsOther input → P s (holds (brought input s) h) → At (stepping.takes input s)
+  taken_in (inputs.Issued pid number call) s e other p = issued (about_of pid number) call s e p
+  taken_in (inputs.Request tx source body) s e other p = served body tx source s e p
+  taken_in (inputs.Replied tx source body) s e other p = absurd other
+  taken_in (inputs.GaveUp tx) s e other p = absurd other
+  taken_in (inputs.Due file block) s e other p = walk.files.due_goes s h file block tt p
+  taken_in (inputs.PageNeeded pid page) s e other p = page_needed pid page s p
 
   -- Rounds
 
-  report_taken : (report : Report) (s : ClientProcs) → At s → At (turning.takes_report report s)
-  report_taken (reports.Moved pid place grant many) s p = stream_moved pid place grant many s p
-  report_taken (reports.MasterClosed device) s p = master_closed device.number s p
-  report_taken (reports.AllClosed pid) s p = walk.moves.takes_ended s h pid tt p
-
   reports_first : (list : List Report) (s : ClientProcs) → s.files.results ≡ list → At s → At (turning.takes_of list s)
   reports_first [] s e p = p
-  reports_first (report ∷ rest) s e p = report_taken report (record s { files = record s.files { results = rest } }) (walk.files.takes_report s h report rest e tt p)
+  reports_first (reports.Moved pid place grant many ∷ rest) s e p = walk.leaving.has_moved s h pid place grant many rest e p
+  reports_first (reports.MasterClosed device ∷ rest) s e p = master_closed device.number (record s { files = record s.files { results = rest } }) (walk.leaving.takes_report s h (reports.MasterClosed device) rest e refl p)
+  reports_first (reports.AllClosed pid ∷ rest) s e p = walk.leaving.takes_ended (record s { files = record s.files { results = rest } }) h pid (walk.leaving.takes_report s h (reports.AllClosed pid) rest e refl p)
 
   reports_taken : (count : ℕ) (s : ClientProcs) → At s → At (turning.takes_turns count s)
   reports_taken zero s p = p
@@ -517,8 +460,32 @@ module _ (P : ClientProcs → Hand → Type 0) (came : Input) (walk : WalkApart 
   replies_given (suc count) s p = let before : ClientProcs = turning.gives_turns count s in replies_first before.files.out.replies before refl (replies_given count s p)
 
   -- the rest of a round, behind the turns of the files' side
-  pub round_ends : (s : ClientProcs) → At s → At (turning.takes_all (turning.gives_all s))
-  round_ends s p = let given : ClientProcs = turning.gives_all s in reports_taken (length given.files.results) given (replies_given (length s.procs) s p)
+  pub ends_in : (s : ClientProcs) → At s → At (turning.takes_all (turning.gives_all s))
+  ends_in s p = let given : ClientProcs = turning.gives_all s in reports_taken (length given.files.results) given (replies_given (length s.procs) s p)
+
+-- the same by the deeds of processes that leave
+
+module _ (P : ClientProcs → Hand → Type 0) (came : Input) (walk : WalkApart P came) (h : Hand) where
+  abbrev parts : WalkParts (Unit {0}) P came
+  parts = parts_of P came walk
+
+  pub entered_by : (device : ℕ) (ask : Ask) (s : ClientProcs) → P s (holds Nothing h) → P (asking.enters_by device ask s) (holds Nothing h)
+  entered_by device ask s p = entered_in (Unit {0}) P came parts h device ask s p
+
+  pub installed : (process : Process) (fresh : Bool) (streams : List CarriedStream) (s : ClientProcs) → P s (holds (Holding process.pid) h) → P (arriving.installs (record { process = process; fresh = fresh }) streams s) (holds Nothing h)
+  installed process fresh streams s p = installed_in (Unit {0}) P came parts h process fresh streams s p
+
+  pub launched : (o : Option Machine) (arrival : Arrival) (program : ℕ) (streams : List CarriedStream) (s : ClientProcs) → P s (holds (Holding arrival.pid) h) → P (arriving.installs_if (arriving.launched_with arrival program o) streams s) (holds Nothing h)
+  launched o arrival program streams s p = launched_in (Unit {0}) P came parts h o arrival program streams s p
+
+  pub walk_heard : (tx : TxNo) (body : ReplyBody) (s : ClientProcs) → P s (holds (heard (first_under procs_of.is_call tx s.unfinished) body s) h) → P (hearing.hears_own tx body s) (holds Nothing h)
+  walk_heard tx body s p = heard_in (Unit {0}) P came parts h tx body s tt p
+
+  pub other_taken : (input : Input) (s : ClientProcs) → came ≡ input → IsOther input → P s (holds (brought input s) h) → P (stepping.takes input s) (holds Nothing h)
+  other_taken input s e other p = taken_in (Unit {0}) P came parts h input s e other p
+
+  pub round_ends : (s : ClientProcs) → P s (holds Nothing h) → P (turning.takes_all (turning.gives_all s)) (holds Nothing h)
+  round_ends s p = ends_in (Unit {0}) P came parts h s p
 
 module _ (P : ClientProcs → Hand → Type 0) (came : Input) (walk : WalkWithin P came) (h : Hand) where
   abbrev AtRest : ClientProcs → Type 0

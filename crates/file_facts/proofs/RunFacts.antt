@@ -186,7 +186,7 @@ data_runs pid call = record {
   waits_lock = λ s e p. kept_free (locking.locks pid call.stream s) pid (operations.Data (record call { state = states.WaitLock })) (refl, refl) (locks.locks Holds no_turns pid call.stream s p);
   not_open = λ s e p. kept_free s pid (operations.Data (record call { state = states.WaitLock })) (refl, refl) p;
   places = λ s place p. on_if (may_be_at place (stream_at call.stream s)) _ s p p;
-  begins_filling = λ s p. locks.begins_filling Holds no_turns pid s p;
+  begins_filling = λ s on p. locks.begins_filling Holds no_turns pid s p;
   comes_first = λ s e p. p;
   waits_turn = λ s e p. kept_free s pid (operations.Data (record call { state = states.Turn })) (refl, refl) p;
   filled = λ s p. p;

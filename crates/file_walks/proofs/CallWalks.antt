@@ -1,5 +1,5 @@
 -- Calls of the files' side at their issue, and answers to name calls, for any fact of that side: what such a fact must bear, and what it then keeps.
-use Rattle.std.proofs.Common.{◌≡◌, ℕ, Bool, true, false, not, nat_lt, cond, List, [], Option, Some, None, Result, Ok, Err, refl, subst}
+use Rattle.std.proofs.Common.{arith, ◌≡◌, ℕ, ◌≤◌, Bool, true, false, not, nat_lt, cond, List, [], length, Option, Some, None, Result, Ok, Err, refl, subst}
 use Rattle.sprite_ids.specs.declared.DeviceId.{DeviceId}
 use Rattle.sprite_ids.specs.declared.Errno.{Errno}
 use Rattle.sprite_ids.specs.declared.Object.{Object}
@@ -46,11 +46,24 @@ use Rattle.process_machine.specs.declared.Reply.{Reply}
 use Rattle.process_machine.specs.declared.Reply.TheVariants.{Error}
 use Rattle.client_file_tables.specs.declared.pending.Pending.{Pending}
 use Rattle.client_file_tables.specs.Steps as steps
-use Rattle.file_walks.specs.Fits.{LeadsThere, begins_so}
+use Rattle.file_walks.specs.Fits.{LeadsThere, begins_so, moved_in, moved_of}
 use Rattle.file_walks.proofs.Muted as muted
 use Rattle.file_walks.proofs.Muted.{Mute}
 
--- a call of a process begins, or a name call was taken out whose answer came: what is so before anything is done for it, and behind that
+-- a call of a process begins that moves that many bytes of a file at most, or a name call was taken out whose answer came: what is so before anything
+-- is done for it, and behind that
+pub record RunsShort (most pid : ℕ) (Q R : ClientFiles → Type 0) : Type 0 where
+  pub quiet : Mute Q
+  pub adds : (s : ClientFiles) (number : StreamNo) (stream : Stream) → Q s → Q (streams.adds_stream pid number stream s)
+  pub dups : (s : ClientFiles) (fd : ℕ) → Q s → Q (record s { streams = dupped s.streams pid fd })
+  pub begins : (s : ClientFiles) (operation : Pending) → begins_so operation ≡ true → moved_of operation ≤ most → LeadsThere s.streams.owners pid operation → Q s → R (steps.starts pid operation s)
+  pub echoes : (s : ClientFiles) (work : NameWork) (server : ℕ) → Q s → R (lookups.echoes pid work server s)
+  pub broadcasts : (s : ClientFiles) (work : NameWork) (prefix : Parts) → Q s → R (lookups.broadcasts pid work prefix s)
+  pub asks : (s : ClientFiles) (work : NameWork) (server : ℕ) → Q s → R (lookups.asks pid work server s)
+  pub ends : (s : ClientFiles) (reply : Reply) → Q s → R (says.replies pid reply s)
+  pub lost : (s : ClientFiles) → Q s → R s
+
+-- the same of a call that moves as many as it likes
 pub record RunsCall (pid : ℕ) (Q R : ClientFiles → Type 0) : Type 0 where
   pub quiet : Mute Q
   pub adds : (s : ClientFiles) (number : StreamNo) (stream : Stream) → Q s → Q (streams.adds_stream pid number stream s)
@@ -62,12 +75,31 @@ pub record RunsCall (pid : ℕ) (Q R : ClientFiles → Type 0) : Type 0 where
   pub ends : (s : ClientFiles) (reply : Reply) → Q s → R (says.replies pid reply s)
   pub lost : (s : ClientFiles) → Q s → R s
 
+any_short : (most pid : ℕ) (Q R : ClientFiles → Type 0) → RunsCall pid Q R → RunsShort most pid Q R
+any_short most pid Q R runs = record {
+  quiet = runs.quiet;
+  adds = runs.adds;
+  dups = runs.dups;
+  begins = λ s operation begins short leads p. runs.begins s operation begins leads p;
+  echoes = runs.echoes;
+  broadcasts = runs.broadcasts;
+  asks = runs.asks;
+  ends = runs.ends;
+  lost = runs.lost;
+}
+
 -- what a process's descriptor names is the stream to which it leads
 leads_by : (o : Option StreamNo) (pid fd : ℕ) (named : Named) (s : ClientFiles) → descriptor s.streams.owners pid fd ≡ o → described fd o ≡ Some named → descriptor s.streams.owners pid named.fd ≡ Some named.stream
 leads_by (Some stream) pid fd named s e same = subst (λ (other : Named). descriptor s.streams.owners pid other.fd ≡ Some other.stream) (some_is (record { fd = fd; stream = stream }) named same) e
 leads_by None pid fd named s e same = absurd (cc)
 
-module _ (Q : ℕ → ClientFiles → Type 0) (R : ClientFiles → Type 0) (runs : (pid : ℕ) → RunsCall pid (Q pid) R) where
+none_below : (most : ℕ) → 0 ≤ most
+none_below most = omega arith
+
+no_more : (many : ℕ) → many ≤ many
+no_more many = omega arith
+
+module _ (most : ℕ) (Q : ℕ → ClientFiles → Type 0) (R : ClientFiles → Type 0) (runs : (pid : ℕ) → RunsShort most pid (Q pid) R) where
   on_if : (b : Bool) (s t : ClientFiles) → R s → R t → R (cond b s t)
   on_if true s t p q = p
   on_if false s t p q = q
@@ -76,7 +108,7 @@ module _ (Q : ℕ → ClientFiles → Type 0) (R : ClientFiles → Type 0) (runs
   looks_up_by (Some server) pid work s p = (runs pid).echoes s work server p
   looks_up_by None pid work s p = (runs pid).broadcasts s work [] p
 
-  pub looks_up : (pid : ℕ) (work : NameWork) (s : ClientFiles) → Q pid s → R (lookups.looks_up pid work s)
+  looks_up : (pid : ℕ) (work : NameWork) (s : ClientFiles) → Q pid s → R (lookups.looks_up pid work s)
   looks_up pid work s p = looks_up_by (lookups.server_for work.path s) pid work s p
 
   -- Name calls at their issue
@@ -143,34 +175,34 @@ module _ (Q : ℕ → ClientFiles → Type 0) (R : ClientFiles → Type 0) (runs
 
   -- Other calls at their issue
 
-  read_object : (object : Object) (named : Named) (stream : Stream) (about : About) (call : Call) (many : ℕ) (s : ClientFiles) → descriptor s.streams.owners about.pid named.fd ≡ Some named.stream → Q about.pid s → R (datas.reads_by (reach_by object named stream) about call many s)
-  read_object (objects.File file) named stream about call many s d p = on_if (not (reads stream.mode)) _ _ (refused about call _ s p) ((runs about.pid).begins s _ refl d p)
-  read_object (objects.Device device) named stream about call many s d p = refused about call _ s p
-  read_object (objects.Master device) named stream about call many s d p = refused about call _ s p
+  read_object : (object : Object) (named : Named) (stream : Stream) (about : About) (call : Call) (many : ℕ) (s : ClientFiles) → descriptor s.streams.owners about.pid named.fd ≡ Some named.stream → many ≤ most → Q about.pid s → R (datas.reads_by (reach_by object named stream) about call many s)
+  read_object (objects.File file) named stream about call many s d m p = on_if (not (reads stream.mode)) _ _ (refused about call _ s p) ((runs about.pid).begins s _ refl m d p)
+  read_object (objects.Device device) named stream about call many s d m p = refused about call _ s p
+  read_object (objects.Master device) named stream about call many s d m p = refused about call _ s p
 
-  read_stream : (o : Option Stream) (named : Named) (about : About) (call : Call) (many : ℕ) (s : ClientFiles) → descriptor s.streams.owners about.pid named.fd ≡ Some named.stream → Q about.pid s → R (datas.reads_by (reach_stream named o) about call many s)
-  read_stream (Some stream) named about call many s d p = read_object stream.object named stream about call many s d p
-  read_stream None named about call many s d p = refused about call _ s p
+  read_stream : (o : Option Stream) (named : Named) (about : About) (call : Call) (many : ℕ) (s : ClientFiles) → descriptor s.streams.owners about.pid named.fd ≡ Some named.stream → many ≤ most → Q about.pid s → R (datas.reads_by (reach_stream named o) about call many s)
+  read_stream (Some stream) named about call many s d m p = read_object stream.object named stream about call many s d m p
+  read_stream None named about call many s d m p = refused about call _ s p
 
-  read_named : (o : Option Named) (fd : ℕ) (about : About) (call : Call) (many : ℕ) (s : ClientFiles) → descriptor_of about.pid fd s ≡ o → Q about.pid s → R (datas.reads_by (reach_named o s) about call many s)
-  read_named (Some named) fd about call many s e p = read_stream (stream_at named.stream s) named about call many s (leads_by (descriptor s.streams.owners about.pid fd) about.pid fd named s refl e) p
-  read_named None fd about call many s e p = refused about call _ s p
+  read_named : (o : Option Named) (fd : ℕ) (about : About) (call : Call) (many : ℕ) (s : ClientFiles) → descriptor_of about.pid fd s ≡ o → many ≤ most → Q about.pid s → R (datas.reads_by (reach_named o s) about call many s)
+  read_named (Some named) fd about call many s e m p = read_stream (stream_at named.stream s) named about call many s (leads_by (descriptor s.streams.owners about.pid fd) about.pid fd named s refl e) m p
+  read_named None fd about call many s e m p = refused about call _ s p
 
-  write_object : (object : Object) (named : Named) (stream : Stream) (about : About) (call : Call) (bytes : List ℕ) (s : ClientFiles) → descriptor s.streams.owners about.pid named.fd ≡ Some named.stream → Q about.pid s → R (datas.writes_found (reach_by object named stream) about call bytes s)
-  write_object (objects.File file) named stream about call bytes s d p = on_if (not (writes stream.mode)) _ _ (refused about call _ s p) ((runs about.pid).begins s _ refl d p)
-  write_object (objects.Device device) named stream about call bytes s d p = refused about call _ s p
-  write_object (objects.Master device) named stream about call bytes s d p = refused about call _ s p
+  write_object : (object : Object) (named : Named) (stream : Stream) (about : About) (call : Call) (bytes : List ℕ) (s : ClientFiles) → descriptor s.streams.owners about.pid named.fd ≡ Some named.stream → length bytes ≤ most → Q about.pid s → R (datas.writes_found (reach_by object named stream) about call bytes s)
+  write_object (objects.File file) named stream about call bytes s d m p = on_if (not (writes stream.mode)) _ _ (refused about call _ s p) ((runs about.pid).begins s _ refl m d p)
+  write_object (objects.Device device) named stream about call bytes s d m p = refused about call _ s p
+  write_object (objects.Master device) named stream about call bytes s d m p = refused about call _ s p
 
-  write_stream : (o : Option Stream) (named : Named) (about : About) (call : Call) (bytes : List ℕ) (s : ClientFiles) → descriptor s.streams.owners about.pid named.fd ≡ Some named.stream → Q about.pid s → R (datas.writes_found (reach_stream named o) about call bytes s)
-  write_stream (Some stream) named about call bytes s d p = write_object stream.object named stream about call bytes s d p
-  write_stream None named about call bytes s d p = refused about call _ s p
+  write_stream : (o : Option Stream) (named : Named) (about : About) (call : Call) (bytes : List ℕ) (s : ClientFiles) → descriptor s.streams.owners about.pid named.fd ≡ Some named.stream → length bytes ≤ most → Q about.pid s → R (datas.writes_found (reach_stream named o) about call bytes s)
+  write_stream (Some stream) named about call bytes s d m p = write_object stream.object named stream about call bytes s d m p
+  write_stream None named about call bytes s d m p = refused about call _ s p
 
-  write_named : (o : Option Named) (fd : ℕ) (about : About) (call : Call) (bytes : List ℕ) (s : ClientFiles) → descriptor_of about.pid fd s ≡ o → Q about.pid s → R (datas.writes_found (reach_named o s) about call bytes s)
-  write_named (Some named) fd about call bytes s e p = write_stream (stream_at named.stream s) named about call bytes s (leads_by (descriptor s.streams.owners about.pid fd) about.pid fd named s refl e) p
-  write_named None fd about call bytes s e p = refused about call _ s p
+  write_named : (o : Option Named) (fd : ℕ) (about : About) (call : Call) (bytes : List ℕ) (s : ClientFiles) → descriptor_of about.pid fd s ≡ o → length bytes ≤ most → Q about.pid s → R (datas.writes_found (reach_named o s) about call bytes s)
+  write_named (Some named) fd about call bytes s e m p = write_stream (stream_at named.stream s) named about call bytes s (leads_by (descriptor s.streams.owners about.pid fd) about.pid fd named s refl e) m p
+  write_named None fd about call bytes s e m p = refused about call _ s p
 
   seek_object : (object : Object) (named : Named) (stream : Stream) (about : About) (call : Call) (offset : ℕ) (s : ClientFiles) → descriptor s.streams.owners about.pid named.fd ≡ Some named.stream → Q about.pid s → R (datas.seeks_found (reach_by object named stream) about call offset s)
-  seek_object (objects.File file) named stream about call offset s d p = on_if (nat_lt s.limit offset) _ _ (refused about call _ s p) ((runs about.pid).begins s _ refl d p)
+  seek_object (objects.File file) named stream about call offset s d p = on_if (nat_lt s.limit offset) _ _ (refused about call _ s p) ((runs about.pid).begins s _ refl (none_below most) d p)
   seek_object (objects.Device device) named stream about call offset s d p = refused about call _ s p
   seek_object (objects.Master device) named stream about call offset s d p = refused about call _ s p
 
@@ -183,7 +215,7 @@ module _ (Q : ℕ → ClientFiles → Type 0) (R : ClientFiles → Type 0) (runs
   seek_named None fd about call offset s e p = refused about call _ s p
 
   size_object : (object : Object) (named : Named) (stream : Stream) (about : About) (call : Call) (s : ClientFiles) → descriptor s.streams.owners about.pid named.fd ≡ Some named.stream → Q about.pid s → R (datas.sizes_found (reach_by object named stream) about call s)
-  size_object (objects.File file) named stream about call s d p = (runs about.pid).begins s _ refl d p
+  size_object (objects.File file) named stream about call s d p = (runs about.pid).begins s _ refl (none_below most) d p
   size_object (objects.Device device) named stream about call s d p = refused about call _ s p
   size_object (objects.Master device) named stream about call s d p = refused about call _ s p
 
@@ -196,7 +228,7 @@ module _ (Q : ℕ → ClientFiles → Type 0) (R : ClientFiles → Type 0) (runs
   size_named None fd about call s e p = refused about call _ s p
 
   sync_object : (object : Object) (named : Named) (stream : Stream) (about : About) (call : Call) (s : ClientFiles) → Q about.pid s → R (datas.syncs_found (reach_by object named stream) about call s)
-  sync_object (objects.File file) named stream about call s p = (runs about.pid).begins s _ refl tt p
+  sync_object (objects.File file) named stream about call s p = (runs about.pid).begins s _ refl (none_below most) tt p
   sync_object (objects.Device device) named stream about call s p = refused about call _ s p
   sync_object (objects.Master device) named stream about call s p = refused about call _ s p
 
@@ -208,11 +240,11 @@ module _ (Q : ℕ → ClientFiles → Type 0) (R : ClientFiles → Type 0) (runs
   sync_named (Some named) about call s p = sync_stream (stream_at named.stream s) named about call s p
   sync_named None about call s p = refused about call _ s p
 
-  issues_read : (about : About) (call : Call) (fd many : ℕ) (s : ClientFiles) → Q about.pid s → R (datas.issues_read about call fd many s)
-  issues_read about call fd many s p = on_if (nat_lt 4294967295 many) _ _ (refused about call _ s p) (read_named (descriptor_of about.pid fd s) fd about call many s refl p)
+  issues_read : (about : About) (call : Call) (fd many : ℕ) (s : ClientFiles) → many ≤ most → Q about.pid s → R (datas.issues_read about call fd many s)
+  issues_read about call fd many s m p = on_if (nat_lt 4294967295 many) _ _ (refused about call _ s p) (read_named (descriptor_of about.pid fd s) fd about call many s refl m p)
 
   issues_close : (o : Option Named) (about : About) (call : Call) (s : ClientFiles) → Q about.pid s → R (issuing.closes_named o about call s)
-  issues_close (Some named) about call s p = (runs about.pid).begins s _ refl tt p
+  issues_close (Some named) about call s p = (runs about.pid).begins s _ refl (none_below most) tt p
   issues_close None about call s p = refused about call _ s p
 
   dups_by : (r : Result ℕ StreamEnd) (about : About) (call : Call) (s : ClientFiles) → Q about.pid s → R (issuing.dups_by r about call s)
@@ -221,19 +253,19 @@ module _ (Q : ℕ → ClientFiles → Type 0) (R : ClientFiles → Type 0) (runs
   dups_by (Err ends.TooMany) about call s p = refused about call _ s p
   dups_by (Err ends.NoMemory) about call s p = (runs about.pid).lost s p
 
-  issues_by : (which : Call) (about : About) (call : Call) (device : Option DeviceId) (s : ClientFiles) → Q about.pid s → R (issuing.issues_by which about call device s)
-  issues_by (calls.Close fd) about call device s p = issues_close (descriptor_of about.pid fd s) about call s p
-  issues_by (calls.Dup fd) about call device s p =
+  issues_by : (which : Call) (about : About) (call : Call) (device : Option DeviceId) (s : ClientFiles) → moved_in which ≤ most → Q about.pid s → R (issuing.issues_by which about call device s)
+  issues_by (calls.Close fd) about call device s m p = issues_close (descriptor_of about.pid fd s) about call s p
+  issues_by (calls.Dup fd) about call device s m p =
       dups_by (dup_answer (descriptor s.streams.owners about.pid fd) (free s.streams.owners about.pid)) about call (record s { streams = dupped s.streams about.pid fd }) ((runs about.pid).dups s fd p)
-  issues_by (calls.Read fd many) about call device s p = issues_read about call fd many s p
-  issues_by (calls.Write fd bytes) about call device s p = write_named (descriptor_of about.pid fd s) fd about call bytes s refl p
-  issues_by (calls.Seek fd offset) about call device s p = seek_named (descriptor_of about.pid fd s) fd about call offset s refl p
-  issues_by (calls.Size fd) about call device s p = size_named (descriptor_of about.pid fd s) fd about call s refl p
-  issues_by (calls.Sync fd) about call device s p = sync_named (descriptor_of about.pid fd s) about call s p
-  issues_by which about call device s p = issues_name call about call device s p
+  issues_by (calls.Read fd many) about call device s m p = issues_read about call fd many s m p
+  issues_by (calls.Write fd bytes) about call device s m p = write_named (descriptor_of about.pid fd s) fd about call bytes s refl m p
+  issues_by (calls.Seek fd offset) about call device s m p = seek_named (descriptor_of about.pid fd s) fd about call offset s refl p
+  issues_by (calls.Size fd) about call device s m p = size_named (descriptor_of about.pid fd s) fd about call s refl p
+  issues_by (calls.Sync fd) about call device s m p = sync_named (descriptor_of about.pid fd s) about call s p
+  issues_by which about call device s m p = issues_name call about call device s p
 
-  pub issues : (about : About) (call : Call) (device : Option DeviceId) (s : ClientFiles) → Q about.pid s → R (issuing.issues about call device s)
-  issues about call device s p = issues_by call about call device s p
+  pub issues_short : (about : About) (call : Call) (device : Option DeviceId) (s : ClientFiles) → moved_in call ≤ most → Q about.pid s → R (issuing.issues about call device s)
+  issues_short about call device s m p = issues_by call about call device s m p
 
   -- Answers to name calls
 
@@ -272,7 +304,14 @@ module _ (Q : ℕ → ClientFiles → Type 0) (R : ClientFiles → Type 0) (runs
   ends_asked (bodies.Value value) pid work s p = ends_value work.kind pid work.path value s p
   ends_asked body pid work s p = (runs pid).lost s p
 
+  pub answers_short : (state : NameState) (pid : ℕ) (work : NameWork) (source : ℕ) (body : ReplyBody) (s : ClientFiles) → Q pid s → R (asked.answers_name_by state pid work source body s)
+  answers_short (name_states.Broadcasting tx prefix) pid work source body s p = looks_up pid work (lookups.learns prefix source s) (muted.learns (Q pid) (runs pid).quiet prefix source s p)
+  answers_short (name_states.Echoing tx server) pid work source body s p = (runs pid).asks s work server p
+  answers_short (name_states.Asking tx) pid work source body s p = ends_asked body pid work s p
+
+module _ (Q : ℕ → ClientFiles → Type 0) (R : ClientFiles → Type 0) (runs : (pid : ℕ) → RunsCall pid (Q pid) R) where
+  pub issues : (about : About) (call : Call) (device : Option DeviceId) (s : ClientFiles) → Q about.pid s → R (issuing.issues about call device s)
+  issues about call device s p = issues_short (moved_in call) Q R (λ pid. any_short (moved_in call) pid (Q pid) R (runs pid)) about call device s (no_more (moved_in call)) p
+
   pub answers_name : (state : NameState) (pid : ℕ) (work : NameWork) (source : ℕ) (body : ReplyBody) (s : ClientFiles) → Q pid s → R (asked.answers_name_by state pid work source body s)
-  answers_name (name_states.Broadcasting tx prefix) pid work source body s p = looks_up pid work (lookups.learns prefix source s) (muted.learns (Q pid) (runs pid).quiet prefix source s p)
-  answers_name (name_states.Echoing tx server) pid work source body s p = (runs pid).asks s work server p
-  answers_name (name_states.Asking tx) pid work source body s p = ends_asked body pid work s p
+  answers_name state pid work source body s p = answers_short 0 Q R (λ pid. any_short 0 pid (Q pid) R (runs pid)) state pid work source body s p

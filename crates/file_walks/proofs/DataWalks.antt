@@ -1,5 +1,5 @@
 -- Operations on files' data and syncs, when they run, for any fact of the files' side: what such a fact must bear, and what it then keeps.
-use Rattle.std.proofs.Common.{◌≡◌, ℕ, ◌+◌, Bool, true, false, cond, Option, Some, None, refl}
+use Rattle.std.proofs.Common.{arith, ◌≡◌, ℕ, ◌+◌, ◌-◌, ◌≤◌, min, nat_lt, Bool, true, false, cond, length, Option, Some, None, is_some, refl}
 use Rattle.sprite_ids.specs.declared.BlockNo.{BlockNo}
 use Rattle.sprite_ids.specs.declared.FileId.{FileId}
 use Rattle.sprite_ids.specs.declared.TxNo.{TxNo}
@@ -7,7 +7,9 @@ use Rattle.process_machine.specs.declared.Reply.{Reply}
 use Rattle.packet_bodies.specs.declared.ReplyBody.{ReplyBody}
 use Rattle.packet_bodies.specs.declared.ReplyBody.TheVariants as bodies
 use Rattle.packet_bodies.specs.declared.ValueReply.{ValueReply}
-use Rattle.block_cache.specs.Held.{write_back_next}
+use Rattle.block_cache.specs.declared.BlockKey.{BlockKey}
+use Rattle.block_cache.specs.declared.Block.{Block}
+use Rattle.block_cache.specs.Held.{Held, is_full, oldest_clean, without_one, write_back_next}
 use Rattle.stream_table.specs.declared.Place.{Place}
 use Rattle.stream_table.specs.declared.Place.TheVariants.{Local, Shared}
 use Rattle.stream_table.specs.declared.Stream.{Stream}
@@ -20,6 +22,7 @@ use Rattle.client_file_tables.specs.declared.works.DataKind.{DataKind}
 use Rattle.client_file_tables.specs.declared.works.DataKind.TheVariants as kinds
 use Rattle.client_file_tables.specs.Blocks as blocks
 use Rattle.client_file_tables.specs.Calls.{data_call, sync_call}
+use Rattle.client_file_tables.specs.Extents.{first_of, is_within, last_of}
 use Rattle.client_file_tables.specs.Fillers as fillers
 use Rattle.client_file_tables.specs.Fillers.{is_filling}
 use Rattle.client_file_tables.specs.Locks as locking
@@ -38,11 +41,12 @@ use Rattle.client_data.specs.Filling as filling
 use Rattle.client_data.specs.Finishes as finishing
 use Rattle.client_data.specs.Grants as grants
 use Rattle.client_data.specs.Looks as looking
+use Rattle.client_data.specs.Plans as planning
 use Rattle.client_data.specs.Plans.{plan_of}
 use Rattle.client_data.specs.Replies as replied
 use Rattle.client_data.specs.ServerOps as server_ops
-use Rattle.client_facts.proofs.BlockLaws as block_laws
-use Rattle.file_walks.specs.Fits.{is_op_answer}
+use Rattle.file_walks.proofs.BlockWalks as block_walks
+use Rattle.file_walks.specs.Fits.{is_op_answer, moved_by}
 use Rattle.file_walks.proofs.Muted as muted
 use Rattle.file_walks.proofs.Muted.{Mute}
 use Rattle.unix_calls.specs.declared.Event.TheVariants as events
@@ -50,6 +54,60 @@ use Rattle.block_cache.specs.Blocks.{dirty_at}
 use Rattle.client_file_tables.specs.declared.states.SyncState.TheVariants as sync_states
 use Rattle.client_file_tables.specs.declared.works.SyncCall.{SyncCall}
 use Rattle.client_data.specs.Sync as syncing
+
+-- the cache is full, without a clean block outside what the operation reads or writes, and without a dirty one
+pub record NoRoom (call : DataCall) (cache : Held) : Type 0 where
+  pub extent : Extent
+  pub short : extent.length ≤ moved_by call.kind
+  pub full : is_full cache ≡ true
+  pub no_clean : oldest_clean cache call.file (first_of extent) (last_of extent) ≡ None
+  pub no_dirty : write_back_next cache None ≡ None
+
+room_by : (call : DataCall) (block : BlockNo) (extent : Extent) (s : ClientFiles) (missing : Option BlockNo) (full within : Bool) (clean : Option (BlockKey × Block)) → extent.length ≤ moved_by call.kind → is_full s.cache ≡ full → blocks.clean_outside call.file extent s ≡ clean
+    → cond full (cond within (is_some clean) false) true ≡ false
+    → cond within missing None ≡ Some block
+    → write_back_next (cond full (cond within (blocks.notes_full clean (blocks.with_cache (record s.cache { blocks = without_one s.cache.blocks clean }) s)) s) s).cache None ≡ None
+    → NoRoom call (cond full (cond within (blocks.notes_full clean (blocks.with_cache (record s.cache { blocks = without_one s.cache.blocks clean }) s)) s) s).cache
+room_by call block extent s missing true true None short f c none e d = record { extent = extent; short = short; full = f; no_clean = c; no_dirty = d }
+room_by call block extent s missing true true (Some entry) short f c none e d = absurd (cc)
+room_by call block extent s missing true false clean short f c none e d = absurd (cc)
+room_by call block extent s missing false within clean short f c none e d = absurd (cc)
+
+-- so it is where a block is missing, there is no room for it, and no dirty block to be written back
+no_room : (call : DataCall) (block : BlockNo) (extent : Extent) (s : ClientFiles) → extent.length ≤ moved_by call.kind → filling.gets_room call.file extent s ≡ false → cached.missing_of call extent s ≡ Some block → write_back_next (filling.makes_room call.file extent s).cache None ≡ None → NoRoom call (filling.makes_room call.file extent s).cache
+no_room call block extent s short none e d = room_by call block extent s _ (is_full s.cache) (is_within extent) (blocks.clean_outside call.file extent s) short refl refl none e d
+
+-- what is used of a file's bytes where that is planned: no more than the operation moves, of a file that is cached
+abbrev UsesCached : DataKind → FileId → ClientFiles → Plan → Type 0
+UsesCached kind file s (plans.Use extent) = (extent.length ≤ moved_by kind) × (blocks.is_cached file s ≡ true)
+UsesCached kind file s plan = Unit {0}
+
+use_if : (kind : DataKind) (file : FileId) (s : ClientFiles) (b : Bool) (plan other : Plan) → UsesCached kind file s plan → UsesCached kind file s other → UsesCached kind file s (cond b plan other)
+use_if kind file s true plan other h k = h
+use_if kind file s false plan other h k = k
+
+use_cached : (kind : DataKind) (file : FileId) (s : ClientFiles) (b : Bool) (plan other : Plan) → blocks.is_cached file s ≡ b → (blocks.is_cached file s ≡ true → UsesCached kind file s plan) → UsesCached kind file s other → UsesCached kind file s (cond b plan other)
+use_cached kind file s true plan other e h k = h e
+use_cached kind file s false plan other e h k = k
+
+min_below : (a b : ℕ) → min a b ≤ a
+min_below a b = omega arith
+
+same_below : (a : ℕ) → a ≤ a
+same_below a = omega arith
+
+here_uses : (kind : DataKind) (file : FileId) (offset : ℕ) (append : Bool) (s : ClientFiles) → UsesCached kind file s (planning.plan_here kind file offset append s)
+here_uses (kinds.Seek to) file offset append s = tt
+here_uses kinds.Size file offset append s = use_if kinds.Size file s (blocks.is_cached file s) _ _ tt tt
+here_uses (kinds.Read many) file offset append s = use_cached (kinds.Read many) file s (blocks.is_cached file s) _ _ refl (λ on. (min_below many ((blocks.state_in file s).size - offset), on)) tt
+here_uses (kinds.Write bytes) file offset append s =
+    use_if (kinds.Write bytes) file s append _ _
+    (use_cached (kinds.Write bytes) file s (blocks.is_cached file s) _ _ refl (λ on. use_if (kinds.Write bytes) file s (nat_lt s.limit ((blocks.state_in file s).size + length bytes)) _ _ tt (same_below (length bytes), on)) tt)
+    (use_if (kinds.Write bytes) file s (nat_lt s.limit (offset + length bytes)) _ _ tt (use_cached (kinds.Write bytes) file s (blocks.is_cached file s) _ _ refl (λ on. (same_below (length bytes), on)) tt))
+
+plan_uses : (place : Place) (call : DataCall) (append : Bool) (s : ClientFiles) → UsesCached call.kind call.file s (planning.plan_at place call append s)
+plan_uses (Local offset) call append s = here_uses call.kind call.file offset append s
+plan_uses Shared call append s = tt
 
 -- the operation was taken out: before it looks, with its lock, with a turn, with the first turn, and behind its run
 pub record RunsData (pid : ℕ) (call : DataCall) (Q L T F R : ClientFiles → Type 0) : Type 0 where
@@ -60,14 +118,14 @@ pub record RunsData (pid : ℕ) (call : DataCall) (Q L T F R : ClientFiles → T
   pub waits_lock : (s : ClientFiles) → gets_lock pid call.stream s ≡ false → Q s → R (finishing.keeps_data pid call states.WaitLock (locking.locks pid call.stream s))
   pub not_open : (s : ClientFiles) → stream_at call.stream s ≡ None → L s → R (finishing.keeps_data pid call states.WaitLock s)
   pub places : (s : ClientFiles) (place : Place) → L s → L (streams.moves_place call.stream place s)
-  pub begins_filling : (s : ClientFiles) → L s → T (fillers.begins_filling pid s)
+  pub begins_filling : (s : ClientFiles) → blocks.is_cached call.file s ≡ true → L s → T (fillers.begins_filling pid s)
   pub comes_first : (s : ClientFiles) → is_filling pid s ≡ true → T s → F s
   pub waits_turn : (s : ClientFiles) → is_filling pid s ≡ false → T s → R (finishing.keeps_data pid call states.Turn s)
   pub filled : (s : ClientFiles) → F s → L s
   pub fetches : (s : ClientFiles) (block : BlockNo) → F s → R (filling.fetches pid call block s)
   pub waits_back : (s : ClientFiles) (file : FileId) (block : BlockNo) (tx : TxNo) → current_write_back file block s ≡ Some tx → F s → R (finishing.keeps_data pid call (states.Room tx) s)
   pub sends_back : (s : ClientFiles) (file : FileId) (block : BlockNo) (number : ℕ) → F s → R (filling.sends_for_room pid call file block number s)
-  pub none_dirty : (s : ClientFiles) → write_back_next s.cache None ≡ None → F s → R (finishing.keeps_data pid call states.Turn s)
+  pub none_dirty : (s : ClientFiles) → NoRoom call s.cache → F s → R (finishing.keeps_data pid call states.Turn s)
   pub asks : (s : ClientFiles) (offset : Option ℕ) (append : Bool) → L s → R (server_ops.asks_server pid call offset append s)
   pub ends : (s : ClientFiles) (reply : Reply) → L s → R (finishing.finishes pid call.stream (says.replies pid reply s))
 
@@ -82,14 +140,14 @@ module _ (pid : ℕ) (call : DataCall) (Q L T F R : ClientFiles → Type 0) (run
   reads_cached : (extent : Extent) (s : ClientFiles) → L s → R (cached.reads_cached pid call extent s)
   reads_cached extent s p =
       let used : ClientFiles = blocks.reads call.file extent s in
-      ends_here _ (streams.moves_offset call.stream (extent.from + extent.length) used) (runs.places used (Local (extent.from + extent.length)) (block_laws.reads L (muted.no_blocks L runs.held) call.file extent s p))
+      ends_here _ (streams.moves_offset call.stream (extent.from + extent.length) used) (runs.places used (Local (extent.from + extent.length)) (block_walks.reads L (muted.blocks L runs.held) call.file extent s p))
 
   writes_cached : (extent : Extent) (s : ClientFiles) → L s → R (cached.writes_cached pid call extent s)
   writes_cached extent s p =
       let put : ClientFiles = cached.writes_bytes call extent.from s in
       let dirty : ClientFiles = backs.dirties_all call.file extent put in
       ends_here _ (streams.moves_offset call.stream (extent.from + extent.length) dirty)
-      (runs.places dirty (Local (extent.from + extent.length)) (block_laws.dirties_all L (muted.no_blocks L runs.held) call.file extent put (block_laws.writes_by L (muted.no_blocks L runs.held) call.kind call.file extent.from s p)))
+      (runs.places dirty (Local (extent.from + extent.length)) (block_walks.dirties_all L (muted.blocks L runs.held) call.file extent put (block_walks.writes_by L (muted.blocks L runs.held) call.kind call.file extent.from s p)))
 
   does_cached : (extent : Extent) (s : ClientFiles) → L s → R (cached.does_cached pid call extent s)
   does_cached extent s p = ends_if (cached.is_write call.kind) _ _ (writes_cached extent s p) (reads_cached extent s p)
@@ -98,39 +156,41 @@ module _ (pid : ℕ) (call : DataCall) (Q L T F R : ClientFiles → Type 0) (run
   waits_by (Some tx) file block number s e p = runs.waits_back s file block tx e p
   waits_by None file block number s e p = runs.sends_back s file block number p
 
-  waits_oldest : (o : Option (FileId × BlockNo × ℕ)) (s : ClientFiles) → write_back_next s.cache None ≡ o → F s → R (filling.waits_oldest o pid call s)
-  waits_oldest (Some oldest) s e p = waits_by (current_write_back oldest.0 oldest.1 s) oldest.0 oldest.1 oldest.2 s refl p
-  waits_oldest None s e p = runs.none_dirty s e p
+  waits_oldest : (o : Option (FileId × BlockNo × ℕ)) (s : ClientFiles) → write_back_next s.cache None ≡ o → (write_back_next s.cache None ≡ None → NoRoom call s.cache) → F s → R (filling.waits_oldest o pid call s)
+  waits_oldest (Some oldest) s e none p = waits_by (current_write_back oldest.0 oldest.1 s) oldest.0 oldest.1 oldest.2 s refl p
+  waits_oldest None s e none p = runs.none_dirty s (none e) p
 
-  needs_first : (o : Option BlockNo) (extent : Extent) (s : ClientFiles) → F s → R (filling.needs_first o pid call extent s)
-  needs_first (Some block) extent s p =
-      let roomy : ClientFiles = filling.makes_room call.file extent s in
-      let so : F roomy = block_laws.makes_room F (muted.no_blocks F runs.first) call.file extent s p in
-      ends_if (filling.gets_room call.file extent s) _ _ (runs.fetches roomy block so) (waits_oldest (write_back_next roomy.cache None) roomy refl so)
-  needs_first None extent s p = does_cached extent s (runs.filled s p)
+  needs_block : (b : Bool) (block : BlockNo) (extent : Extent) (s : ClientFiles) → filling.gets_room call.file extent s ≡ b → cached.missing_of call extent s ≡ Some block → extent.length ≤ moved_by call.kind → F (filling.makes_room call.file extent s)
+      → R (cond b (filling.fetches pid call block (filling.makes_room call.file extent s)) (filling.waits_for_room pid call (filling.makes_room call.file extent s)))
+  needs_block true block extent s room e short p = runs.fetches (filling.makes_room call.file extent s) block p
+  needs_block false block extent s room e short p = let roomy : ClientFiles = filling.makes_room call.file extent s in waits_oldest (write_back_next roomy.cache None) roomy refl (no_room call block extent s short room e) p
 
-  fills_own : (extent : Extent) (s : ClientFiles) → F s → R (filling.fills_own pid call extent s)
-  fills_own extent s p =
+  needs_first : (o : Option BlockNo) (extent : Extent) (s : ClientFiles) → cached.missing_of call extent s ≡ o → extent.length ≤ moved_by call.kind → F s → R (filling.needs_first o pid call extent s)
+  needs_first (Some block) extent s e short p = needs_block (filling.gets_room call.file extent s) block extent s refl e short (block_walks.makes_room F (muted.blocks F runs.first) call.file extent s p)
+  needs_first None extent s e short p = does_cached extent s (runs.filled s p)
+
+  fills_own : (extent : Extent) (s : ClientFiles) → extent.length ≤ moved_by call.kind → F s → R (filling.fills_own pid call extent s)
+  fills_own extent s short p =
       let zeroed : ClientFiles = filling.fills_zeros call.file extent s in
-      needs_first (cached.missing_of call extent zeroed) extent zeroed (block_laws.fills_zeros F (muted.no_blocks F runs.first) call.file extent s p)
+      needs_first (cached.missing_of call extent zeroed) extent zeroed refl short (block_walks.fills_zeros F (muted.blocks F runs.first) call.file extent s p)
 
-  fills_turn : (b : Bool) (extent : Extent) (s : ClientFiles) → is_filling pid s ≡ b → T s → R (cond b (filling.fills_own pid call extent s) (finishing.keeps_data pid call states.Turn s))
-  fills_turn true extent s e p = fills_own extent s (runs.comes_first s e p)
-  fills_turn false extent s e p = runs.waits_turn s e p
+  fills_turn : (b : Bool) (extent : Extent) (s : ClientFiles) → is_filling pid s ≡ b → extent.length ≤ moved_by call.kind → T s → R (cond b (filling.fills_own pid call extent s) (finishing.keeps_data pid call states.Turn s))
+  fills_turn true extent s e short p = fills_own extent s short (runs.comes_first s e p)
+  fills_turn false extent s e short p = runs.waits_turn s e p
 
-  uses_by : (o : Option BlockNo) (extent : Extent) (s : ClientFiles) → L s → R (looking.uses_by o pid call extent s)
-  uses_by (Some block) extent s p = let begun : ClientFiles = fillers.begins_filling pid s in fills_turn (is_filling pid begun) extent begun refl (runs.begins_filling s p)
-  uses_by None extent s p = does_cached extent s p
+  uses_by : (o : Option BlockNo) (extent : Extent) (s : ClientFiles) → extent.length ≤ moved_by call.kind → blocks.is_cached call.file s ≡ true → L s → R (looking.uses_by o pid call extent s)
+  uses_by (Some block) extent s short on p = let begun : ClientFiles = fillers.begins_filling pid s in fills_turn (is_filling pid begun) extent begun refl short (runs.begins_filling s on p)
+  uses_by None extent s short on p = does_cached extent s p
 
-  does : (plan : Plan) (append : Bool) (s : ClientFiles) → L s → R (looking.does plan pid call append s)
-  does (plans.Seek to) append s p = ends_here _ (streams.moves_offset call.stream to s) (runs.places s (Local to) p)
-  does plans.Refuse append s p = ends_here _ s p
-  does (plans.Ask offset) append s p = runs.asks s offset append p
-  does (plans.Tell size) append s p = ends_here _ s p
-  does (plans.Use extent) append s p = uses_by (cached.missing_of call extent s) extent s p
+  does : (plan : Plan) (append : Bool) (s : ClientFiles) → UsesCached call.kind call.file s plan → L s → R (looking.does plan pid call append s)
+  does (plans.Seek to) append s uses p = ends_here _ (streams.moves_offset call.stream to s) (runs.places s (Local to) p)
+  does plans.Refuse append s uses p = ends_here _ s p
+  does (plans.Ask offset) append s uses p = runs.asks s offset append p
+  does (plans.Tell size) append s uses p = ends_here _ s p
+  does (plans.Use extent) append s uses p = uses_by (cached.missing_of call extent s) extent s uses.0 uses.1 p
 
   looks_by : (o : Option Stream) (s : ClientFiles) → stream_at call.stream s ≡ o → L s → R (looking.looks_by o pid call s)
-  looks_by (Some stream) s e p = does (plan_of call stream s) stream.append s p
+  looks_by (Some stream) s e p = does (plan_of call stream s) stream.append s (plan_uses stream.place call stream.append s) p
   looks_by None s e p = runs.not_open s e p
 
   looks_if : (b : Bool) (s : ClientFiles) → gets_lock pid call.stream s ≡ b → Q s
@@ -145,7 +205,7 @@ module _ (pid : ℕ) (call : DataCall) (Q L T F R : ClientFiles → Type 0) (run
   -- Answers
 
   takes_block : (body : ReplyBody) (block : BlockNo) (s : ClientFiles) → Q s → Q (replied.takes_block call.file block body s)
-  takes_block (bodies.Block stamp bytes) block s p = block_laws.fills Q (muted.no_blocks Q runs.quiet) call.file stamp block bytes s p
+  takes_block (bodies.Block stamp bytes) block s p = block_walks.fills Q (muted.blocks Q runs.quiet) call.file stamp block bytes s p
   takes_block (bodies.Again grant) block s p = muted.takes_grant Q runs.quiet grant s p
   takes_block body block s p = p
 

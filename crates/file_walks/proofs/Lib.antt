@@ -1,3 +1,5 @@
+pub mod Caches
+pub mod BlockWalks
 pub mod Muted
 pub mod DataWalks
 pub mod CloseWalks

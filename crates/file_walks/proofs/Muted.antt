@@ -1,4 +1,4 @@
--- What goes round beside each fact of the files' side of a client's kernel that sees neither cached blocks nor what is told.
+-- What each fact of the files' side of a client's kernel keeps that each call of the cache keeps, and that sees nothing that is told.
 use Rattle.std.proofs.Common.{ℕ, Bool, true, false, cond, List, [], ◌∷◌, Option, Some, None}
 use Rattle.std.specs.List.{list_any}
 use Rattle.sprite_ids.specs.declared.BlockNo.{BlockNo}
@@ -17,7 +17,7 @@ use Rattle.unix_calls.specs.declared.Event.{Event}
 use Rattle.unix_calls.specs.declared.Event.TheVariants as events
 use Rattle.block_cache.specs.Files as cached_files
 use Rattle.block_cache.specs.Held as held
-use Rattle.block_cache.specs.Held.{Held, is_newer, is_written_back}
+use Rattle.block_cache.specs.Held.{is_newer, is_written_back}
 use Rattle.prefix_table.specs.declared.prefixes.Domain.{Domain}
 use Rattle.prefix_table.specs.Prefixes.{knows, learned}
 use Rattle.stream_table.specs.declared.Carried.{Carried}
@@ -37,13 +37,14 @@ use Rattle.client_names.specs.Lookups as lookups
 use Rattle.client_names.specs.Making.{counts_stream}
 use Rattle.client_files.specs.Arrivals as arrivals
 use Rattle.client_files.specs.Asked as asked
-use Rattle.client_facts.proofs.BlockLaws as block_laws
-use Rattle.client_facts.proofs.BlockLaws.{SeesNoBlocks}
+use Rattle.file_walks.proofs.BlockWalks as block_walks
+use Rattle.file_walks.proofs.BlockWalks.{BearsBlocks}
+use Rattle.file_walks.proofs.Caches.{CacheCall, CallsBack, Grants, Settles, after}
 
--- a fact of the files' side that sees no cached block, none that is listed, nothing that is told or answered, no prefix, no working directory,
--- and no number of a stream
+-- a fact of the files' side that each call of the cache keeps, and that sees no block that is listed, nothing that is told or answered, no prefix,
+-- no working directory, and no number of a stream
 pub record Mute (P : ClientFiles → Type 0) : Type 0 where
-  pub caches : (s : ClientFiles) (cache : Held) → P s → P (with_cache cache s)
+  pub caches : (s : ClientFiles) (call : CacheCall) → P s → P (with_cache (after call s.cache) s)
   pub delays : (s : ClientFiles) (rows : List (DelayedBlock × ℕ)) → P s → P (record s { delay = rows })
   pub tells : (s : ClientFiles) (event : Event) → P s → P (says.notes event s)
   pub answers : (s : ClientFiles) (tx : TxNo) (body : ReplyBody) → P s → P (says.answers tx body s)
@@ -56,8 +57,8 @@ module _ (P : ClientFiles → Type 0) (mute : Mute P) where
   on_if true s t p q = p
   on_if false s t p q = q
 
-  pub no_blocks : SeesNoBlocks P
-  no_blocks = record {
+  pub blocks : BearsBlocks P
+  blocks = record {
     caches = mute.caches;
     lists = λ s file block p. mute.delays s _ p;
     filled = λ s file block p. mute.tells s (events.Filled file block) p;
@@ -79,11 +80,12 @@ module _ (P : ClientFiles → Type 0) (mute : Mute P) where
 
   pub takes_grant : (grant : Grant) (s : ClientFiles) → P s → P (grants.takes_grant grant s)
   takes_grant grant s p =
-      let newer : ClientFiles = with_cache (held.after_grant s.cache grant) s in
-      let event : Event = events.Mode grant.file grant.stamp (grants.mode_of_grant grant.on) in
+      let taken : Grant = grants.usable s.cache grant in
+      let newer : ClientFiles = with_cache (held.after_grant s.cache taken) s in
+      let event : Event = events.Mode taken.file taken.stamp (grants.mode_of_grant taken.on) in
       let told : ClientFiles = says.notes event newer in
-      let so : P told = mute.tells newer event (mute.caches s _ p) in
-      on_if (is_newer s.cache grant) _ s (on_if (cached_files.keeps (state_in grant.file s) grant) told _ so (drops_all (grants.held_in grant.file s) grant.file (grants.cause_of_grant grant.on) told so)) p
+      let so : P told = mute.tells newer event (mute.caches s (Grants grant) p) in
+      on_if (is_newer s.cache taken) _ s (on_if (cached_files.keeps (state_in taken.file s) taken) told _ so (drops_all (grants.held_in taken.file s) taken.file (grants.cause_of_grant taken.on) told so)) p
 
   pub takes_some : (o : Option Grant) (s : ClientFiles) → P s → P (asked.takes_some o s)
   takes_some (Some grant) s p = takes_grant grant s p
@@ -98,7 +100,7 @@ module _ (P : ClientFiles → Type 0) (mute : Mute P) where
       let taken : ClientFiles = grants.takes_callback r s in
       let noted : ClientFiles = grants.notes_mode r.file r.stamp taken in
       let settled : ClientFiles = grants.settles_called r.kind r.file (grants.dirty_in r.file s) (grants.held_in r.file s) noted in
-      mute.answers settled tx _ (settles_called r.kind r.file (grants.dirty_in r.file s) (grants.held_in r.file s) noted (mute.tells taken (events.Mode r.file r.stamp _) (mute.caches s _ p)))
+      mute.answers settled tx _ (settles_called r.kind r.file (grants.dirty_in r.file s) (grants.held_in r.file s) noted (mute.tells taken (events.Mode r.file r.stamp _) (mute.caches s (CallsBack r.file r.stamp r.kind) p)))
 
   -- Write-backs that are answered
 
@@ -107,10 +109,10 @@ module _ (P : ClientFiles → Type 0) (mute : Mute P) where
 
   pub settles_back : (body : ReplyBody) (back : WriteBackOut) (s : ClientFiles) → P s → P (written.settles_back body back s)
   settles_back (bodies.Again grant) back s p = takes_grant grant s p
-  settles_back body back s p = notes_back (is_written_back s.cache back.file back.stamp back.block.0 back.number) back (with_cache _ s) (mute.caches s _ p)
+  settles_back body back s p = notes_back (is_written_back s.cache back.file back.stamp back.block.0 back.number) back (with_cache (after (Settles back.file back.stamp back.block.0 back.number) s.cache) s) (mute.caches s (Settles back.file back.stamp back.block.0 back.number) p)
 
   pub lists_again : (o : Option ℕ) (file : FileId) (block : BlockNo) (s : ClientFiles) → P s → P (written.lists_by o file block s)
-  lists_again (Some number) file block s p = on_if (listed s.delay file block) s _ p (block_laws.lists_free P no_blocks file block s p)
+  lists_again (Some number) file block s p = on_if (listed s.delay file block) s _ p (block_walks.lists_free P blocks file block s p)
   lists_again None file block s p = p
 
   -- Prefixes and working directories

@@ -1,6 +1,9 @@
--- Which answers and ends of remote calls an operation of the files' side takes: what a server answers, and what a kernel gives up.
-use Rattle.std.specs.Prelude.{◌≡◌, ℕ, Bool, true, false, ◌||◌, not, List, Option, Some, None}
+-- Which answers and ends of remote calls an operation of the files' side takes: what a server answers, and what a kernel gives up; and how many bytes
+-- it moves.
+use Rattle.std.specs.Prelude.{◌≡◌, ℕ, Bool, true, false, ◌||◌, not, List, length, Option, Some, None}
 use Rattle.sprite_ids.specs.declared.TxNo.{TxNo}
+use Rattle.process_machine.specs.declared.Call.{Call}
+use Rattle.process_machine.specs.declared.Call.TheVariants as calls
 use Rattle.packet_bodies.specs.declared.ReplyBody.{ReplyBody}
 use Rattle.packet_bodies.specs.declared.ReplyBody.TheVariants as replies
 use Rattle.kernel_steps.specs.declared.Input.{Input}
@@ -17,6 +20,8 @@ use Rattle.client_file_tables.specs.declared.states.CloseState.{CloseState}
 use Rattle.client_file_tables.specs.declared.states.CloseState.TheVariants as closes
 use Rattle.client_file_tables.specs.declared.states.MoveState.{MoveState}
 use Rattle.client_file_tables.specs.declared.states.MoveState.TheVariants as moves
+use Rattle.client_file_tables.specs.declared.works.DataKind.{DataKind}
+use Rattle.client_file_tables.specs.declared.works.DataKind.TheVariants as kinds
 use Rattle.client_file_tables.specs.Rows.{first_call, first_of, same_call}
 use Rattle.client_facts.specs.FileFacts.{is_that_call, own_call}
 
@@ -90,3 +95,21 @@ begins_so (operations.Move work) = false
 abbrev pub LeadsThere : List Owner → ℕ → Pending → Type 0
 LeadsThere owners pid (operations.Data call) = descriptor owners pid call.fd ≡ Some call.stream
 LeadsThere owners pid _ = Unit {0}
+
+-- how many bytes an operation on a file's data moves at most
+abbrev pub moved_by : DataKind → ℕ
+moved_by (kinds.Read many) = many
+moved_by (kinds.Write bytes) = length bytes
+moved_by (kinds.Seek to) = 0
+moved_by kinds.Size = 0
+
+-- and how many any operation does
+abbrev pub moved_of : Pending → ℕ
+moved_of (operations.Data call) = moved_by call.kind
+moved_of _ = 0
+
+-- how many bytes of a file a call moves at most
+abbrev pub moved_in : Call → ℕ
+moved_in (calls.Read fd many) = many
+moved_in (calls.Write fd bytes) = length bytes
+moved_in _ = 0

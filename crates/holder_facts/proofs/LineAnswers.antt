@@ -92,7 +92,7 @@ call_runs pid = record {
 -- An answer to an operation's own call, where nobody is woken: its row is taken off, and the operation out
 
 module _ (s : ClientFiles) (tx : TxNo) (pid : ℕ) (quiet : s.ready ≡ []) (once : OneOperationEach s) (b : locked_by.Holds s) (d : queued.Holds s) (r : rank_runs.Holds s) (p : Lines s) where
-  abbrev left : ClientFiles
+  abbrev pub left : ClientFiles
   left = record s { txs = less_call tx s.txs; pending = less_of pid s.pending }
 
   none : list_any (is_under same_pid pid) (less_of pid s.pending) ≡ false
@@ -105,7 +105,7 @@ module _ (s : ClientFiles) (tx : TxNo) (pid : ℕ) (quiet : s.ready ≡ []) (onc
   back_again : (operation : Pending) → first_of pid s.pending ≡ Some operation → Lines (steps.keeps pid operation left)
   back_again operation e = lines.back_lined s.pending s.streams.owners s.lock_waits s.ready pid operation none e p
 
-  out_so : (operation : Pending) → first_of pid s.pending ≡ Some operation → wanted_in s.streams.owners pid operation ≡ None → Lines left
+  pub out_so : (operation : Pending) → first_of pid s.pending ≡ Some operation → wanted_in s.streams.owners pid operation ≡ None → Lines left
   out_so operation found idle = lines.idle_out s.pending s.streams.owners s.lock_waits s.ready pid operation none found idle p
 
   none_out : first_of pid s.pending ≡ None → Lines left
@@ -120,21 +120,28 @@ module _ (s : ClientFiles) (tx : TxNo) (pid : ℕ) (quiet : s.ready ≡ []) (onc
   desk_at : (call : DataCall) → first_of pid s.pending ≡ Some (operations.Data call) → queued.HoldsAt pid call left
   desk_at call o = record { off = record { sound = desks.taken_out (desk_of s) pid d; none = none }; leads = (found_each (Settled s.streams.owners s.lock_waits s.ready) pid s.pending (operations.Data call) d.rows o).leads }
 
-  looks_at : (call : DataCall) → first_of pid s.pending ≡ Some (operations.Data call) → Looks pid call left
+  pub looks_at : (call : DataCall) → first_of pid s.pending ≡ Some (operations.Data call) → Looks pid call left
   looks_at call o = (
     (board_off, (desk_at call o, (ranks.rank_out pid s.pending s.fillers r, rank_runs.looks_so s left pid call o refl refl (fine_of (operations.Data call) o) r))),
     (lines.taken_out s.pending s.streams.owners s.lock_waits s.ready pid none p, runs.looks_own s.pending s.streams.owners s.lock_waits s.ready pid call o p),
   )
 
+  -- one that is done at the server has its lock
+  pub locks_at : (t : TxNo) (call : DataCall) → call.state ≡ states.AtServer t → first_of pid s.pending ≡ Some (operations.Data call) → Locks pid call left
+  locks_at t call e o = (
+    (record { off = board_off; lock = (fine_of (operations.Data call) o).lock call.stream (ap (λ (state : DataState). data_holds state call.stream) e) }, (desk_at call o, ranks.rank_out pid s.pending s.fillers r)),
+    out_so (operations.Data call) o (ap (λ (state : DataState). data_wants state call.stream) e),
+  )
+
+  -- and so has one that is closed there
+  pub closes_at : (t : TxNo) (stream : StreamNo) (work : CloseWork) → work.state ≡ closes.Closing t stream → first_of pid s.pending ≡ Some (operations.Close work) → ClosesLocked pid stream left
+  closes_at t stream work e o = (record { off = board_off; lock = (fine_of (operations.Close work) o).lock stream (ap close_holds e) }, (out_so (operations.Close work) o (ap (λ (state : CloseState). close_wants_in s.streams.owners pid state work.fds) e), sleeps))
+
   data_heard : (state : DataState) (call : DataCall) (body : ReplyBody) → call.state ≡ state → first_of pid s.pending ≡ Some (operations.Data call) → Lines (replied.answered_in state pid call body left)
   data_heard (states.Fetching t block) call body e o =
       data_walks.fetched pid call (Looks pid call) (Locks pid call) (Locks pid call) (Fills pid call) Lines (data_runs pid call) block body left (looks_at call o)
   data_heard (states.AtServer t) call body e o =
-      data_walks.served pid call (Looks pid call) (Locks pid call) (Locks pid call) (Fills pid call) Lines (data_runs pid call) body left (looks_at call o) (
-        (record { off = board_off; lock = (fine_of (operations.Data call) o).lock call.stream (ap (λ (state : DataState). data_holds state call.stream) e) }, (desk_at call o, ranks.rank_out pid s.pending s.fillers r)),
-        out_so (operations.Data call) o (ap (λ (state : DataState). data_wants state call.stream) e),
-      )
-      (λ never. back_again (operations.Data call) o)
+      data_walks.served pid call (Looks pid call) (Locks pid call) (Locks pid call) (Fills pid call) Lines (data_runs pid call) body left (looks_at call o) (locks_at t call e o) (λ never. back_again (operations.Data call) o)
   data_heard states.WaitLock call body e o = back_again (operations.Data call) o
   data_heard states.Turn call body e o = back_again (operations.Data call) o
   data_heard (states.Room other) call body e o = back_again (operations.Data call) o
@@ -142,13 +149,8 @@ module _ (s : ClientFiles) (tx : TxNo) (pid : ℕ) (quiet : s.ready ≡ []) (onc
   close_heard : (state : CloseState) (work : CloseWork) → work.state ≡ state → first_of pid s.pending ≡ Some (operations.Close work) → Lines (closing.close_answers_by (closing.closed_at_server state) pid work left)
   close_heard closes.WaitLock work e o = back_again (operations.Close work) o
   close_heard (closes.Closing t stream) work e o =
-      close_walks.closes_on pid work.of (Closes pid) (ClosesLocked pid) Lines (close_runs pid work.of) work (locking.unlocks stream left) refl (lock_runs.unlocks left pid stream held, runs.frees_so left pid stream (held, (out_so (operations.Close work) o idle, sleeps)))
-    where
-      held : locked_by.HoldsLocked pid stream left
-      held = record { off = board_off; lock = (fine_of (operations.Close work) o).lock stream (ap close_holds e) }
-
-      idle : wanted_in s.streams.owners pid (operations.Close work) ≡ None
-      idle = ap (λ (state : CloseState). close_wants_in s.streams.owners pid state work.fds) e
+      let held : ClosesLocked pid stream left = closes_at t stream work e o in
+      close_walks.closes_on pid work.of (Closes pid) (ClosesLocked pid) Lines (close_runs pid work.of) work (locking.unlocks stream left) refl (lock_runs.unlocks left pid stream held.0, runs.frees_so left pid stream held)
 
   move_moved : (state : MoveState) (work : MoveWork) (grant : Option Grant) (many : ℕ) → work.state ≡ state → first_of pid s.pending ≡ Some (operations.Move work) → Lines (moving.move_answers_by (moving.moved_out state) pid work grant many left)
   move_moved moves.WaitLock work grant many e o = back_again (operations.Move work) o

@@ -79,14 +79,14 @@ use Rattle.holder_facts.proofs.LineRuns.{Lines, going_on_keeps}
 
 -- Outside the turns of the files' side, who is woken has an operation
 
-abbrev Awake : List (ℕ × Pending) → List ℕ → Type 0
+abbrev pub Awake : List (ℕ × Pending) → List ℕ → Type 0
 Awake rows ready = (pid : ℕ) → list_any (is_under same_pid pid) rows ≡ false → times pid ready ≡ 0
 
 -- where each process has one operation at most
-abbrev FreshIn : List (ℕ × Pending) → List Owner → List (StreamNo × ℕ) → List ℕ → Type 0
+abbrev pub FreshIn : List (ℕ × Pending) → List Owner → List (StreamNo × ℕ) → List ℕ → Type 0
 FreshIn rows owners waits ready = EachOnce same_process rows → (Lined rows owners waits ready) × (Awake rows ready)
 
-abbrev Fresh : ClientFiles → Type 0
+abbrev pub Fresh : ClientFiles → Type 0
 Fresh s = FreshIn s.pending s.streams.owners s.lock_waits s.ready
 
 any_split : {X : Type 0} (p : X → Bool) (xs : List X) (x : X) → list_any p (xs ++ x ∷ []) ≡ false → (list_any p xs ≡ false) × (p x ≡ false)
@@ -94,20 +94,20 @@ any_split p xs x e =
     let parts = or_false (list_any p xs) (list_any p (x ∷ [])) (sym (list_any-append p xs (x ∷ [])) ∙ e) in
     (parts.0, (or_false (p x) false parts.1).0)
 
-once_split : (rows : List (ℕ × Pending)) (pid : ℕ) (operation : Pending) → EachOnce same_process (rows ++ (pid, operation) ∷ []) → (EachOnce same_process rows) × (list_any (is_under same_pid pid) rows ≡ false)
+pub once_split : (rows : List (ℕ × Pending)) (pid : ℕ) (operation : Pending) → EachOnce same_process (rows ++ (pid, operation) ∷ []) → (EachOnce same_process rows) × (list_any (is_under same_pid pid) rows ≡ false)
 once_split [] pid operation once = (tt, refl)
 once_split (row ∷ rows) pid operation once =
     let first = any_split (same_process row) rows (pid, operation) once.0 in
     let rest = once_split rows pid operation once.1 in
     ((first.0, rest.0), ap (λ (b : Bool). b || list_any (is_under same_pid pid) rows) (eq_turned row.0 pid ∙ first.1) ∙ rest.1)
 
-fresh_push : (rows : List (ℕ × Pending)) (owners : List Owner) (waits : List (StreamNo × ℕ)) (ready : List ℕ) (pid : ℕ) (operation : Pending) → FreshIn rows owners waits ready → FreshIn (rows ++ (pid, operation) ∷ []) owners waits ready
+pub fresh_push : (rows : List (ℕ × Pending)) (owners : List Owner) (waits : List (StreamNo × ℕ)) (ready : List ℕ) (pid : ℕ) (operation : Pending) → FreshIn rows owners waits ready → FreshIn (rows ++ (pid, operation) ∷ []) owners waits ready
 fresh_push rows owners waits ready pid operation p once =
     let parts = once_split rows pid operation once in
     let q = p parts.0 in
     (lines.pushed_lined rows owners waits ready pid operation parts.1 (λ moves. q.1 pid parts.1) q.0, λ other none. q.1 other (any_split (is_under same_pid other) rows (pid, operation) none).0)
 
-fresh_start : (rows : List (ℕ × Pending)) (owners : List Owner) (waits : List (StreamNo × ℕ)) (ready : List ℕ) (pid : ℕ) (operation : Pending) → FreshIn rows owners waits ready → FreshIn (rows ++ (pid, operation) ∷ []) owners waits (ready ++ pid ∷ [])
+pub fresh_start : (rows : List (ℕ × Pending)) (owners : List Owner) (waits : List (StreamNo × ℕ)) (ready : List ℕ) (pid : ℕ) (operation : Pending) → FreshIn rows owners waits ready → FreshIn (rows ++ (pid, operation) ∷ []) owners waits (ready ++ pid ∷ [])
 fresh_start rows owners waits ready pid operation p once =
     let parts = once_split rows pid operation once in
     let q = p parts.0 in (
@@ -122,7 +122,7 @@ on_if : (b : Bool) (s t : ClientFiles) → Fresh s → Fresh t → Fresh (cond b
 on_if true s t p q = p
 on_if false s t p q = q
 
-call_runs : (pid : ℕ) → RunsCall pid Fresh Fresh
+pub call_runs : (pid : ℕ) → RunsCall pid Fresh Fresh
 call_runs pid = record {
   quiet = mute;
   adds = λ s number stream p. on_if (is_placed stream) (record s { streams = added s.streams pid number stream }) s (λ once. (with_table s (added s.streams pid number stream) (keeps_added s.streams pid number stream) (p once).0, (p once).1)) p;
@@ -135,7 +135,7 @@ call_runs pid = record {
   lost = λ s p. p;
 }
 
-not_used : (b : Bool) → not b ≡ true → b ≡ false
+pub not_used : (b : Bool) → not b ≡ true → b ≡ false
 not_used true e = absurd (cc)
 not_used false e = refl
 
@@ -156,7 +156,7 @@ takes_carried : (list : List CarriedStream) (s : ClientFiles) → Fresh s → Fr
 takes_carried [] s p = p
 takes_carried (stream ∷ list) s p = takes_carried list (asked.takes_some stream.grant s) (muted.takes_some Fresh mute stream.grant s p)
 
-unused_by : (b c d : Bool) → cond (b || not c) false d ≡ true → b ≡ false
+pub unused_by : (b c d : Bool) → cond (b || not c) false d ≡ true → b ≡ false
 unused_by true c d e = absurd (cc)
 unused_by false c d e = refl
 
@@ -165,14 +165,14 @@ puts_streams pid items s p = by_test (arrivals.can_arrive pid items s) refl
   where
     by_test : (b : Bool) → arrivals.can_arrive pid items s ≡ b → Fresh (cond b (record s { streams = arriving s.streams pid items }) s)
     by_test true e = λ once.
-        let none : is_used (numbers_of s.streams.owners pid) ≡ false = unused_by (is_used (numbers_of s.streams.owners pid)) (arrivals.are_apart items) (list_all arrivals.is_fit items) e in
+        let none : is_used (numbers_of s.streams.owners pid) ≡ false = unused_by (is_used (numbers_of s.streams.owners pid)) (arrivals.are_apart items) (list_all arrivals.is_fit items && list_all (arrivals.is_known_so s.streams.entries) items) e in
         (with_table s (arriving s.streams pid items) (keeps_arriving items s.streams pid none) (p once).0, (p once).1)
     by_test false e = p
 
 arrives : (pid : ℕ) (cwd : List (List ℕ)) (list : List CarriedStream) (items : List Carried) (s : ClientFiles) → Fresh s → Fresh (arrivals.arrives pid cwd list items s)
 arrives pid cwd list items s p = puts_streams pid items (streams.sets_cwd pid cwd (arrivals.takes_carried list s)) (muted.sets_cwd Fresh mute pid cwd (arrivals.takes_carried list s) (takes_carried list s p))
 
-side : (came : Input) → BearsSide came Fresh
+pub side : (came : Input) → BearsSide came Fresh
 side came = record {
   tells = λ s event e p. p;
   enters = λ s entry cause p. p;
@@ -186,7 +186,7 @@ side came = record {
   forks = λ s parent child p. forks s parent child p;
   takes_report = λ s rest p. p;
   takes_reply = λ s rest p. p;
-  issues = λ s about call device p. call_walks.issues (λ (pid : ℕ). Fresh) Fresh call_runs about call device s p;
+  issues = λ s about call device e p. call_walks.issues (λ (pid : ℕ). Fresh) Fresh call_runs about call device s p;
   called_back = λ s tx request p. muted.called_back Fresh mute tx request s p;
   due_goes = λ s file block p. due_by (dirty_at s.cache.blocks file block.0) file block s p;
   arrives = λ s pid cwd list items p. arrives pid cwd list items s p;
@@ -264,7 +264,7 @@ line_at s (row ∷ rest) stream pid all stands =
     by_case later waits (inr there) = later there
 
 -- at first
-begun : (s : ClientFiles) → s.ready ≡ [] → list_all (is_waiting s) s.lock_waits ≡ true → Fresh s
+pub begun : (s : ClientFiles) → s.ready ≡ [] → list_all (is_waiting s) s.lock_waits ≡ true → Fresh s
 begun s quiet all = λ once. (
   record {
     waiting = λ stream pid e. line_at s s.lock_waits stream pid all e;

@@ -125,7 +125,7 @@ waits_so P s pid stream e p q = by_test (gets_lock pid stream s) e
     by_test false f = waits_if (list_any (is_row same_stream same_pid stream pid) s.lock_waits)
 
 -- the last of a queue is the one that came
-stands_more : (waits : List (StreamNo × ℕ)) (stream other : StreamNo) (pid last : ℕ) → stands_by pid other (waits ++ (stream, last) ∷ []) ≡ true → (stands_by pid other waits ≡ true) ⊎ ((last ≡ pid) × (other ≡ stream))
+pub stands_more : (waits : List (StreamNo × ℕ)) (stream other : StreamNo) (pid last : ℕ) → stands_by pid other (waits ++ (stream, last) ∷ []) ≡ true → (stands_by pid other waits ≡ true) ⊎ ((last ≡ pid) × (other ≡ stream))
 stands_more [] stream other pid last e = by_case (or_cases (is_row same_stream same_pid other pid (stream, last)) false e)
   where
     by_case : (is_row same_stream same_pid other pid (stream, last) ≡ true) ⊎ (false ≡ true) → (stands_by pid other [] ≡ true) ⊎ ((last ≡ pid) × (other ≡ stream))
@@ -202,7 +202,7 @@ wakes_next s pid first rest e r p =
     calm : (operation : Pending) → first_of first s.pending ≡ Some operation → closes_or_moves operation ≡ false
     calm operation found = calm_filler operation (sym (ap (does is_filler) found) ∙ needs)
 
-left_lines : (s : ClientFiles) (pid : ℕ) → RankedBut pid s.pending s.fillers → Lines s → Lines (fillers.leaves_filling pid s)
+pub left_lines : (s : ClientFiles) (pid : ℕ) → RankedBut pid s.pending s.fillers → Lines s → Lines (fillers.leaves_filling pid s)
 left_lines s pid r p = left_so Lined s pid p (λ first rest e. wakes_next s pid first rest e r p)
 
 pub moves_place : (s : ClientFiles) (number : StreamNo) (place : Place) → Lines s → Lines (streams.moves_place number place s)
@@ -253,7 +253,7 @@ data_runs pid call = record {
   waits_lock = λ s e p. joins s pid call.stream (operations.Data (record call { state = states.WaitLock })) p.0.0.none (λ moves. absurd (cc)) refl e p.1.1 p.1.0;
   not_open = λ s e p. absurd (let never = leads_open s.streams pid call.fd call.stream p.0.1.0.off.sound.lawful p.0.1.0.leads e in cc);
   places = λ s place p. ((rank_runs.data_runs pid call).places s place p.0, moves_place s call.stream place p.1);
-  begins_filling = λ s p. ((rank_runs.data_runs pid call).begins_filling s p.0, on_if _ s _ p.1 p.1);
+  begins_filling = λ s on p. ((rank_runs.data_runs pid call).begins_filling s on p.0, on_if _ s _ p.1 p.1);
   comes_first = λ s e p. ((rank_runs.data_runs pid call).comes_first s e p.0, p.1);
   waits_turn = λ s e p. keeps_data s pid (record call { state = states.Turn }) p.0.0.off.none p.1;
   filled = λ s p. (p.0.0, p.1);
@@ -394,7 +394,7 @@ pub record Turned (s : ClientFiles) : Type 0 where
   pub lined : Lines s
 
 module _ (pid : ℕ) (pids : List ℕ) (s : ClientFiles) (e : s.ready ≡ pid ∷ pids) (t : Turned s) where
-  abbrev left : ClientFiles
+  abbrev pub left : ClientFiles
   left = record s { ready = pids; pending = less_of pid s.pending }
 
   none : list_any (is_under same_pid pid) (less_of pid s.pending) ≡ false
@@ -412,26 +412,33 @@ module _ (pid : ℕ) (pids : List ℕ) (s : ClientFiles) (e : s.ready ≡ pid �
   out_so : (operation : Pending) → first_of pid s.pending ≡ Some operation → wanted_in s.streams.owners pid operation ≡ None → Lines left
   out_so operation found idle = lines.idle_out s.pending s.streams.owners s.lock_waits pids pid operation none found idle looked
 
+  -- one on a file's data that looks
+  pub looks_out : (call : DataCall) → first_of pid s.pending ≡ Some (operations.Data call) → Looks pid call left
+  looks_out call found = (
+    (
+      board_off,
+      (
+        record { off = wait_runs.left_so pid pids s e t.ranks.waits.once t.ranks.waits.holds; leads = (found_each (Settled s.streams.owners s.lock_waits s.ready) pid s.pending (operations.Data call) t.ranks.waits.holds.rows found).leads },
+        (
+          ranks.rank_out pid s.pending s.fillers t.ranks.ranked,
+          rank_runs.looks_so s left pid call found refl refl (found_each (Fine s.streams.entries s.fillers) pid s.pending (operations.Data call) t.ranks.locks.holds.rows found) t.ranks.ranked,
+        ),
+      ),
+    ),
+    (lines.taken_out s.pending s.streams.owners s.lock_waits pids pid none looked, looks_own s.pending s.streams.owners s.lock_waits pids pid call found looked),
+  )
+
+  -- one that closes or moves a stream
+  pub closes_left : (operation : Pending) → first_of pid s.pending ≡ Some operation → closes_or_moves operation ≡ true → Closes pid left
+  closes_left operation found moves = (board_off, woken_out s.pending s.streams.owners s.lock_waits pid pids operation none found moves woken)
+
   ran_at : (o : Option Pending) → first_of pid s.pending ≡ o → Lines (turning.runs_by o pid left)
   ran_at None found = lines.still_lined (less_of pid s.pending) s.streams.owners s.lock_waits pids pid (λ stream stands. absurd (let line = (looked.waiting stream pid stands).found in let both = sym line ∙ found in cc)) (lines.taken_out s.pending s.streams.owners s.lock_waits pids pid none looked)
   ran_at (Some (operations.Name call)) found = idle_push left pid (operations.Name call) none refl (out_so (operations.Name call) found refl)
-  ran_at (Some (operations.Data call)) found =
-      data_walks.looks pid call (Looks pid call) (Locks pid call) (Locks pid call) (Fills pid call) Lines (data_runs pid call) left (
-        (
-          board_off,
-          (
-            record { off = wait_runs.left_so pid pids s e t.ranks.waits.once t.ranks.waits.holds; leads = (found_each (Settled s.streams.owners s.lock_waits s.ready) pid s.pending (operations.Data call) t.ranks.waits.holds.rows found).leads },
-            (
-              ranks.rank_out pid s.pending s.fillers t.ranks.ranked,
-              rank_runs.looks_so s left pid call found refl refl (found_each (Fine s.streams.entries s.fillers) pid s.pending (operations.Data call) t.ranks.locks.holds.rows found) t.ranks.ranked,
-            ),
-          ),
-        ),
-        (lines.taken_out s.pending s.streams.owners s.lock_waits pids pid none looked, looks_own s.pending s.streams.owners s.lock_waits pids pid call found looked),
-      )
+  ran_at (Some (operations.Data call)) found = data_walks.looks pid call (Looks pid call) (Locks pid call) (Locks pid call) (Fills pid call) Lines (data_runs pid call) left (looks_out call found)
   ran_at (Some (operations.Sync call)) found = data_walks.syncs pid (Off pid) Lines (sync_runs pid) call left (out_so (operations.Sync call) found refl, none)
-  ran_at (Some (operations.Close work)) found = ran_close_by work.state pid work left refl (board_off, woken_out s.pending s.streams.owners s.lock_waits pid pids (operations.Close work) none found refl woken)
-  ran_at (Some (operations.Move work)) found = ran_move_by work.state pid work left refl (board_off, woken_out s.pending s.streams.owners s.lock_waits pid pids (operations.Move work) none found refl woken)
+  ran_at (Some (operations.Close work)) found = ran_close_by work.state pid work left refl (closes_left (operations.Close work) found refl)
+  ran_at (Some (operations.Move work)) found = ran_move_by work.state pid work left refl (closes_left (operations.Move work) found refl)
 
 lined_by : (pids : List ℕ) (s : ClientFiles) → s.ready ≡ pids → Turned s → Lines (turning.turned_by pids s)
 lined_by [] s e t = t.lined
@@ -440,7 +447,7 @@ lined_by (pid ∷ pids) s e t = ran_at pid pids s e t (first_of pid s.pending) r
 ranks_by : (pids : List ℕ) (s : ClientFiles) → s.ready ≡ pids → rank_runs.Turned s → rank_runs.Turned (turning.turned_by pids s)
 ranks_by pids s e t = record { locks = lock_runs.turned_by pids s t.locks; waits = wait_runs.turned_by pids s e t.waits; ranked = rank_runs.ranked_by pids s e t }
 
-turns : (count : ℕ) (s : ClientFiles) → Turned s → Turned (turning.turns count s)
+pub turns : (count : ℕ) (s : ClientFiles) → Turned s → Turned (turning.turns count s)
 turns zero s t = t
 turns (suc count) s t =
     let before : ClientFiles = turning.turns count s in

@@ -57,7 +57,7 @@ found_by : (row : ℕ × Pending) (o p : Option (ℕ × Pending)) (operation : P
 found_by row o p operation true later e = e
 found_by row o p operation false later e = later e
 
-found_push : (pid : ℕ) (rows : List (ℕ × Pending)) (x : ℕ × Pending) (operation : Pending) → first_of pid rows ≡ Some operation → first_of pid (rows ++ x ∷ []) ≡ Some operation
+pub found_push : (pid : ℕ) (rows : List (ℕ × Pending)) (x : ℕ × Pending) (operation : Pending) → first_of pid rows ≡ Some operation → first_of pid (rows ++ x ∷ []) ≡ Some operation
 found_push pid [] x operation e = absurd (cc)
 found_push pid (row ∷ rest) x operation e = found_by row (find (is_under same_pid pid) rest) (find (is_under same_pid pid) (rest ++ x ∷ [])) operation (row.0 == pid) (found_push pid rest x operation) e
 
@@ -65,7 +65,7 @@ same_by : (row : ℕ × Pending) (o p : Option (ℕ × Pending)) (b : Bool) → 
 same_by row o p true e = refl
 same_by row o p false e = e
 
-first_other : (pid other : ℕ) (rows : List (ℕ × Pending)) (operation : Pending) → (pid == other) ≡ false → first_of pid (rows ++ (other, operation) ∷ []) ≡ first_of pid rows
+pub first_other : (pid other : ℕ) (rows : List (ℕ × Pending)) (operation : Pending) → (pid == other) ≡ false → first_of pid (rows ++ (other, operation) ∷ []) ≡ first_of pid rows
 first_other pid other [] operation apart = ap (λ (b : Bool). values (cond b (Some (other, operation)) None)) (eq_turned other pid ∙ apart)
 first_other pid other (row ∷ rest) operation apart = same_by row (find (is_under same_pid pid) (rest ++ (other, operation) ∷ [])) (find (is_under same_pid pid) rest) (row.0 == pid) (first_other pid other rest operation apart)
 
@@ -76,14 +76,14 @@ first_none pid (row ∷ rest) none =
     ap (λ (b : Bool). values (cond b (Some row) (find (is_under same_pid pid) rest))) parts.0 ∙ first_none pid rest parts.1
 
 -- what is found is found again where it is put back
-back_by : (pid other : ℕ) (rows : List (ℕ × Pending)) (operation : Pending) (b : Bool) → (pid == other) ≡ b → list_any (is_under same_pid other) (less_of other rows) ≡ false → first_of other rows ≡ Some operation → first_of pid (less_of other rows ++ (other, operation) ∷ []) ≡ first_of pid rows
+pub back_by : (pid other : ℕ) (rows : List (ℕ × Pending)) (operation : Pending) (b : Bool) → (pid == other) ≡ b → list_any (is_under same_pid other) (less_of other rows) ≡ false → first_of other rows ≡ Some operation → first_of pid (less_of other rows ++ (other, operation) ∷ []) ≡ first_of pid rows
 back_by pid other rows operation true e none found =
     subst (λ (n : ℕ). first_of n (less_of other rows ++ (other, operation) ∷ []) ≡ first_of n rows) (sym (eqb-true pid other e)) (first_own other (less_of other rows) operation none ∙ sym found)
 back_by pid other rows operation false e none found = first_other pid other (less_of other rows) operation e ∙ first_less pid other rows e
 
 -- Queues
 
-less_stands : (pid : ℕ) (stream other : StreamNo) (waits : List (StreamNo × ℕ)) → stands_by pid stream (less_stream other waits) ≡ true → stands_by pid stream waits ≡ true
+pub less_stands : (pid : ℕ) (stream other : StreamNo) (waits : List (StreamNo × ℕ)) → stands_by pid stream (less_stream other waits) ≡ true → stands_by pid stream waits ≡ true
 less_stands pid stream other waits e = by_test (stands_by pid stream waits) refl
   where
     by_test : (b : Bool) → stands_by pid stream waits ≡ b → b ≡ true
@@ -95,7 +95,7 @@ stands_first row stream first rest o true e later found =
     or_left (is_row same_stream same_pid stream first row) (stands_by first stream rest) (ap (λ (b : Bool). b && (row.1 == first)) e ∙ eq-eqb row.1 first (some_is row.1 first found))
 stands_first row stream first rest o false e later found = or_right (is_row same_stream same_pid stream first row) (stands_by first stream rest) (later found)
 
-first_stands : (stream : StreamNo) (waits : List (StreamNo × ℕ)) (first : ℕ) → first_stream stream waits ≡ Some first → stands_by first stream waits ≡ true
+pub first_stands : (stream : StreamNo) (waits : List (StreamNo × ℕ)) (first : ℕ) → first_stream stream waits ≡ Some first → stands_by first stream waits ≡ true
 first_stands stream [] first e = absurd (cc)
 first_stands stream (row ∷ rest) first e = stands_first row stream first rest (find (is_under same_stream stream) rest) (same_stream row.0 stream) refl (first_stands stream rest first) e
 
@@ -303,7 +303,7 @@ close_still : (state : CloseState) (fds : List ℕ) (owners more : List Owner) (
 close_still closes.WaitLock fds owners more pid stream keeps e = named_still (slice_get fds 0) owners more pid stream keeps e
 close_still (closes.Closing tx number) fds owners more pid stream keeps e = absurd (cc)
 
-wants_still : (owners more : List Owner) (pid : ℕ) (operation : Pending) (stream : StreamNo) → KeepsThose pid owners more → wanted_in owners pid operation ≡ Some stream → wanted_in more pid operation ≡ Some stream
+pub wants_still : (owners more : List Owner) (pid : ℕ) (operation : Pending) (stream : StreamNo) → KeepsThose pid owners more → wanted_in owners pid operation ≡ Some stream → wanted_in more pid operation ≡ Some stream
 wants_still owners more pid (operations.Name call) stream keeps e = e
 wants_still owners more pid (operations.Data call) stream keeps e = e
 wants_still owners more pid (operations.Sync call) stream keeps e = e

@@ -133,7 +133,7 @@ data_runs pid call = record {
   waits_lock = λ s e p. kept (locking.locks pid call.stream s) pid (operations.Data (record call { state = states.WaitLock })) (inl refl) (locks_so s pid call.stream p);
   not_open = λ s e p. kept s pid (operations.Data (record call { state = states.WaitLock })) (inl refl) p;
   places = λ s place p. moves_place s call.stream place p;
-  begins_filling = λ s p. on_if _ s _ p p;
+  begins_filling = λ s on p. on_if _ s _ p p;
   comes_first = λ s e p. p;
   waits_turn = λ s e p. kept s pid (operations.Data (record call { state = states.Turn })) (inl refl) p;
   filled = λ s p. p;

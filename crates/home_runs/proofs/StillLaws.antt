@@ -38,7 +38,7 @@ module _ (Q : Seen → Type 0) where
   pub by_home : (came : Input) → KeepsAtHome (λ s h. Q (resting s)) came → ((s : ClientProcs) (pid kernel : ℕ) → Q (resting s) → Q (resting (homes.moves_to pid kernel s))) → Walk (λ s h. Q (resting s)) came
   by_home came home places = record {
     steps = record { begins = λ s h next step f q. q; ends_step = λ s h f q. q };
-    within = with_home came Resting (bears came) (λ own tx source body s e q. q) home places;
+    within = with_home came Resting (bears came) (λ own tx source body s e q. q) (λ own rows files q. q) home places;
   }
 
   image_in : (o : Option Proc) (pid : ℕ) (f : Proc → Proc) (s : ClientProcs) → Q (resting s) → Q (resting (with_proc pid (option_map f o) s))

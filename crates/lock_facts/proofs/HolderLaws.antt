@@ -31,7 +31,7 @@ out_by : (b : Bool) (o : Option Entry) → holder_in (cond b None o) ≡ cond b 
 out_by true o = refl
 out_by false o = refl
 
-holder_put : (m n : StreamNo) (stream : Option Stream) (holder : Option ℕ) (es : List Entry) → holder_of (put (is_of n) (entry n stream holder) es) m ≡ cond (is_number m n) holder (holder_of es m)
+pub holder_put : (m n : StreamNo) (stream : Option Stream) (holder : Option ℕ) (es : List Entry) → holder_of (put (is_of n) (entry n stream holder) es) m ≡ cond (is_number m n) holder (holder_of es m)
 holder_put m n stream holder es = ap holder_in (find_put m n stream holder es) ∙ put_by (is_number m n) (entry n stream holder) (find (is_of m) es)
 
 holder_without : (m n : StreamNo) (es : List Entry) → holder_of (without (is_of n) es) m ≡ cond (is_number m n) None (holder_of es m)
@@ -120,7 +120,7 @@ unlocking_holder : (o : Option Stream) (es : List Entry) (n m : StreamNo) → ho
 unlocking_holder (Some stream) es n m = holder_put m n (Some stream) None es
 unlocking_holder None es n m = holder_without m n es
 
-unlocked_holder : (es : List Entry) (n m : StreamNo) → holder_of (unlocked es n) m ≡ cond (is_number m n) None (holder_of es m)
+pub unlocked_holder : (es : List Entry) (n m : StreamNo) → holder_of (unlocked es n) m ≡ cond (is_number m n) None (holder_of es m)
 unlocked_holder es n m = unlocking_holder (stream_of es n) es n m
 
 -- a lock that is freed is free, and others have their holders

@@ -40,7 +40,7 @@ own_by : (pid : ℕ) (o x : Owner) (xs : List Owner) (b : Bool) → (x.pid == pi
 own_by pid o x xs true e is later = ap (λ (c : Bool). cond c (Some o) (find (is_owner pid) xs)) (eq-eqb o.pid pid is)
 own_by pid o x xs false e is later = ap (λ (c : Bool). cond c (Some x) (find (is_owner pid) (put (is_owner pid) o xs))) e ∙ later
 
-own_put : (pid : ℕ) (o : Owner) (xs : List Owner) → o.pid ≡ pid → find (is_owner pid) (put (is_owner pid) o xs) ≡ Some o
+pub own_put : (pid : ℕ) (o : Owner) (xs : List Owner) → o.pid ≡ pid → find (is_owner pid) (put (is_owner pid) o xs) ≡ Some o
 own_put pid o [] is = ap (λ (c : Bool). cond c (Some o) None) (eq-eqb o.pid pid is)
 own_put pid o (x ∷ xs) is = own_by pid o x xs (x.pid == pid) refl is (own_put pid o xs is)
 

@@ -149,7 +149,7 @@ data_runs pid call = record {
       same_locks (λ (rows : List (ℕ × Pending)) (turns : List ℕ). Ranked (rows ++ (pid, operation) ∷ []) turns) s pid call.stream (ranks.rank_apart pid s.pending s.fillers operation (none_waits s pid call e p.1.1.1) p.1.1.0);
   not_open = λ s e p. absurd (let never = leads_open s.streams pid call.fd call.stream p.1.0.off.sound.lawful p.1.0.leads e in cc);
   places = λ s place p. ((lock_runs.data_runs pid call).places s place p.0, ((wait_runs.data_runs pid call).places s place p.1.0, same_place (RankedBut pid) s call.stream place p.1.1));
-  begins_filling = λ s p. (((lock_runs.data_runs pid call).begins_filling s p.0).locked, ((wait_runs.data_runs pid call).begins_filling s p.1.0, begun_so s pid p.1.1));
+  begins_filling = λ s on p. (((lock_runs.data_runs pid call).begins_filling s on p.0).locked, ((wait_runs.data_runs pid call).begins_filling s on p.1.0, begun_so s pid p.1.1));
   comes_first = λ s e p. (p, e);
   waits_turn = λ s e p. ranks.rank_turn pid s.pending s.fillers (operations.Data (record call { state = states.Turn })) p.0.off.none refl refl p.1.1;
   filled = λ s p. p.0;

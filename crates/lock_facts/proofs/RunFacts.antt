@@ -191,7 +191,7 @@ data_runs pid call = record {
   waits_lock = λ s e p. kept_free (locking.locks pid call.stream s) pid (operations.Data (record call { state = states.WaitLock })) (refl, refl) (locks_waits s pid call.stream e p).sound;
   not_open = λ s e p. kept_free s pid (operations.Data (record call { state = states.WaitLock })) (refl, refl) p.off.sound;
   places = λ s place p. moves_place s pid call.stream call.stream place p;
-  begins_filling = λ s p. begins_filling s pid call.stream p;
+  begins_filling = λ s on p. begins_filling s pid call.stream p;
   comes_first = λ s e p. p;
   waits_turn = λ s e p. kept_turning s pid call.stream (operations.Data (record call { state = states.Turn })) refl p;
   filled = λ s p. p.locked;

@@ -1,5 +1,5 @@
 -- Calls of the files' side at their issue, answers to its remote calls, and processes that fork or arrive with their streams, keep the facts of queues.
-use Rattle.std.proofs.Common.{◌≡◌, ℕ, Bool, true, false, ◌||◌, not, cond, List, [], ◌∷◌, Option, Some, None, refl}
+use Rattle.std.proofs.Common.{◌≡◌, ℕ, Bool, true, false, ◌&&◌, ◌||◌, not, cond, List, [], ◌∷◌, Option, Some, None, refl}
 use Rattle.std.proofs.lemmas.Bool.{and_parts}
 use Rattle.std.specs.List.{list_all, list_any}
 use Rattle.sprite_ids.specs.declared.BlockNo.{BlockNo}
@@ -46,7 +46,7 @@ use Rattle.client_streams.specs.Closing as closing
 use Rattle.client_streams.specs.Moving as moving
 use Rattle.client_files.specs.Answered as answering
 use Rattle.client_files.specs.Arrivals as arrivals
-use Rattle.client_files.specs.Arrivals.{are_apart, is_fit}
+use Rattle.client_files.specs.Arrivals.{are_apart, is_fit, is_known_so}
 use Rattle.client_files.specs.Asked as asked
 use Rattle.client_facts.specs.FileFacts.{OneOperationEach}
 use Rattle.client_facts.proofs.CostLaws.{none_left}
@@ -253,8 +253,9 @@ puts_streams pid items s p = by_test (arrivals.can_arrive pid items s) refl
   where
     by_test : (b : Bool) → arrivals.can_arrive pid items s ≡ b → Holds (cond b (record s { streams = arriving s.streams pid items }) s)
     by_test true e =
-        let parts = neither (is_used (numbers_of s.streams.owners pid)) (are_apart items) (list_all is_fit items) e in
-        with_table s (arriving s.streams pid items) (keeps_arriving items s.streams pid parts.0) (arriving_so items s.streams pid parts.0 parts.1.0 parts.1.1 p.lawful) p
+        let parts = neither (is_used (numbers_of s.streams.owners pid)) (are_apart items) (list_all is_fit items && list_all (is_known_so s.streams.entries) items) e in
+        let fit : list_all is_fit items ≡ true = (and_parts (list_all is_fit items) (list_all (is_known_so s.streams.entries) items) parts.1.1).0 in
+        with_table s (arriving s.streams pid items) (keeps_arriving items s.streams pid parts.0) (arriving_so items s.streams pid parts.0 parts.1.0 fit p.lawful) p
     by_test false e = p
 
 -- a process arrives with its streams

@@ -192,7 +192,7 @@ data_runs pid call = record {
       kept_waiting (locking.locks pid call.stream s) pid (operations.Data (record call { state = states.WaitLock })) call.stream refl locked.stands (same_locks s pid call.stream pid call.fd ∙ p.leads) locked.off.sound;
   not_open = λ s e p. absurd (let never = leads_open s.streams pid call.fd call.stream p.off.sound.lawful p.leads e in cc);
   places = λ s place p. record { off = moves_place s pid call.stream place p.off; leads = leads_placed s pid call place p.leads };
-  begins_filling = λ s p. at_if pid call _ s _ p p;
+  begins_filling = λ s on p. at_if pid call _ s _ p p;
   comes_first = λ s e p. p;
   waits_turn = λ s e p. kept_idle s pid (operations.Data (record call { state = states.Turn })) refl p.leads p.off.sound;
   filled = λ s p. p;

@@ -48,7 +48,7 @@ module _ (P : Book → Type 0) (Row : List Sending → ℕ × Pending → Type 0
     forks = λ s parent child p. p;
     takes_report = λ s rest p. p;
     takes_reply = λ s rest p. p;
-    issues = λ s about call device p. call_walks.issues (λ (pid : ℕ). Holds) Holds (runs.call_runs P Row bears) about call device s p;
+    issues = λ s about call device e p. call_walks.issues (λ (pid : ℕ). Holds) Holds (runs.call_runs P Row bears) about call device s p;
     called_back = λ s tx request p. muted.called_back Holds (runs.mute P Row bears) tx request s p;
     due_goes = λ s file block p. answers.due_goes P Row bears file block s p;
     arrives = λ s pid cwd streams items p. muted.arrives Holds (runs.mute P Row bears) (λ t given q. q) pid cwd streams items s p;

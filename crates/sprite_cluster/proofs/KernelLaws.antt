@@ -7,7 +7,9 @@ use Rattle.sprite_paths.specs.declared.Path.{Path}
 use Rattle.process_machine.specs.declared.BurstEnd.{BurstEnd}
 use Rattle.process_machine.specs.declared.BurstEnd.TheVariants as burst_ends
 use Rattle.process_machine.specs.declared.Call.{Call}
+use Rattle.process_machine.specs.Limits.{IsWithinLimits}
 use Rattle.process_machine.specs.Machine.{Machine}
+use Rattle.process_machine.proofs.LimitLaws.{call_within_limits}
 use Rattle.kernel_rpc.specs.declared.Expired.{Expired}
 use Rattle.kernel_rpc.specs.declared.Expired.TheVariants as expired
 use Rattle.kernel_rpc.specs.declared.PacketCopy.{PacketCopy}
@@ -72,19 +74,20 @@ all_weaken F G weaken (state ∷ states) first h = (weaken first state h.0, all_
 
 -- ---- what a kernel takes
 
--- what doesn't come from another one
+-- what doesn't come from another one; a call is one of a program, within its limits
 abbrev pub IsOwn : Input → Type 0
+IsOwn (inputs.Issued pid number call) = IsWithinLimits call
 IsOwn (inputs.Request tx source body) = ⊥
 IsOwn (inputs.Replied tx source body) = ⊥
 IsOwn input = Unit {0}
 
-own_issued : (o : Option ℕ) (pid : ℕ) (call : Call) (input : Input) → issued pid call o ≡ Some input → IsOwn input
-own_issued None pid call input e = absurd (cc)
-own_issued (Some number) pid call input e = subst IsOwn (some_is (inputs.Issued pid (number + 1) call) input e) tt
+own_issued : (o : Option ℕ) (pid : ℕ) (call : Call) (input : Input) → IsWithinLimits call → issued pid call o ≡ Some input → IsOwn input
+own_issued None pid call input limits e = absurd (cc)
+own_issued (Some number) pid call input limits e = subst IsOwn (some_is (inputs.Issued pid (number + 1) call) input e) limits
 
 pub own_came : (stop : BurstEnd) (kernel : ℕ) (b : Burst) (s : State) (input : Input) → came_to kernel b stop s ≡ Some input → IsOwn input
-own_came burst_ends.Call kernel b s input e = own_issued _ b.pid _ input e
-own_came burst_ends.BadStep kernel b s input e = own_issued _ b.pid _ input e
+own_came burst_ends.Call kernel b s input e = own_issued _ b.pid _ input (call_within_limits b.program b.to) e
+own_came burst_ends.BadStep kernel b s input e = own_issued _ b.pid _ input tt e
 own_came (burst_ends.PageNeeded page) kernel b s input e = subst IsOwn (some_is (inputs.PageNeeded b.pid page) input e) tt
 own_came burst_ends.Limit kernel b s input e = absurd (cc)
 
