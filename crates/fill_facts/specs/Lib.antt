@@ -1,0 +1,3 @@
+pub mod FillFacts
+pub mod NoCache
+pub mod ShortFacts

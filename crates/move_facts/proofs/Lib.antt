@@ -1,0 +1,7 @@
+pub mod MoveLaws
+pub mod MoveRuns
+pub mod MoveAnswers
+pub mod Leavers
+pub mod MoveWholes
+pub mod Counts
+pub mod MoveKernel
