@@ -1,11 +1,13 @@
 -- What is true of each client of a reached cluster.
-use Rattle.std.specs.Prelude.{◌≡◌, ℕ, true, List, [], ◌∷◌, Some}
+use Rattle.std.specs.Prelude.{◌≡◌, ℕ, true, List, Some}
+use Rattle.sprite_ids.specs.declared.CopyNo.{CopyNo}
 use Rattle.sprite_ids.specs.declared.TxNo.{TxNo}
 use Rattle.kernel_rpc.specs.declared.PacketCopy.{PacketCopy}
 use Rattle.kernel_rpc.specs.Machine.{arrival}
 use Rattle.kernel_steps.specs.declared.Input.{Input}
 use Rattle.unix_calls.specs.declared.Description.{Description}
 use Rattle.client_homes.specs.declared.ClientProcs.{ClientProcs}
+use Rattle.client_procs.specs.CanTake.{can_take}
 use Rattle.client_procs.specs.Steps.{begins_step, takes}
 use Rattle.client_procs.specs.Turning.{goes_on, is_quiet}
 use Rattle.cluster_wire.specs.declared.Arrived.TheVariants as arrived
@@ -13,8 +15,7 @@ use Rattle.cluster_wire.specs.Arriving.{Brings, copy_to}
 use Rattle.cluster_kernels.specs.declared.KernelState.{KernelState}
 use Rattle.cluster_kernels.specs.declared.KernelState.TheVariants as kernels
 use Rattle.cluster_kernels.specs.declared.State.{State}
-use Rattle.cluster_kernels.specs.States.{client_at}
-use Rattle.cluster_choices.specs.declared.Choice.{Choice}
+use Rattle.cluster_kernels.specs.States.{can_take_at}
 use Rattle.cluster_choices.specs.declared.Choice.TheVariants as choices
 use Rattle.client_constants.specs.Constants.{KnowsItsCluster}
 use Rattle.client_facts.specs.HomeFacts.{HomeIsOwn}
@@ -23,7 +24,7 @@ use Rattle.client_walks.specs.PlacesOnce.{InHand, PlacesAreOnce}
 use Rattle.client_rounds.specs.OneThing.{OneThingEach}
 use Rattle.lock_facts.specs.TurnFacts.{KeepsTurnFacts}
 use Rattle.sprite_cluster.specs.Everywhere.{OfAll}
-use Rattle.sprite_cluster.specs.Reached.{At, Begins, Change, Chose, Goes, Reached}
+use Rattle.sprite_cluster.specs.Reached.{At, Chose, Goes, Reached}
 
 -- a fact of a client and of its number, of a kernel that is one
 abbrev pub OfClient : (ℕ → ClientProcs → Type 0) → ℕ → KernelState → Type 0
@@ -47,30 +48,20 @@ HomesAreOwn {L} faults asked = (c : Description) (begun : L) (now : At L) → Re
 abbrev pub PlacesAreOnceAtEach : State → Type 0
 PlacesAreOnceAtEach s = OfClients (λ kernel client. PlacesAreOnce client) 1 s.kernels
 
--- what an input brings to a kernel that is a client is new there
-abbrev pub IsNewAt : ℕ → Input → State → Type 0
-IsNewAt kernel input s = (client : ClientProcs) → client_at kernel s ≡ Some client → InHand (brought input client) client
+-- what a client can take brings what is new there: a process that a request brings was born, where this is its home, and the child that an
+-- answered `fork` brings is neither here nor leaves besides
+abbrev pub WhatIsTakenIsNew : Type 0
+WhatIsTakenIsNew = (s : ClientProcs) (input : Input) → can_take input s ≡ true → InHand (brought input s) s
 
--- so is what comes by a choice: whatever a copy brings that is in flight to the kernel
-abbrev pub BringsNew : {L : Type 0} → ℕ → Choice → At L → Type 0
-BringsNew {L} kernel (choices.Deliver number) old =
-    (copy : PacketCopy) (input : Input) → copy_to kernel old.wire.machine number ≡ Some copy → Brings (arrival old.wire.machine copy) old.wire.machine copy (arrived.Message input) → IsNewAt kernel input old.state
-BringsNew {L} kernel choice old = Unit {0}
+-- and what a copy brings that comes to a kernel by a change, that the kernel could take before it
+abbrev pub WhatComesCanBeTaken : {L : Type 0} → (L → ℕ → ℕ → ℕ) → (L → ℕ → ℕ → ℕ) → Type 0
+WhatComesCanBeTaken {L} faults asked =
+    (c : Description) (kernel : ℕ) (number : CopyNo) (old now : At L) (copy : PacketCopy) (input : Input) → Goes faults asked c (Chose kernel (choices.Deliver number)) old now → copy_to kernel old.wire.machine number ≡ Some copy
+    → Brings (arrival old.wire.machine copy) old.wire.machine copy (arrived.Message input) → can_take_at kernel input old.state ≡ true
 
--- and by a change
-abbrev pub ChangeBringsNew : {L : Type 0} → Change → At L → Type 0
-ChangeBringsNew {L} (Chose kernel choice) old = BringsNew kernel choice old
-ChangeBringsNew {L} change old = Unit {0}
-
--- one change after the other, each of which brings what is new
-abbrev pub GoesNew : {L : Type 0} → (L → ℕ → ℕ → ℕ) → (L → ℕ → ℕ → ℕ) → Description → List Change → At L → At L → Type 0
-GoesNew {L} faults asked c [] old now = old ≡ now
-GoesNew {L} faults asked c (change ∷ changes) old now = (between : At L) × Goes faults asked c change old between × ChangeBringsNew change old × GoesNew faults asked c changes between now
-
--- in each cluster that is reached so, a process stands in at most one place of each client
+-- so in each reached cluster a process stands in at most one place of each client
 abbrev pub PlacesStayOnce : {L : Type 0} → (L → ℕ → ℕ → ℕ) → (L → ℕ → ℕ → ℕ) → Type 0
-PlacesStayOnce {L} faults asked =
-    (c : Description) (begun : L) (changes : List Change) (first now : At L) → Begins faults asked c begun first → GoesNew faults asked c changes first now → PlacesAreOnceAtEach now.state
+PlacesStayOnce {L} faults asked = (c : Description) (begun : L) (now : At L) → Reached faults asked c begun now → PlacesAreOnceAtEach now.state
 
 -- one thing at most is on its way to each process of a client, and so the rounds of each step are enough that takes what is new there:
 -- nothing is ready behind them, no reply is to be given and no report to be taken
@@ -78,12 +69,10 @@ pub record StepsEndQuiet (s : ClientProcs) : Type 0 where
   pub one : OneThingEach s
   pub quiet : (input : Input) (next : TxNo) (step : ℕ) → InHand (brought input s) s → is_quiet (goes_on (takes input (begins_step next step s))) ≡ true
 
--- so it is in each client of each cluster that is reached so
+-- so it is in each client of each reached cluster
 abbrev pub RoundsStayEnough : {L : Type 0} → (L → ℕ → ℕ → ℕ) → (L → ℕ → ℕ → ℕ) → Type 0
-RoundsStayEnough {L} faults asked =
-    (c : Description) (begun : L) (changes : List Change) (first now : At L) → Begins faults asked c begun first → GoesNew faults asked c changes first now → OfClients (λ kernel client. StepsEndQuiet client) 1 now.state.kernels
+RoundsStayEnough {L} faults asked = (c : Description) (begun : L) (now : At L) → Reached faults asked c begun now → OfClients (λ kernel client. StepsEndQuiet client) 1 now.state.kernels
 
 -- and so are the locks of its streams, the queues for them, and the order in which its operations fill blocks
 abbrev pub TurnsStayInOrder : {L : Type 0} → (L → ℕ → ℕ → ℕ) → (L → ℕ → ℕ → ℕ) → Type 0
-TurnsStayInOrder {L} faults asked =
-    (c : Description) (begun : L) (changes : List Change) (first now : At L) → Begins faults asked c begun first → GoesNew faults asked c changes first now → OfClients (λ kernel client. KeepsTurnFacts client.files) 1 now.state.kernels
+TurnsStayInOrder {L} faults asked = (c : Description) (begun : L) (now : At L) → Reached faults asked c begun now → OfClients (λ kernel client. KeepsTurnFacts client.files) 1 now.state.kernels

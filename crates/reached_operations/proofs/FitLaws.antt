@@ -1,10 +1,11 @@
 -- What comes to a client of a reached cluster fits what its operation on files waits for.
-use Rattle.std.proofs.Common.{◌≡◌, ℕ, ◌==◌, Bool, true, false, ◌||◌, not, List, slice_get, Option, Some, None, refl, sym, ap, ◌∙◌, subst}
+use Rattle.std.proofs.Common.{◌≡◌, ℕ, ◌==◌, Bool, true, false, ◌||◌, not, List, Option, Some, None, refl, sym, ap, ◌∙◌, subst}
 use Rattle.std.specs.List.{AllByRecursion}
 use Rattle.std.proofs.lemmas.Bool.{eqb-true}
 use Rattle.sprite_ids.specs.declared.Tries.{Tries}
 use Rattle.sprite_ids.specs.declared.Tries.TheVariants.{Always}
 use Rattle.sprite_ids.specs.declared.TxNo.{TxNo}
+use Rattle.sprite_ids.proofs.ListLaws.{some_is}
 use Rattle.packet_bodies.specs.declared.Body.{Body}
 use Rattle.packet_bodies.specs.declared.Body.TheVariants as bodies
 use Rattle.packet_bodies.specs.declared.ReplyBody.{ReplyBody}
@@ -18,8 +19,9 @@ use Rattle.kernel_rpc.specs.declared.call.Arrival.TheVariants.{FirstRequest, Fir
 use Rattle.kernel_rpc.specs.declared.call.Call.{Call}
 use Rattle.kernel_rpc.specs.declared.PacketCopy.{PacketCopy}
 use Rattle.kernel_rpc.specs.Bodies.{IsMessage, reply_of}
-use Rattle.kernel_rpc.specs.Machine.{Machine, arrival, call_of, is_last, is_last_of}
+use Rattle.kernel_rpc.specs.Machine.{Machine, arrival, call_of, is_call, is_last, is_last_of}
 use Rattle.kernel_rpc.proofs.ArrivalLaws.{first_reply}
+use Rattle.kernel_rpc.proofs.SoundLaws.{found_sound}
 use Rattle.kernel_steps.specs.declared.Input.{Input}
 use Rattle.kernel_steps.specs.declared.Input.TheVariants as inputs
 use Rattle.unix_calls.specs.declared.Description.{Description}
@@ -37,18 +39,20 @@ use Rattle.client_facts.specs.FileFacts.{data_asks, is_that_call, move_asks, own
 use Rattle.cluster_wire.specs.Arriving.{Brings, reply_in, request_in}
 use Rattle.cluster_wire.specs.declared.Arrived.TheVariants as arrived
 use Rattle.cluster_kernels.specs.States.{kernel_at}
+use Rattle.cluster_steps.specs.Receivers.{is_for_servers, is_receiver}
 use Rattle.server_walks.specs.Sorts.{fits, is_moved, is_op_reply}
 use Rattle.file_walks.specs.Fits.{FitsItsCall, data_takes, is_move_answer, is_op_answer, may_end, move_takes, operation_of, takes_answer}
 use Rattle.file_facts.proofs.BookLaws.{found_each}
 use Rattle.operation_calls.specs.Requests.{is_move, is_op, sends_so, tries_of, wanted_of}
-use Rattle.operation_calls.proofs.AskLaws.{each_there}
-use Rattle.reached_domains.specs.Domains.{serves}
-use Rattle.reached_domains.proofs.DomainLaws.{answers_fit, answers_owners, client_is}
+use Rattle.reached_domains.proofs.DomainLaws.{answers_fit, client_is}
 use Rattle.reached_domains.proofs.TurnLaws.{message_is, not_again}
-use Rattle.reached_operations.specs.Answered.{IsFromServer, IsServer, WhatComesFits, WhatIsGivenUpFits, is_at_server, is_served}
+use Rattle.reached_operations.specs.Answered.{WhatComesFits, WhatIsGivenUpFits}
 use Rattle.reached_operations.specs.Operations.{CallIs}
 use Rattle.reached_operations.proofs.CallLaws.{asks_found}
 use Rattle.reached_operations.proofs.OwnLaws.{Asks, RowAsks, client_asks}
+use Rattle.reached_operations.proofs.ServedLaws.{IsServer, is_at_server, is_served, served_for, server_by}
+use Rattle.reached_receivers.specs.Receivers.{GoesRight}
+use Rattle.reached_receivers.proofs.ReceiverLaws.{calls_right}
 use Rattle.sprite_cluster.specs.Reached.{At, Reached}
 
 -- ---- an answer of a sort that the request may have is one that the operation takes
@@ -148,28 +152,18 @@ what_is_given_up_fits faults asked c begun now kernel client tx call low reached
 
 -- ---- an answer that comes
 
--- where an operation stands
-record IsThere (rows : List (ℕ × Pending)) (row : ℕ × Pending) : Type 0 where
-  at : ℕ
-  there : slice_get rows at ≡ Some row
-
-all_there : (rows : List (ℕ × Pending)) → AllByRecursion (IsThere rows) rows
-all_there rows = each_there (IsThere rows) rows (λ at row e. record { at = at; there = e })
-
 module _ {L : Type 0} (faults asked : L → ℕ → ℕ → ℕ) (c : Description) (begun : L) (now : At L) (reached : Reached faults asked c begun now) (kernel : ℕ) (files : ClientFiles) (rows : AllByRecursion (RowAsks now.wire.machine kernel) files.pending) where
-  module _ (tx : TxNo) (source : ℕ) (body : ReplyBody) (call : Call) (reply : List ℕ) (packet : Packet) (found : call_of now.wire.machine tx ≡ Some call) (replied : call.reply ≡ Some reply) (read : reading reply ≡ Some packet) (from : packet.from ≡ source) (is : packet.body ≡ bodies.Reply body)
-      (served : IsFromServer c (inputs.Replied tx source body) files) where
+  module _ (tx : TxNo) (body : ReplyBody) (call : Call) (reply : List ℕ) (packet : Packet) (found : call_of now.wire.machine tx ≡ Some call) (replied : call.reply ≡ Some reply) (read : reading reply ≡ Some packet) (is : packet.body ≡ bodies.Reply body) where
     is_to : (pid : ℕ) (operation : Pending) → first_of pid files.pending ≡ Some operation → is_served operation ≡ true → own_call operation ≡ Some tx → IsTo operation body
     is_to pid operation e serves_it own =
-        let there : IsThere files.pending (pid, operation) = found_each (IsThere files.pending) pid files.pending operation (all_there files.pending) e in
-        let server : IsServer c source = served (pid, operation) (record { at = there.at; there = there.there; own = own }) serves_it in
         let such : CallIs kernel (wanted_of operation) call = asks_found kernel (wanted_of operation) now.wire.machine tx call (found_each (RowAsks now.wire.machine kernel) pid files.pending operation rows e tx own) found in
-        let owner : packet.from ≡ call.owner = answers_owners faults asked c begun now tx call reply packet reached found replied read in
-        let serving : serves c call.owner server.path ≡ true = subst (λ (n : ℕ). serves c n server.path ≡ true) (sym from ∙ owner) server.served in
+        let right : GoesRight c call = found_sound (GoesRight c) (is_call tx) call now.wire.machine.unfinished found (calls_right faults asked c begun now reached) in
+        let kind : is_for_servers right.request ≡ true = ap is_for_servers (some_is right.request such.request (sym right.asks ∙ such.reads)) ∙ served_for operation such.request serves_it such.asks in
+        let server : IsServer c call.owner = server_by c call.owner (subst (λ (b : Bool). is_receiver c b call.owner ≡ true) kind right.owner) in
         record {
           request = such.request;
           asks = such.asks;
-          fit = answers_fit faults asked c begun now tx call such.request reply packet body server.path reached found serving such.reads replied read is;
+          fit = answers_fit faults asked c begun now tx call such.request reply packet body server.path reached found server.served such.reads replied read is;
         }
 
     found_fits : (o : Option Pending) (pid : ℕ) → first_of pid files.pending ≡ o → takes_answer tx o body ≡ true
@@ -184,24 +178,21 @@ module _ {L : Type 0} (faults asked : L → ℕ → ℕ → ℕ) (c : Descriptio
   request_fits tx from (bodies.Request body) input e = subst (λ (i : Input). FitsItsCall i files) (message_is (inputs.Request tx from body) input (sym e)) tt
   request_fits tx from (bodies.Reply body) input e = absurd (cc)
 
-  reply_fits : (copy : PacketCopy) (message : Packet) (body : Body) (input : Input) → message.body ≡ body → arrival now.wire.machine copy ≡ FirstReply → IsMessage reading (reply_of (call_of now.wire.machine copy.tx)) message → arrived.Message input ≡ reply_in copy.tx message.from body → IsFromServer c input files
-      → FitsItsCall input files
-  reply_fits copy message (bodies.Reply body) input is arrives reads e served =
+  reply_fits : (copy : PacketCopy) (message : Packet) (body : Body) (input : Input) → message.body ≡ body → arrival now.wire.machine copy ≡ FirstReply → IsMessage reading (reply_of (call_of now.wire.machine copy.tx)) message → arrived.Message input ≡ reply_in copy.tx message.from body → FitsItsCall input files
+  reply_fits copy message (bodies.Reply body) input is arrives reads e =
       let got = first_reply copy (call_of now.wire.machine copy.tx) arrives in
       let call : Call = got.0 in
       let read : reading got.2.0 ≡ Some message = subst (λ (o : Option (List ℕ)). IsMessage reading o message) (ap reply_of got.1 ∙ got.2.1) reads in
-      let same : inputs.Replied copy.tx message.from body ≡ input = message_is (inputs.Replied copy.tx message.from body) input (sym e) in
-      subst (λ (i : Input). FitsItsCall i files) same
-      (answer_fits copy.tx message.from body call got.2.0 message got.1 got.2.1 read refl is (subst (λ (i : Input). IsFromServer c i files) (sym same) served) (first_call copy.tx files.txs))
-  reply_fits copy message (bodies.Request body) input is arrives reads e served = absurd (cc)
+      subst (λ (i : Input). FitsItsCall i files) (message_is (inputs.Replied copy.tx message.from body) input (sym e)) (answer_fits copy.tx body call got.2.0 message got.1 got.2.1 read is (first_call copy.tx files.txs))
+  reply_fits copy message (bodies.Request body) input is arrives reads e = absurd (cc)
 
-  pub message_fits : (a : Arrival) (copy : PacketCopy) (input : Input) → arrival now.wire.machine copy ≡ a → Brings a now.wire.machine copy (arrived.Message input) → IsFromServer c input files → FitsItsCall input files
-  message_fits FirstRequest copy input is brings served = request_fits copy.tx brings.0.from brings.0.body input brings.2
-  message_fits FirstReply copy input is brings served = reply_fits copy brings.0 brings.0.body input refl is brings.1 brings.2 served
-  message_fits AskedAgain copy input is brings served = absurd (not_again input _ _ brings.0 brings.1)
-  message_fits Past copy input is brings served = absurd (cc)
+  pub message_fits : (a : Arrival) (copy : PacketCopy) (input : Input) → arrival now.wire.machine copy ≡ a → Brings a now.wire.machine copy (arrived.Message input) → FitsItsCall input files
+  message_fits FirstRequest copy input is brings = request_fits copy.tx brings.0.from brings.0.body input brings.2
+  message_fits FirstReply copy input is brings = reply_fits copy brings.0 brings.0.body input refl is brings.1 brings.2
+  message_fits AskedAgain copy input is brings = absurd (not_again input _ _ brings.0 brings.1)
+  message_fits Past copy input is brings = absurd (cc)
 
 pub what_comes_fits : {L : Type 0} (faults asked : L → ℕ → ℕ → ℕ) → WhatComesFits faults asked
-what_comes_fits faults asked c begun now kernel client copy input low reached e brings served =
+what_comes_fits faults asked c begun now kernel client copy input low reached e brings =
     let so : Asks None now.wire.machine kernel client = client_asks faults asked c begun now kernel client low reached (client_is (kernel_at kernel now.state) client e) in
-    message_fits faults asked c begun now reached kernel client.files so.rows (arrival now.wire.machine copy) copy input refl brings served
+    message_fits faults asked c begun now reached kernel client.files so.rows (arrival now.wire.machine copy) copy input refl brings

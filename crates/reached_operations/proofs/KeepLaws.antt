@@ -1,5 +1,5 @@
 -- Clients of reached clusters keep the facts of the remote calls of their operations on files.
-use Rattle.std.proofs.Common.{arith, ◌≡◌, ℕ, ◌+◌, ◌≤◌, true, List, [], ◌∷◌, length, Option, Some, None, refl, sym, ap, subst}
+use Rattle.std.proofs.Common.{arith, ◌≡◌, ℕ, ◌+◌, ◌≤◌, true, length, Option, Some, None, refl, sym, ap, ◌∙◌, subst}
 use Rattle.sprite_ids.specs.declared.TxNo.{TxNo}
 use Rattle.kernel_rpc.specs.declared.call.Call.{Call}
 use Rattle.kernel_rpc.specs.Machine.{Machine, call_of, idle, is_last}
@@ -20,24 +20,26 @@ use Rattle.cluster_wire.specs.Firing.{is_last_in}
 use Rattle.cluster_wire.specs.Goings.{next_of}
 use Rattle.cluster_kernels.specs.declared.KernelState.{KernelState}
 use Rattle.cluster_kernels.specs.declared.KernelState.TheVariants as kernels
-use Rattle.cluster_kernels.specs.States.{client_in}
+use Rattle.cluster_kernels.specs.States.{can_take_by, client_in}
+use Rattle.cluster_choices.specs.declared.Choice.{Choice}
 use Rattle.cluster_choices.specs.declared.Choice.TheVariants as choices
 use Rattle.file_walks.specs.Fits.{FitsItsCall}
 use Rattle.file_facts.specs.CallFacts.{KeepsCallFacts}
 use Rattle.file_facts.proofs.KernelFacts.{step_keeps_call_facts}
 use Rattle.file_facts.proofs.RestFacts.{begins_with_call_facts, growing_keeps_call_facts, image_keeps_call_facts}
 use Rattle.operation_calls.proofs.AskLaws.{calls_are_numbered}
-use Rattle.reached_clients.specs.Clients.{ChangeBringsNew, OfClient}
-use Rattle.reached_operations.specs.Answered.{CallFactsStay, ChangeIsFromServers, GoesServed}
+use Rattle.reached_clients.specs.Clients.{OfClient}
+use Rattle.reached_clients.proofs.TakenLaws.{comes_taken, taken_is_new}
+use Rattle.reached_operations.specs.Answered.{CallFactsStay}
 use Rattle.reached_operations.proofs.CallLaws.{Went}
 use Rattle.reached_operations.proofs.FitLaws.{what_comes_fits, what_is_given_up_fits}
 use Rattle.reached_operations.proofs.OwnLaws.{clients_begin, replies_come}
 use Rattle.reached_operations.proofs.TurnLaws as turns
 use Rattle.reached_operations.proofs.TurnLaws.{Bears, Ended, IsHere, Stands, WentOut}
 use Rattle.reached_operations.proofs.WireLaws.{good_idle}
-use Rattle.sprite_cluster.specs.Reached.{At, Began, Begins, Change, Chose, Lost, Reached, Took}
+use Rattle.sprite_cluster.specs.Reached.{At, Began, Begins, Chose, Goes, Lost, Reached, Took}
 use Rattle.sprite_cluster.proofs.KernelLaws.{all_weaken, booted}
-use Rattle.sprite_cluster.proofs.ReachedLaws.{reached_first, reached_on}
+use Rattle.sprite_cluster.proofs.ReachedLaws.{Lasts, lasts_on}
 
 -- places are once, one thing at most is on its way to each process, and the facts of the remote calls are kept
 pub record KeptAt (machine : Machine) (s : ClientProcs) : Type 0 where
@@ -88,7 +90,7 @@ kept_bears = record {
   here = here_comes;
 }
 
--- ---- one change after the other
+-- ---- each reached cluster
 
 pub last_found : (o : Option Call) → true ≡ is_last_in o → (call : Call) × (o ≡ Some call) × (is_last call ≡ true)
 last_found (Some call) e = (call, refl, sym e)
@@ -98,24 +100,16 @@ module _ {L : Type 0} (faults asked : L → ℕ → ℕ → ℕ) (c : Descriptio
   abbrev pub Keeps : At L → Type 0
   Keeps at = turns.At_stands c Kept Comes kept_bears faults asked at
 
-  -- what a change brings comes so
-  pub brings_so : (change : Change) (old : At L) → Reached faults asked c begun old → ChangeBringsNew change old → ChangeIsFromServers c change old → turns.ChangeBrings c Kept Comes kept_bears faults asked change old
-  brings_so (Chose kernel (choices.Deliver number)) old reached news served =
-      λ low copy input there brings client e. (news copy input there brings client (ap client_in e), what_comes_fits faults asked c begun old kernel client copy input low reached (ap client_in e) brings (served copy input there brings client (ap client_in e)))
-  brings_so (Chose kernel (choices.Expire tx)) old reached news served =
-      λ low before now between fires client e.
+  -- what a choice brings comes so
+  pub brings_so : (kernel : ℕ) (choice : Choice) (old now : At L) → Reached faults asked c begun old → Goes faults asked c (Chose kernel choice) old now → turns.ChangeBrings c Kept Comes kept_bears faults asked (Chose kernel choice) old
+  brings_so kernel (choices.Deliver number) old now reached goes =
+      λ low copy input there brings client e.
+      (taken_is_new client input (sym (ap (can_take_by input) e) ∙ comes_taken faults asked c kernel number old now copy input goes there brings), what_comes_fits faults asked c begun old kernel client copy input low reached (ap client_in e) brings)
+  brings_so kernel (choices.Expire tx) old now reached goes =
+      λ low before later between fires client e.
       let got = last_found (call_of old.wire.machine tx) fires.last in
       (tt, what_is_given_up_fits faults asked c begun old kernel client tx got.0 low reached (ap client_in e) got.1 got.2)
-  brings_so (Chose kernel (choices.WriteBack file block)) old reached news served = λ low. tt
-  brings_so (Began kernel) old reached news served = tt
-  brings_so (Took kernel b) old reached news served = tt
-  brings_so (Lost kernel b) old reached news served = tt
-
-  kept_go : (changes : List Change) (old now : At L) → Reached faults asked c begun old → GoesServed faults asked c changes old now → Keeps old → Keeps now
-  kept_go [] old now reached none h = subst Keeps none h
-  kept_go (change ∷ changes) old now reached all h =
-      kept_go changes all.0 now (reached_on faults asked c begun change old all.0 reached all.1) all.4
-      (turns.changed c Kept Comes kept_bears faults asked change old all.0 (replies_come faults asked c begun old reached) (brings_so change old reached all.2 all.3) all.1 h)
+  brings_so kernel (choices.WriteBack file block) old now reached goes = λ low. tt
 
   kept_first : (first : At L) → Begins faults asked c begun first → Keeps first
   kept_first first b = subst (λ (machine : Machine). Stands c Kept Comes kept_bears machine first.state) (sym b.idles) (record {
@@ -123,14 +117,23 @@ module _ {L : Type 0} (faults asked : L → ℕ → ℕ → ℕ) (c : Descriptio
     clients = booted (OfClient (Kept None idle)) c (clients_begin c (Kept None idle) (λ kernel. record { places = begins_with_places c kernel; one = begins_with_one_thing c kernel; facts = begins_with_call_facts c kernel (next_of idle) })) c.kernels first.state.kernels 1 b.boots.kernels_are;
   })
 
-  pub all_kept : (changes : List Change) (first now : At L) → Begins faults asked c begun first → GoesServed faults asked c changes first now → Keeps now
-  all_kept changes first now begins all = kept_go changes first now (reached_first faults asked c begun first begins) all (kept_first first begins)
+  kept_last : Lasts faults asked c begun Keeps
+  kept_last = record {
+    begins = kept_first;
+    chose = λ kernel choice old now reached goes h. turns.changed c Kept Comes kept_bears faults asked (Chose kernel choice) old now (replies_come faults asked c begun old reached) (brings_so kernel choice old now reached goes) goes h;
+    began = λ kernel old now reached goes h. turns.changed c Kept Comes kept_bears faults asked (Began kernel) old now (replies_come faults asked c begun old reached) tt goes h;
+    took = λ kernel b old now reached goes h. turns.changed c Kept Comes kept_bears faults asked (Took kernel b) old now (replies_come faults asked c begun old reached) tt goes h;
+    lost = λ kernel b old now reached goes h. turns.changed c Kept Comes kept_bears faults asked (Lost kernel b) old now (replies_come faults asked c begun old reached) tt goes h;
+  }
+
+  pub all_kept : (now : At L) → Reached faults asked c begun now → Keeps now
+  all_kept now reached = lasts_on faults asked c begun Keeps now kept_last reached
 
 kept_facts : (machine : Machine) (kernel : ℕ) (state : KernelState) → OfClient (Kept None machine) kernel state → OfClient (λ (kernel : ℕ) (client : ClientProcs). KeepsCallFacts (next_of machine) client.files) kernel state
 kept_facts machine kernel (kernels.Client client) h = h.facts
 kept_facts machine kernel (kernels.Server server) h = tt
 
 pub call_facts_stay : {L : Type 0} (faults asked : L → ℕ → ℕ → ℕ) → CallFactsStay faults asked
-call_facts_stay faults asked c begun changes first now begins all =
+call_facts_stay faults asked c begun now reached =
     all_weaken (OfClient (Kept None now.wire.machine)) (OfClient (λ (kernel : ℕ) (client : ClientProcs). KeepsCallFacts (next_of now.wire.machine) client.files)) (kept_facts now.wire.machine) now.state.kernels 1
-    (all_kept faults asked c begun changes first now begins all).clients
+    (all_kept faults asked c begun now reached).clients

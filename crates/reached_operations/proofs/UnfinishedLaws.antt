@@ -33,6 +33,7 @@ use Rattle.cluster_wire.specs.declared.Arrived.TheVariants as arrived
 use Rattle.cluster_wire.specs.Goings.{next_of}
 use Rattle.cluster_kernels.specs.declared.KernelState.TheVariants as kernels
 use Rattle.cluster_kernels.specs.States.{kernel_at}
+use Rattle.cluster_choices.specs.declared.Choice.{Choice}
 use Rattle.cluster_choices.specs.declared.Choice.TheVariants as choices
 use Rattle.file_facts.proofs.BookLaws.{or_left, or_right}
 use Rattle.file_facts.proofs.RestFacts.{begins_with_call_facts}
@@ -41,10 +42,9 @@ use Rattle.operation_calls.specs.Requests.{IsSent, Wanted, wanted_of, write_back
 use Rattle.operation_calls.proofs.AskLaws.{each_there}
 use Rattle.operation_calls.proofs.GoneLaws.{ended_are_gone}
 use Rattle.operation_calls.proofs.StepLaws.{Behind, step_asks}
-use Rattle.reached_clients.specs.Clients.{ChangeBringsNew, OfClient}
+use Rattle.reached_clients.specs.Clients.{OfClient}
 use Rattle.reached_domains.proofs.DomainLaws.{client_is}
 use Rattle.reached_domains.proofs.TurnLaws.{message_is, not_again}
-use Rattle.reached_operations.specs.Answered.{ChangeIsFromServers, GoesServed}
 use Rattle.reached_operations.specs.Operations.{CallIs}
 use Rattle.reached_operations.specs.Unfinished.{IsUnfinishedCall, OwnCallsAreUnfinished, WriteBacksAreUnfinished}
 use Rattle.reached_operations.proofs.CallLaws.{AsksAt, Went, WentOn, asks_found}
@@ -54,9 +54,9 @@ use Rattle.reached_operations.proofs.OwnLaws.{BackAsks, FilesAsk, RowAsks, asks_
 use Rattle.reached_operations.proofs.TurnLaws as turns
 use Rattle.reached_operations.proofs.TurnLaws.{Bears, Ended, IsHere, Stands, WentOut, hand_of}
 use Rattle.reached_operations.proofs.WireLaws.{IsUnfinished, StaysBut, good_idle}
-use Rattle.sprite_cluster.specs.Reached.{At, Began, Begins, Change, Chose, Lost, Reached, Took}
+use Rattle.sprite_cluster.specs.Reached.{At, Began, Begins, Chose, Goes, Lost, Reached, Took}
 use Rattle.sprite_cluster.proofs.KernelLaws.{booted, one_at}
-use Rattle.sprite_cluster.proofs.ReachedLaws.{reached_first, reached_on}
+use Rattle.sprite_cluster.proofs.ReachedLaws.{Lasts, lasts_on}
 
 -- ---- lists
 
@@ -253,7 +253,7 @@ waits_bear = record {
   here = λ input s here. (here_comes input s here, here_no_back input s here);
 }
 
--- ---- one change after the other
+-- ---- each reached cluster
 
 -- a message gives nothing up
 message_no_back : (input : Input) (s : ClientProcs) (machine : Machine) (copy : PacketCopy) → Brings (arrival machine copy) machine copy (arrived.Message input) → IsNoBack input s
@@ -287,23 +287,14 @@ module _ {L : Type 0} (faults asked : L → ℕ → ℕ → ℕ) (c : Descriptio
   abbrev AllWait : At L → Type 0
   AllWait at = turns.At_stands c Waits Such waits_bear faults asked at
 
-  brings_such : (change : Change) (old : At L) → Reached faults asked c begun old → ChangeBringsNew change old → ChangeIsFromServers c change old → turns.ChangeBrings c Waits Such waits_bear faults asked change old
-  brings_such (Chose kernel (choices.Deliver number)) old reached news served =
-      λ low copy input there brings client e. (brings_so faults asked c begun (Chose kernel (choices.Deliver number)) old reached news served low copy input there brings client e, message_no_back input client old.wire.machine copy brings)
-  brings_such (Chose kernel (choices.Expire tx)) old reached news served =
-      λ low before now between fires client e.
+  brings_such : (kernel : ℕ) (choice : Choice) (old now : At L) → Reached faults asked c begun old → Goes faults asked c (Chose kernel choice) old now → turns.ChangeBrings c Waits Such waits_bear faults asked (Chose kernel choice) old
+  brings_such kernel (choices.Deliver number) old now reached goes =
+      λ low copy input there brings client e. (brings_so faults asked c begun kernel (choices.Deliver number) old now reached goes low copy input there brings client e, message_no_back input client old.wire.machine copy brings)
+  brings_such kernel (choices.Expire tx) old now reached goes =
+      λ low before later between fires client e.
       let got = last_found (call_of old.wire.machine tx) fires.last in
-      (brings_so faults asked c begun (Chose kernel (choices.Expire tx)) old reached news served low before now between fires client e, last_no_back old.wire.machine kernel tx got.0 client.files (client_asks faults asked c begun old kernel client low reached e) got.1 got.2)
-  brings_such (Chose kernel (choices.WriteBack file block)) old reached news served = λ low. tt
-  brings_such (Began kernel) old reached news served = tt
-  brings_such (Took kernel b) old reached news served = tt
-  brings_such (Lost kernel b) old reached news served = tt
-
-  wait_go : (changes : List Change) (old now : At L) → Reached faults asked c begun old → GoesServed faults asked c changes old now → AllWait old → AllWait now
-  wait_go [] old now reached none h = subst AllWait none h
-  wait_go (change ∷ changes) old now reached all h =
-      wait_go changes all.0 now (reached_on faults asked c begun change old all.0 reached all.1) all.4
-      (turns.changed c Waits Such waits_bear faults asked change old all.0 (replies_come faults asked c begun old reached) (brings_such change old reached all.2 all.3) all.1 h)
+      (brings_so faults asked c begun kernel (choices.Expire tx) old now reached goes low before later between fires client e, last_no_back old.wire.machine kernel tx got.0 client.files (client_asks faults asked c begun old kernel client low reached e) got.1 got.2)
+  brings_such kernel (choices.WriteBack file block) old now reached goes = λ low. tt
 
   wait_first : (first : At L) → Begins faults asked c begun first → AllWait first
   wait_first first b = subst (λ (machine : Machine). Stands c Waits Such waits_bear machine first.state) (sym b.idles) (record {
@@ -316,11 +307,20 @@ module _ {L : Type 0} (faults asked : L → ℕ → ℕ → ℕ) (c : Descriptio
         })) c.kernels first.state.kernels 1 b.boots.kernels_are;
   })
 
-  all_wait : (changes : List Change) (first now : At L) → Begins faults asked c begun first → GoesServed faults asked c changes first now → AllWait now
-  all_wait changes first now begins all = wait_go changes first now (reached_first faults asked c begun first begins) all (wait_first first begins)
+  wait_last : Lasts faults asked c begun AllWait
+  wait_last = record {
+    begins = wait_first;
+    chose = λ kernel choice old now reached goes h. turns.changed c Waits Such waits_bear faults asked (Chose kernel choice) old now (replies_come faults asked c begun old reached) (brings_such kernel choice old now reached goes) goes h;
+    began = λ kernel old now reached goes h. turns.changed c Waits Such waits_bear faults asked (Began kernel) old now (replies_come faults asked c begun old reached) tt goes h;
+    took = λ kernel b old now reached goes h. turns.changed c Waits Such waits_bear faults asked (Took kernel b) old now (replies_come faults asked c begun old reached) tt goes h;
+    lost = λ kernel b old now reached goes h. turns.changed c Waits Such waits_bear faults asked (Lost kernel b) old now (replies_come faults asked c begun old reached) tt goes h;
+  }
 
-  client_waits : (changes : List Change) (first now : At L) (kernel : ℕ) (client : ClientProcs) → Begins faults asked c begun first → GoesServed faults asked c changes first now → 1 ≤ kernel → kernel_at kernel now.state ≡ Some (kernels.Client client) → Waits None now.wire.machine kernel client
-  client_waits changes first now kernel client begins all low e = one_at (OfClient (Waits None now.wire.machine)) kernel (kernels.Client client) now.state.kernels low (all_wait changes first now begins all).clients e
+  all_wait : (now : At L) → Reached faults asked c begun now → AllWait now
+  all_wait now reached = lasts_on faults asked c begun AllWait now wait_last reached
+
+  client_waits : (now : At L) (kernel : ℕ) (client : ClientProcs) → 1 ≤ kernel → Reached faults asked c begun now → kernel_at kernel now.state ≡ Some (kernels.Client client) → Waits None now.wire.machine kernel client
+  client_waits now kernel client low reached e = one_at (OfClient (Waits None now.wire.machine)) kernel (kernels.Client client) now.state.kernels low (all_wait now reached).clients e
 
 -- an unfinished call that asks so
 unfinished_call : (machine : Machine) (kernel : ℕ) (wanted : Wanted) (tx : TxNo) → AsksAt kernel wanted machine tx → IsLeft None machine kernel tx → IsUnfinishedCall machine kernel wanted tx
@@ -332,13 +332,13 @@ unfinished_call machine kernel wanted tx asks (inl out) = by (call_of machine tx
     by None e some = absurd (cc)
 
 pub own_calls_are_unfinished : {L : Type 0} (faults asked : L → ℕ → ℕ → ℕ) → OwnCallsAreUnfinished faults asked
-own_calls_are_unfinished faults asked c begun changes first now kernel client tx row begins all low e waits =
-    let so : Waits None now.wire.machine kernel client = client_waits faults asked c begun changes first now kernel client begins all low (client_is (kernel_at kernel now.state) client e) in
+own_calls_are_unfinished faults asked c begun now kernel client tx row low reached e waits =
+    let so : Waits None now.wire.machine kernel client = client_waits faults asked c begun now kernel client low reached (client_is (kernel_at kernel now.state) client e) in
     unfinished_call now.wire.machine kernel (wanted_of row.1) tx (each_get (RowAsks now.wire.machine kernel) client.files.pending waits.at row so.asks.rows waits.there tx waits.own)
     (each_get (RowLeft None now.wire.machine kernel) client.files.pending waits.at row so.left.rows waits.there tx waits.own)
 
 pub write_backs_are_unfinished : {L : Type 0} (faults asked : L → ℕ → ℕ → ℕ) → WriteBacksAreUnfinished faults asked
-write_backs_are_unfinished faults asked c begun changes first now kernel client row begins all low e out =
-    let so : Waits None now.wire.machine kernel client = client_waits faults asked c begun changes first now kernel client begins all low (client_is (kernel_at kernel now.state) client e) in
+write_backs_are_unfinished faults asked c begun now kernel client row low reached e out =
+    let so : Waits None now.wire.machine kernel client = client_waits faults asked c begun now kernel client low reached (client_is (kernel_at kernel now.state) client e) in
     unfinished_call now.wire.machine kernel (write_back_wanted row.1) row.0 (each_get (BackAsks now.wire.machine kernel) client.files.write_backs out.at row so.asks.backs out.there)
     (each_get (BackLeft None now.wire.machine kernel) client.files.write_backs out.at row so.left.backs out.there)

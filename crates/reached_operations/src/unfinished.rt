@@ -2,9 +2,8 @@ ghost use Rattle.reached_operations.specs.Unfinished.{OwnCallsAreUnfinished, Wri
 
 use link_plan::Link;
 
-/// A law: in a cluster that is reached by changes which bring to each client what is new there, and answers to what servers do for it from
-/// servers alone, each remote call for which an operation of a client waits that is its own is unfinished, so that its reply wasn't handed
-/// out yet; it is this client's, and asks what the operation sent (this project).
+/// A law: in each reached cluster, each remote call for which an operation of a client waits that is its own is unfinished, so that its reply
+/// wasn't handed out yet; it is this client's, and asks what the operation sent (this project).
 pub fn own_calls_are_unfinished<L: Link>()
     ensures { OwnCallsAreUnfinished L.faults L.asked }
 {}

@@ -1,10 +1,12 @@
 -- Each operation on files of a client of a reached cluster waits for something.
-use Rattle.std.proofs.Common.{ℕ, List, [], ◌∷◌, subst}
+use Rattle.std.proofs.Common.{◌≡◌, ℕ, Option, Some, None, option_map, refl}
+use Rattle.kernel_steps.specs.Outs.{started}
+use Rattle.process_machine.specs.Machine.{Machine}
 use Rattle.unix_calls.specs.declared.Description.{Description}
 use Rattle.client_homes.specs.declared.ClientProcs.{ClientProcs}
-use Rattle.cluster_choices.specs.declared.Choice.TheVariants as choices
-use Rattle.sprite_cluster.specs.Reached.{At, Began, Change, Chose, Lost, Took}
-use Rattle.sprite_cluster.proofs.KernelLaws.{ChangeBrings, Keeps, booted, changed}
+use Rattle.client_homes.specs.declared.process.Proc.{Proc}
+use Rattle.client_homes.specs.Procs.{proc_at, with_proc}
+use Rattle.sprite_cluster.proofs.KernelLaws.{Keeps}
 use Rattle.client_procs.specs.Boot.{boots}
 use Rattle.client_walks.specs.PlacesOnce.{PlacesAreOnce}
 use Rattle.client_walks.proofs.BornLaws.{begins_with_places, image_keeps_places}
@@ -17,17 +19,24 @@ use Rattle.holder_facts.specs.SyncFacts.{KeepsSyncFacts}
 use Rattle.holder_facts.proofs.LineKernel.{begins_with_queue_facts, image_keeps_queue_facts, step_keeps_queue_facts}
 use Rattle.holder_facts.proofs.SyncKernel.{step_keeps_sync_facts}
 use Rattle.holder_facts.proofs.SyncRest.{begins_with_sync_facts, image_keeps_sync_facts}
-use Rattle.reached_clients.specs.Clients.{ChangeBringsNew, GoesNew, OfClient, OfClients}
-use Rattle.reached_clients.proofs.ClientLaws.{IsNewFor, SuchFor, clients_begin, clients_keep, clients_weaken, new_at, own_new}
+use Rattle.reached_clients.specs.Clients.{OfClient}
+use Rattle.reached_clients.proofs.ClientLaws.{IsNewFor, SuchFor, clients_keep, clients_last, clients_weaken, comes_new, own_new}
 use Rattle.reached_waits.specs.Waits.{OperationsStayWaiting, WaitsForSomething}
 
--- Along changes that bring what is new
+-- nothing is to be told, and an image tells nothing
+abbrev IsSaid : ClientProcs → Type 0
+IsSaid s = s.files.out ≡ started (record { 0 = 0 })
+
+image_said : (o : Option Proc) (s : ClientProcs) (pid : ℕ) (image : Machine) → IsSaid s → IsSaid (with_proc pid (option_map {T = Proc} (λ proc. record proc { image = image }) o) s)
+image_said None s pid image said = said
+image_said (Some proc) s pid image said = said
 
 record IsWaiting (s : ClientProcs) : Type 0 where
   places : PlacesAreOnce s
   one : OneThingEach s
   syncs : KeepsSyncFacts s.files
   queues : KeepsQueueFacts s.files
+  said : IsSaid s
 
 abbrev Waiting : ℕ → ClientProcs → Type 0
 Waiting kernel s = IsWaiting s
@@ -40,30 +49,18 @@ waiting_kept =
       one = images_keep_one_thing s pid image p.one;
       syncs = image_keeps_sync_facts s pid image p.syncs;
       queues = image_keeps_queue_facts s pid image p.queues;
+      said = image_said (proc_at pid s) s pid image p.said;
     })
     (λ kernel s input next step new p. record {
       places = step_keeps_places s input next step new p.places;
       one = steps_keep_one_thing s input next step new p.places p.one;
       syncs = step_keeps_sync_facts s input next step new p.places p.one p.syncs;
       queues = step_keeps_queue_facts s input next step new p.places p.one p.queues;
+      said = refl;
     })
 
-waiting_change : {L : Type 0} (faults asked : L → ℕ → ℕ → ℕ) (c : Description) (change : Change) (old : At L) → ChangeBringsNew change old → ChangeBrings (OfClient Waiting) (SuchFor IsNewFor) waiting_kept faults asked c change old
-waiting_change faults asked c (Chose kernel (choices.Deliver number)) old news = λ low copy input there brings. new_at kernel input old.state (news copy input there brings)
-waiting_change faults asked c (Chose kernel (choices.Expire tx)) old news = λ low. tt
-waiting_change faults asked c (Chose kernel (choices.WriteBack file block)) old news = λ low. tt
-waiting_change faults asked c (Began kernel) old news = tt
-waiting_change faults asked c (Took kernel b) old news = tt
-waiting_change faults asked c (Lost kernel b) old news = tt
-
-waiting_go : {L : Type 0} (faults asked : L → ℕ → ℕ → ℕ) (c : Description) (changes : List Change) (old now : At L) → GoesNew faults asked c changes old now → OfClients Waiting 1 old.state.kernels → OfClients Waiting 1 now.state.kernels
-waiting_go {L} faults asked c [] old now none h = subst (λ (at : At L). OfClients Waiting 1 at.state.kernels) none h
-waiting_go {L} faults asked c (change ∷ changes) old now all h =
-    waiting_go faults asked c changes all.0 now all.3
-    (changed (OfClient Waiting) (SuchFor IsNewFor) waiting_kept faults asked c change old all.0 (waiting_change faults asked c change old all.2) all.1 h)
-
 begins_waiting : (c : Description) (kernel : ℕ) → Waiting kernel (boots c kernel)
-begins_waiting c kernel = record { places = begins_with_places c kernel; one = begins_with_one_thing c kernel; syncs = begins_with_sync_facts c kernel; queues = begins_with_queue_facts c kernel }
+begins_waiting c kernel = record { places = begins_with_places c kernel; one = begins_with_one_thing c kernel; syncs = begins_with_sync_facts c kernel; queues = begins_with_queue_facts c kernel; said = refl }
 
 waits_so : (kernel : ℕ) (client : ClientProcs) → Waiting kernel client → WaitsForSomething client.files
 waits_so kernel client p = record {
@@ -77,9 +74,9 @@ waits_so kernel client p = record {
   kept_out = p.queues.turns.locks.kept_out;
   turns = p.queues.turns.locks.turns;
   turns_once = (may_goes_on client (one_thing_is_enough client p.one)).may.turns;
+  rest = record { ready = p.syncs.rests; results = p.one.told; said = p.said };
 }
 
 pub operations_stay : {L : Type 0} (faults asked : L → ℕ → ℕ → ℕ) → OperationsStayWaiting faults asked
-operations_stay faults asked c begun changes first now begins all =
-    clients_weaken Waiting (λ kernel client. WaitsForSomething client.files) waits_so now.state.kernels 1
-    (waiting_go faults asked c changes first now all (booted (OfClient Waiting) c (clients_begin Waiting c (begins_waiting c)) c.kernels first.state.kernels 1 begins.boots.kernels_are))
+operations_stay faults asked c begun now reached =
+    clients_weaken Waiting (λ kernel client. WaitsForSomething client.files) waits_so now.state.kernels 1 (clients_last faults asked c begun Waiting IsNewFor waiting_kept comes_new (begins_waiting c) now reached)
