@@ -1,5 +1,5 @@
 -- Which kernels of a reached cluster are clients: those of the description that serve no domain.
-use Rattle.std.proofs.Common.{arith, ◌≡◌, ℕ, zero, suc, ◌+◌, ◌-◌, ◌==◌, ◌<◌, Bool, true, false, not, List, [], ◌∷◌, length, slice_get, slice_set, Option, Some, None, refl, sym, ap, subst, ◌∙◌}
+use Rattle.std.proofs.Common.{◌≡◌, ℕ, zero, suc, ◌+◌, ◌-◌, ◌==◌, Bool, true, false, not, List, [], ◌∷◌, length, slice_get, slice_set, Option, Some, None, refl, sym, ap, subst, ◌∙◌}
 use Rattle.sprite_ids.specs.declared.TxNo.{TxNo}
 use Rattle.sprite_ids.proofs.ListLaws.{some_is}
 use Rattle.sprite_paths.specs.declared.Path.{Path}
@@ -109,10 +109,3 @@ kind_is (line ∷ lines) (first ∷ states) zero state h e = ap is_client_state 
 kind_is (line ∷ lines) (first ∷ states) (suc i) state h e = kind_is lines states i state h.1 e
 kind_is [] (first ∷ states) i state h e = absurd h
 kind_is (line ∷ lines) [] i state h e = absurd h
-
-pub state_there : (lines : List KernelLine) (states : List KernelState) (i : ℕ) → AreKinds lines states → i < length lines → (state : KernelState) × (slice_get states i ≡ Some state)
-state_there [] [] i h low = absurd (omega (arith, low))
-state_there (line ∷ lines) (first ∷ states) zero h low = (first, refl)
-state_there (line ∷ lines) (first ∷ states) (suc i) h low = state_there lines states i h.1 (omega (arith, low))
-state_there [] (first ∷ states) i h low = absurd h
-state_there (line ∷ lines) [] i h low = absurd h

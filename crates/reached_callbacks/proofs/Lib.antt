@@ -9,4 +9,3 @@ pub mod RowLaws
 pub mod OutLaws
 pub mod CallbackLaws
 pub mod StallLaws
-pub mod WaitLaws

@@ -12,4 +12,4 @@ pub use answers::{
 };
 pub use callbacks::{callbacks_are_calls, each_has_row, each_is_out, servers_call_back};
 pub use stalls::{clients_have_all, no_callback_is_out, servers_are_done};
-pub use waits::{only_waits_are_left, stalled_runs_wait};
+pub use waits::only_waits_are_left;

@@ -30,8 +30,7 @@ use Rattle.cluster_wire.specs.Goings.{Going, are_apart, broadcast_to, call_to, g
 use Rattle.cluster_steps.specs.Receivers.{fits, is_for_servers, is_receiver, may_be_asked}
 use Rattle.reached_domains.specs.Domains.{request_read}
 use Rattle.reached_domains.proofs.CallLaws.{IsOther}
-use Rattle.reached_receivers.specs.Receivers.{GoesRight}
-use Rattle.reached_receivers.proofs.KindLaws.{IsThere}
+use Rattle.reached_receivers.specs.Receivers.{GoesRight, IsInside}
 use Rattle.reached_receivers.proofs.WireWalk.{Bears}
 
 -- ---- lists
@@ -139,7 +138,7 @@ module _ (c : Description) where
   fresh_take request [] h = tt
   fresh_take request (server ∷ servers) h = (h.0, fresh_take request servers h.1)
 
-  right_begins : (kernel : ℕ) (sending : Sending) (going : Going) (machine : Machine) (old new : Counts) (act : Act) → IsThere c kernel → fits c sending ≡ true → goes c kernel sending ≡ Some going → IsBegin kernel machine going act → MayAct machine old act new → Right machine → Right (after machine act)
+  right_begins : (kernel : ℕ) (sending : Sending) (going : Going) (machine : Machine) (old new : Counts) (act : Act) → IsInside c kernel → fits c sending ≡ true → goes c kernel sending ≡ Some going → IsBegin kernel machine going act → MayAct machine old act new → Right machine → Right (after machine act)
   right_begins kernel sending going machine old new act there fit planned is may h =
       let packet : Packet = packet_to kernel (next_of machine) going in
       let begun : Call = new_call machine kernel is.port going.servers going.owner (spelling packet) going.tries (about_of going.body) is.before in
@@ -156,5 +155,5 @@ module _ (c : Description) where
         high = there.1;
       }))
 
-  pub right_bears : Bears c (IsThere c) Right
+  pub right_bears : Bears c (IsInside c) Right
   right_bears = record { begins = right_begins; answers = right_answers; others = right_others }

@@ -1,5 +1,5 @@
 -- Each kernel of a reached cluster is of the kind that the description says.
-use Rattle.std.proofs.Common.{arith, ◌≡◌, ℕ, zero, suc, ◌+◌, ◌<◌, ◌≤◌, ◌==◌, Bool, true, false, not, cond, List, [], ◌∷◌, ◌++◌, length, slice_get, Option, Some, None, refl, sym, ap, subst, ◌∙◌, append_assoc, true≢false}
+use Rattle.std.proofs.Common.{arith, ◌≡◌, ℕ, zero, suc, ◌+◌, ◌<◌, ◌==◌, Bool, true, false, not, cond, List, [], ◌∷◌, ◌++◌, length, slice_get, Option, Some, None, refl, sym, ap, subst, ◌∙◌, append_assoc, true≢false}
 use Rattle.std.proofs.lemmas.Bool.{eqb-true}
 use Rattle.sprite_ids.specs.declared.TxNo.{TxNo}
 use Rattle.sprite_ids.proofs.ListLaws.{get_within}
@@ -22,20 +22,16 @@ use Rattle.sprite_cluster.specs.Everywhere.{OfAll}
 use Rattle.sprite_cluster.specs.Reached.{At, Chose, Began, Took, Lost}
 use Rattle.sprite_cluster.proofs.KernelLaws.{Any, ChangeBrings, Keeps, changed}
 use Rattle.sprite_cluster.proofs.ReachedLaws.{Lasts, lasts_on}
-use Rattle.reached_receivers.specs.Receivers.{IsOfItsKind, KernelsAreOfTheirKind, is_server}
+use Rattle.reached_receivers.specs.Receivers.{IsInside, IsOfItsKind, KernelsAreOfTheirKind, is_server}
 
 -- ---- numbers
 
--- a kernel of the description
-abbrev pub IsThere : Description → ℕ → Type 0
-IsThere c kernel = (1 ≤ kernel) × (kernel ≤ length c.kernels)
-
--- one that takes requests is
-pub receiver_there : (c : Description) (for_servers : Bool) (kernel : ℕ) → is_receiver c for_servers kernel ≡ true → IsThere c kernel
+-- a kernel that takes requests is one of the description
+pub receiver_there : (c : Description) (for_servers : Bool) (kernel : ℕ) → is_receiver c for_servers kernel ≡ true → IsInside c kernel
 receiver_there c for_servers zero e = absurd (cc)
 receiver_there c for_servers (suc place) e = by (slice_get c.kernels place) refl e
   where
-    by : (o : Option KernelLine) → slice_get c.kernels place ≡ o → holds (takes_such for_servers) o ≡ true → IsThere c (suc place)
+    by : (o : Option KernelLine) → slice_get c.kernels place ≡ o → holds (takes_such for_servers) o ≡ true → IsInside c (suc place)
     by None is none = absurd (cc)
     by (Some line) is holds_so = let within : place < length c.kernels = get_within c.kernels place line is in (omega arith, omega (arith, within))
 

@@ -1,33 +1,36 @@
 -- Where the packets of a reached cluster go: to its kernels, and each request to those that take such.
-use Rattle.std.specs.Prelude.{◌≡◌, ◌≤◌, ℕ, Bool, true, false, length, Some, is_some}
+use Rattle.std.specs.Prelude.{◌≡◌, ◌≤◌, ℕ, Bool, true, false, length, Some}
 use Rattle.std.specs.List.{AllByRecursion}
-use Rattle.sprite_ids.specs.declared.Finish.TheVariants as finish
 use Rattle.sprite_ids.specs.declared.TxNo.{TxNo}
 use Rattle.packet_bodies.specs.declared.Request.{Request}
-use Rattle.packet_bodies.specs.declared.Request.TheVariants as requests
+use Rattle.kernel_steps.specs.declared.Input.TheVariants as inputs
 use Rattle.kernel_rpc.specs.declared.call.Call.{Call}
-use Rattle.kernel_rpc.specs.declared.call.Part.TheVariants.{Waiting}
+use Rattle.kernel_rpc.specs.declared.call.PacketCopy.{PacketCopy}
 use Rattle.kernel_rpc.specs.declared.call.Receiver.{Receiver}
-use Rattle.kernel_rpc.specs.Machine.{call_of, part_of}
+use Rattle.kernel_rpc.specs.Machine.{call_of}
 use Rattle.unix_calls.specs.declared.Description.{Description}
 use Rattle.unix_calls.specs.Domains.{begins_domain}
 use Rattle.unix_calls.specs.Lawful.{Lawful}
-use Rattle.swap_pages.specs.Swap.{bytes_of}
 use Rattle.server_kernel.specs.declared.Server.{Server}
 use Rattle.server_kernel.specs.Boot.{serves_of}
 use Rattle.server_kernel.specs.Directory.{Parts, is_root}
+use Rattle.kept_requests.specs.Kept.{has_answer}
+use Rattle.client_homes.specs.declared.ClientProcs.{ClientProcs}
+use Rattle.client_requests.specs.Requests.{is_left}
 use Rattle.cluster_kernels.specs.declared.KernelState.{KernelState}
 use Rattle.cluster_kernels.specs.declared.KernelState.TheVariants as kernels
+use Rattle.cluster_kernels.specs.Kernels.{can_take}
 use Rattle.cluster_kernels.specs.States.{kernel_at}
 use Rattle.cluster_steps.specs.Receivers.{is_for_servers, is_receiver, may_be_asked}
 use Rattle.sprite_cluster.specs.Everywhere.{OfAll}
-use Rattle.sprite_cluster.specs.Finishing.{finish_of}
 use Rattle.sprite_cluster.specs.Reached.{At, Reached}
 use Rattle.reached_domains.specs.Domains.{asked_request}
-use Rattle.stall_laws.specs.Inside.{CallsStayInside}
-use Rattle.stall_laws.specs.Stalls.{CantGoOn, GoesInside, RequestsHaveAnswers}
 
 -- ---- kernels
+
+-- a kernel of the description
+abbrev pub IsInside : Description → ℕ → Type 0
+IsInside c kernel = (1 ≤ kernel) × (kernel ≤ length c.kernels)
 
 abbrev pub is_server : KernelState → Bool
 is_server (kernels.Server server) = true
@@ -58,10 +61,6 @@ pub record GoesRight (c : Description) (call : Call) : Type 0 where
 abbrev pub CallsGoRight : {L : Type 0} → (L → ℕ → ℕ → ℕ) → (L → ℕ → ℕ → ℕ) → Type 0
 CallsGoRight {L} faults asked = (c : Description) (begun : L) (now : At L) → Reached faults asked c begun now → AllByRecursion (GoesRight c) now.wire.machine.unfinished
 
--- so each goes to kernels of the description alone
-abbrev pub CallsAreInside : {L : Type 0} → (L → ℕ → ℕ → ℕ) → (L → ℕ → ℕ → ℕ) → Type 0
-CallsAreInside {L} faults asked = (c : Description) (begun : L) → CallsStayInside faults asked c begun
-
 -- and what is asked of a server is for servers, and what is asked of a client isn't
 abbrev pub RequestsAreOfTheirKind : {L : Type 0} → (L → ℕ → ℕ → ℕ) → (L → ℕ → ℕ → ℕ) → Type 0
 RequestsAreOfTheirKind {L} faults asked =
@@ -76,23 +75,25 @@ DomainsHang {L} faults asked =
     (c : Description) (begun : L) (now : At L) (kernel : ℕ) (server : Server) (path : Parts) → Lawful c → 1 ≤ kernel → Reached faults asked c begun now
     → kernel_at kernel now.state ≡ Some (kernels.Server server) → begins_domain (serves_of c.kernels kernel) path ≡ true → is_root path server ≡ true
 
--- in all clusters that a run of the description reaches, each page for which a server is asked that wasn't taken yet is in its swap
-abbrev pub PagesAreThere : {L : Type 0} → (L → ℕ → ℕ → ℕ) → (L → ℕ → ℕ → ℕ) → Description → L → Type 0
-PagesAreThere {L} faults asked c begun =
-    (now : At L) (tx : TxNo) (call : Call) (server : Server) (pid page : ℕ) → Reached faults asked c begun now → call_of now.wire.machine tx ≡ Some call → 1 ≤ call.owner
-    → part_of call.owner call.receivers ≡ Some Waiting → kernel_at call.owner now.state ≡ Some (kernels.Server server) → asked_request call.body ≡ Some (requests.PageIn pid page) → is_some (bytes_of server.swap pid page) ≡ true
+-- each request that goes to a server of a reached cluster has an answer there, where the server can take it: a page that is asked for is in
+-- its swap
+abbrev pub RequestsHaveAnswers : {L : Type 0} → (L → ℕ → ℕ → ℕ) → (L → ℕ → ℕ → ℕ) → Type 0
+RequestsHaveAnswers {L} faults asked =
+    (c : Description) (begun : L) (now : At L) (tx : TxNo) (call : Call) (server : Server) (body : Request) → Lawful c → Reached faults asked c begun now → call_of now.wire.machine tx ≡ Some call
+    → kernel_at call.owner now.state ≡ Some (kernels.Server server) → asked_request call.body ≡ Some body → can_take (inputs.Request call.tx call.from body) (kernels.Server server) ≡ true → has_answer server body ≡ true
 
--- then each request that goes to a server has an answer there
-abbrev pub RequestsAreAnswered : {L : Type 0} → (L → ℕ → ℕ → ℕ) → (L → ℕ → ℕ → ℕ) → Type 0
-RequestsAreAnswered {L} faults asked = (c : Description) (begun : L) → Lawful c → PagesAreThere faults asked c begun → RequestsHaveAnswers faults asked c begun
+-- and no client leaves a request alone that goes to it, where it can take it: a process that it brings is new there
+abbrev pub ClientsTakeRequests : {L : Type 0} → (L → ℕ → ℕ → ℕ) → (L → ℕ → ℕ → ℕ) → Type 0
+ClientsTakeRequests {L} faults asked =
+    (c : Description) (begun : L) (now : At L) (tx : TxNo) (call : Call) (client : ClientProcs) (body : Request) → Reached faults asked c begun now → call_of now.wire.machine tx ≡ Some call
+    → kernel_at call.owner now.state ≡ Some (kernels.Client client) → asked_request call.body ≡ Some body → can_take (inputs.Request call.tx call.from body) (kernels.Client client) ≡ true → is_left body client ≡ false
 
 -- ---- packets
 
--- each packet in flight of a reached cluster goes to a kernel of the description
+-- a packet goes to a kernel of the description
+abbrev pub GoesInside : Description → PacketCopy → Type 0
+GoesInside c copy = IsInside c copy.to
+
+-- so does each that is in flight in a reached cluster
 abbrev pub PacketsGoInside : {L : Type 0} → (L → ℕ → ℕ → ℕ) → (L → ℕ → ℕ → ℕ) → Type 0
 PacketsGoInside {L} faults asked = (c : Description) (begun : L) (now : At L) → Reached faults asked c begun now → AllByRecursion (GoesInside c) now.wire.machine.copies
-
--- so where the run of a reached cluster stands stalled, the cluster can't go on
-abbrev pub StalledStandsStill : {L : Type 0} → (L → ℕ → ℕ → ℕ) → (L → ℕ → ℕ → ℕ) → Type 0
-StalledStandsStill {L} faults asked =
-    (c : Description) (begun : L) (now : At L) → Reached faults asked c begun now → finish_of c now.trace now.wire.machine now.state ≡ finish.Stalled → CantGoOn c now.wire.machine now.state

@@ -1,11 +1,11 @@
 ghost use Rattle.reached_receivers.specs.Receivers.{
   CallsGoRight,
+  ClientsTakeRequests,
   DomainsHang,
   KernelsAreOfTheirKind,
   PacketsGoInside,
-  RequestsAreAnswered,
   RequestsAreOfTheirKind,
-  StalledStandsStill,
+  RequestsHaveAnswers,
 };
 
 use link_plan::Link;
@@ -32,19 +32,19 @@ pub fn domains_hang<L: Link>()
     ensures { DomainsHang L.faults L.asked }
 {}
 
-/// A law: each request that goes to a file server of a reached cluster has an answer there, where each page that is asked for is in its
-/// swap (this project).
-pub fn requests_are_answered<L: Link>()
-    ensures { RequestsAreAnswered L.faults L.asked }
+/// A law: each request that goes to a file server of a reached cluster has an answer there, where the server can take it: a page that is
+/// asked for is in its swap (this project).
+pub fn requests_have_answers<L: Link>()
+    ensures { RequestsHaveAnswers L.faults L.asked }
+{}
+
+/// A law: and no client leaves a request alone that goes to it, where it can take it: a process that it brings is new there (Douglis and
+/// Ousterhout 1991).
+pub fn clients_take_requests<L: Link>()
+    ensures { ClientsTakeRequests L.faults L.asked }
 {}
 
 /// A law: each packet in flight of a reached cluster goes to a kernel of its description (this project).
 pub fn packets_go_inside<L: Link>()
     ensures { PacketsGoInside L.faults L.asked }
-{}
-
-/// A law: where the run of a reached cluster stands stalled, that cluster can't go on: nothing is in flight, no timer may fire, no block is
-/// due, and no process can run (this project).
-pub fn stalled_stands_still<L: Link>()
-    ensures { StalledStandsStill L.faults L.asked }
 {}

@@ -4,6 +4,6 @@
 mod laws;
 
 pub use laws::{
-    calls_go_right, domains_hang, kernels_are_of_their_kind, packets_go_inside,
-    requests_are_answered, requests_are_of_their_kind, stalled_stands_still,
+    calls_go_right, clients_take_requests, domains_hang, kernels_are_of_their_kind,
+    packets_go_inside, requests_are_of_their_kind, requests_have_answers,
 };

@@ -6,4 +6,3 @@ pub mod TurnLaws
 pub mod StillLaws
 pub mod StallLaws
 pub mod LeftLaws
-pub mod InsideLaws

@@ -1,5 +1,5 @@
 -- Of each reached cluster: who has which call, and which are kept at servers; and what is left where it can't go on.
-use Rattle.std.proofs.Common.{arith, ◌≡◌, ℕ, suc, ◌+◌, ◌-◌, ◌<◌, ◌≤◌, ◌⊎◌, inl, inr, ◌==◌, Bool, true, false, ◌&&◌, ◌||◌, not, List, [], ◌∷◌, ◌++◌, length, slice_get, Some, refl, sym, ap, ◌∙◌, subst, true≢false}
+use Rattle.std.proofs.Common.{arith, ◌≡◌, ℕ, suc, ◌+◌, ◌-◌, ◌<◌, ◌≤◌, ◌⊎◌, inl, inr, ◌==◌, Bool, true, false, ◌&&◌, ◌||◌, List, [], ◌∷◌, ◌++◌, length, slice_get, Some, refl, sym, ap, ◌∙◌, subst, true≢false}
 use Rattle.std.specs.List.{list_any}
 use Rattle.sprite_ids.specs.declared.FileId.{FileId}
 use Rattle.sprite_ids.specs.declared.TxNo.{TxNo}
@@ -16,6 +16,7 @@ use Rattle.kernel_rpc.proofs.SoundLaws.{found_sound}
 use Rattle.kernel_steps.specs.Rows.{is_under}
 use Rattle.unix_calls.specs.declared.Description.{Description}
 use Rattle.unix_calls.specs.declared.KernelLine.{KernelLine}
+use Rattle.unix_calls.specs.Lawful.{Lawful}
 use Rattle.version_table.specs.Files.{is_set}
 use Rattle.server_kernel.specs.declared.Asked.{Asked}
 use Rattle.server_kernel.specs.declared.CallOut.{CallOut}
@@ -27,8 +28,6 @@ use Rattle.server_answers.specs.Servers.{IsKept}
 use Rattle.kept_requests.specs.Kept.{KeepsSuch, has_answer, is_always_answered}
 use Rattle.kept_requests.proofs.ServedLaws.{Rows}
 use Rattle.kept_requests.proofs.StepLaws.{boot_keeps, kept_there, step_keeps}
-use Rattle.client_homes.specs.declared.ClientProcs.{ClientProcs}
-use Rattle.client_requests.specs.Requests.{is_always_taken, is_left}
 use Rattle.cluster_kernels.specs.declared.KernelState.{KernelState}
 use Rattle.cluster_kernels.specs.declared.KernelState.TheVariants as kernels
 use Rattle.cluster_kernels.specs.declared.State.{State}
@@ -42,6 +41,7 @@ use Rattle.sprite_cluster.proofs.ReachedLaws.{Lasts, lasts_on}
 use Rattle.reached_servers.specs.Servers.{FilesAreBusySo}
 use Rattle.reached_servers.proofs.ServerLaws.{files_busy, servers_have}
 use Rattle.reached_domains.specs.Domains.{asked_request}
+use Rattle.reached_receivers.proofs.ReceiverLaws.{clients_take, requests_answered}
 use Rattle.stall_laws.specs.Stalls.{AllCallsAreTaken, AllTakenAreKept, AllUnfinishedAreKept, GoesToServer, HasCall, IsWithOwner, KeepsNothing, NoCallIsLeftAtServers, NoCallbackNothingKept, NoneIsLeftAtServers, OwnersAloneHold, ServersKeepSuch, TakenAreKept, UnfinishedAreKept, asked_of}
 use Rattle.stall_laws.proofs.CallLaws.{CallSo, Nobody}
 use Rattle.stall_laws.proofs.ClientLaws.{client_begins}
@@ -97,36 +97,33 @@ module _ {L : Type 0} (faults asked : L → ℕ → ℕ → ℕ) (wants : Wants)
 
 -- ---- what is wanted
 
--- nothing, what kernels take on whatever they have, all at servers, all at clients
+-- nothing, what servers have an answer to whatever they have and all at clients, all
 abbrev pub nothing : Wants
 nothing = record { at_servers = λ body. false; at_clients = λ body. false }
 
 abbrev pub whatever : Wants
-whatever = record { at_servers = is_always_answered; at_clients = is_always_taken }
+whatever = record { at_servers = is_always_answered; at_clients = λ body. true }
 
-abbrev pub all_at_servers : Wants
-all_at_servers = record { at_servers = λ body. true; at_clients = λ body. false }
-
-abbrev pub all_at_clients : Wants
-all_at_clients = record { at_servers = λ body. false; at_clients = λ body. true }
+abbrev pub everything : Wants
+everything = record { at_servers = λ body. true; at_clients = λ body. true }
 
 always_answers : (body : Request) (server : Server) → is_always_answered body ≡ true → has_answer server body ≡ true
 always_answers (requests.Prefix path) server e = absurd (cc)
 always_answers (requests.PageIn pid page) server e = absurd (cc)
 always_answers body server e = e
 
-always_takes : (body : Request) (client : ClientProcs) → is_always_taken body ≡ true → is_left body client ≡ false
-always_takes (requests.Transfer request) client e = absurd (cc)
-always_takes (requests.Launch request) client e = absurd (cc)
-always_takes body client e = ap not e
-
 pub nothing_wanted : (machine : Machine) (s : State) → AreTakenOn nothing machine s
-nothing_wanted machine s tx call (kernels.Server server) body found low waits there asks wanted = absurd (cc)
-nothing_wanted machine s tx call (kernels.Client client) body found low waits there asks wanted = absurd (cc)
+nothing_wanted machine s tx call (kernels.Server server) body found there asks wanted can = absurd (cc)
+nothing_wanted machine s tx call (kernels.Client client) body found there asks wanted can = absurd (cc)
 
-pub whatever_is : (machine : Machine) (s : State) → AreTakenOn whatever machine s
-whatever_is machine s tx call (kernels.Server server) body found low waits there asks wanted = always_answers body server wanted
-whatever_is machine s tx call (kernels.Client client) body found low waits there asks wanted = always_takes body client wanted
+module _ {L : Type 0} (faults asked : L → ℕ → ℕ → ℕ) (c : Description) (begun : L) where
+  pub whatever_is : (old : At L) → Reached faults asked c begun old → AreTakenOn whatever old.wire.machine old.state
+  whatever_is old past tx call (kernels.Server server) body found there asks wanted can = always_answers body server wanted
+  whatever_is old past tx call (kernels.Client client) body found there asks wanted can = clients_take faults asked c begun old tx call client body past found there asks can
+
+  everything_is : Lawful c → (old : At L) → Reached faults asked c begun old → AreTakenOn everything old.wire.machine old.state
+  everything_is lawful old past tx call (kernels.Server server) body found there asks wanted can = requests_answered faults asked c begun old tx call server body lawful past found there asks can
+  everything_is lawful old past tx call (kernels.Client client) body found there asks wanted can = clients_take faults asked c begun old tx call client body past found there asks can
 
 -- ---- the laws
 
@@ -151,16 +148,12 @@ keep_such faults asked = servers_have faults asked KeepsSuch step_keeps boot_kee
 pub taken_kept : {L : Type 0} (faults asked : L → ℕ → ℕ → ℕ) → TakenAreKept faults asked
 taken_kept faults asked c begun now tx call server body reached has always =
     kept_there server (asked_of call body)
-    (kept_call faults asked whatever c begun (λ old past. whatever_is old.wire.machine old.state) now tx call (kernels.Server server) body reached has.unfinished has.numbered has.taken has.there has.asks always)
+    (kept_call faults asked whatever c begun (whatever_is faults asked c begun) now tx call (kernels.Server server) body reached has.unfinished has.numbered has.taken has.there has.asks always)
 
 pub all_kept : {L : Type 0} (faults asked : L → ℕ → ℕ → ℕ) → AllTakenAreKept faults asked
-all_kept {L} faults asked c begun now tx call server body reached answers has =
+all_kept faults asked c begun now tx call server body lawful reached has =
     kept_there server (asked_of call body)
-    (kept_call faults asked all_at_servers c begun answered now tx call (kernels.Server server) body reached has.unfinished has.numbered has.taken has.there has.asks refl)
-  where
-    answered : (old : At L) → Reached faults asked c begun old → AreTakenOn all_at_servers old.wire.machine old.state
-    answered old past number one (kernels.Server at) request found low waits there asks wanted = answers old number one at request past found low waits there asks
-    answered old past number one (kernels.Client at) request found low waits there asks wanted = absurd (cc)
+    (kept_call faults asked everything c begun (everything_is faults asked c begun lawful) now tx call (kernels.Server server) body reached has.unfinished has.numbered has.taken has.there has.asks refl)
 
 pub all_taken : {L : Type 0} (faults asked : L → ℕ → ℕ → ℕ) → AllCallsAreTaken faults asked
 all_taken faults asked c begun now tx call reached stuck e = stuck_taken c now.wire.machine now.state tx call stuck (call_so faults asked c begun now tx call reached e) e
@@ -216,8 +209,8 @@ unfinished_kept faults asked c begun now tx call server body reached stuck goes 
     taken_kept faults asked c begun now tx call server body reached (has_call now tx call server body goes (all_taken faults asked c begun now tx call reached stuck goes.unfinished) asks) always
 
 pub all_unfinished_kept : {L : Type 0} (faults asked : L → ℕ → ℕ → ℕ) → AllUnfinishedAreKept faults asked
-all_unfinished_kept faults asked c begun now tx call server body reached answers stuck goes asks =
-    all_kept faults asked c begun now tx call server body reached answers (has_call now tx call server body goes (all_taken faults asked c begun now tx call reached stuck goes.unfinished) asks)
+all_unfinished_kept faults asked c begun now tx call server body lawful reached stuck goes asks =
+    all_kept faults asked c begun now tx call server body lawful reached (has_call now tx call server body goes (all_taken faults asked c begun now tx call reached stuck goes.unfinished) asks)
 
 pub none_left : {L : Type 0} (faults asked : L → ℕ → ℕ → ℕ) → NoneIsLeftAtServers faults asked
 none_left {L} faults asked c begun now tx call server body reached stuck goes none asks = by (is_always_answered body) refl
@@ -229,7 +222,7 @@ none_left {L} faults asked c begun now tx call server body reached stuck goes no
     by false off = off
 
 pub no_call_left : {L : Type 0} (faults asked : L → ℕ → ℕ → ℕ) → NoCallIsLeftAtServers faults asked
-no_call_left {L} faults asked c begun now tx call server reached answers stuck goes none =
+no_call_left faults asked c begun now tx call server lawful reached stuck goes none =
     let k : CallSo c Nobody call = call_so faults asked c begun now tx call reached goes.unfinished in
     not_kept server (asked_of call k.request) (none_kept faults asked c begun now call.owner server reached goes.there none)
-    (all_unfinished_kept faults asked c begun now tx call server k.request reached answers stuck goes (asks_so c Nobody call k))
+    (all_unfinished_kept faults asked c begun now tx call server k.request lawful reached stuck goes (asks_so c Nobody call k))

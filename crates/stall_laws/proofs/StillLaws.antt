@@ -16,7 +16,8 @@ use Rattle.cluster_kernels.specs.States.{due_at}
 use Rattle.cluster_choices.specs.declared.Choice.TheVariants.{Deliver, Expire}
 use Rattle.cluster_choices.specs.Choosing.{choices_at, write_back_of}
 use Rattle.sprite_cluster.proofs.FinishLaws.{stalled_still}
-use Rattle.stall_laws.specs.Stalls.{CantGoOn, GoesInside, IsWithOwner, NothingFlies, StalledCantGoOn}
+use Rattle.reached_receivers.specs.Receivers.{GoesInside}
+use Rattle.stall_laws.specs.Stalls.{CantGoOn, IsWithOwner, NothingFlies, StalledCantGoOn}
 use Rattle.stall_laws.proofs.CallLaws.{CallSo, Nobody}
 use Rattle.stall_laws.proofs.ReceiverLaws.{held_weaken, owner_holds}
 

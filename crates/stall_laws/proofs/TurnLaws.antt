@@ -15,7 +15,7 @@ use Rattle.process_machine.specs.Machine as processes
 use Rattle.kernel_rpc.specs.declared.call.Arrival.{Arrival}
 use Rattle.kernel_rpc.specs.declared.call.Arrival.TheVariants.{FirstRequest, FirstReply, AskedAgain, Past}
 use Rattle.kernel_rpc.specs.declared.call.Call.{Call}
-use Rattle.kernel_rpc.specs.declared.call.Part.TheVariants.{Holding, Silent, Waiting}
+use Rattle.kernel_rpc.specs.declared.call.Part.TheVariants.{Holding, Silent}
 use Rattle.kernel_rpc.specs.declared.call.Receiver.{Receiver}
 use Rattle.kernel_rpc.specs.declared.Expired.{Expired}
 use Rattle.kernel_rpc.specs.declared.Expired.TheVariants as expired
@@ -51,8 +51,8 @@ use Rattle.cluster_wire.specs.declared.Arrived.TheVariants as arrived
 use Rattle.cluster_wire.specs.declared.Said.{Said}
 use Rattle.cluster_kernels.specs.declared.KernelState.{KernelState}
 use Rattle.cluster_kernels.specs.declared.State.{State}
-use Rattle.cluster_kernels.specs.Kernels.{image_put, kernel_step}
-use Rattle.cluster_kernels.specs.States.{count_at, image_put_at, kernel_at, noted_step, numbered_at, put_image, stepped, stepped_by}
+use Rattle.cluster_kernels.specs.Kernels.{can_take, image_put, kernel_step}
+use Rattle.cluster_kernels.specs.States.{can_take_at, can_take_by, count_at, image_put_at, kernel_at, noted_step, numbered_at, put_image, stepped, stepped_by}
 use Rattle.cluster_steps.specs.Steps.{GoesOut, TakesSo}
 use Rattle.cluster_choices.specs.declared.Choice.{Choice}
 use Rattle.cluster_choices.specs.declared.Choice.TheVariants as choices
@@ -84,11 +84,11 @@ pub record Mid (wants : Wants) (c : Description) (May : TxNo → List ℕ → �
 abbrev pub Stands : Wants → Description → Machine → State → Type 0
 Stands wants c machine s = Mid wants c Nobody NoHand machine s
 
--- a kernel takes on each request that goes to it and is wanted, where it wasn't taken yet
+-- a kernel takes on each request that goes to it and is wanted, where it can take it
 abbrev pub AreTakenOn : Wants → Machine → State → Type 0
 AreTakenOn wants machine s =
-    (tx : TxNo) (call : Call) (state : KernelState) (body : Request) → call_of machine tx ≡ Some call → 1 ≤ call.owner → part_of call.owner call.receivers ≡ Some Waiting
-    → kernel_at call.owner s ≡ Some state → asked_request call.body ≡ Some body → is_wanted wants state body ≡ true → TakesOn state body
+    (tx : TxNo) (call : Call) (state : KernelState) (body : Request) → call_of machine tx ≡ Some call → kernel_at call.owner s ≡ Some state → asked_request call.body ≡ Some body
+    → is_wanted wants state body ≡ true → can_take (inputs.Request call.tx call.from body) state ≡ true → TakesOn state body
 
 -- what an input asks that comes by a call
 abbrev pub AskedBy : Input → List ℕ → Type 0
@@ -158,8 +158,8 @@ module _ (wants : Wants) (c : Description) where
 
   -- ---- a request is handed out
 
-  module _ (kernel : ℕ) (low : 1 ≤ kernel) (machine : Machine) (s : State) (copy : PacketCopy) (call : Call) (request : Request) (goes : copy.to ≡ kernel) (there : call_of machine copy.tx ≡ Some call) (waits : part_of copy.to call.receivers ≡ Some Waiting)
-      (asks : asked_request call.body ≡ Some request) (takes : AreTakenOn wants machine s) where
+  module _ (kernel : ℕ) (machine : Machine) (s : State) (copy : PacketCopy) (call : Call) (request : Request) (goes : copy.to ≡ kernel) (there : call_of machine copy.tx ≡ Some call) (asks : asked_request call.body ≡ Some request)
+      (takes : AreTakenOn wants machine s) (can : can_take_at kernel (inputs.Request copy.tx call.from request) s ≡ true) where
     abbrev taken : Machine
     taken = delivered_as FirstRequest copy Once (landed copy machine)
 
@@ -179,12 +179,12 @@ module _ (wants : Wants) (c : Description) where
     in_hand : (other : ℕ) (state : KernelState) (body : Request) → slice_get s.kernels (other - 1) ≡ Some state → call.owner ≡ other → other ≡ kernel → asked_request call.body ≡ Some body → is_wanted wants state body ≡ true → Comes (inputs.Request copy.tx call.from request) kernel s other state (asked_of call body)
     in_hand other state body e owner same f wanted =
         let own : call.owner ≡ kernel = owner ∙ same in
-        let at : kernel_at kernel s ≡ Some state = ap (λ n. slice_get s.kernels (n - 1)) (sym same) ∙ e in (
-          same,
-          at,
-          ap (λ (tx : TxNo). inputs.Request tx call.from request) (same_tx copy.tx call.tx (sym numbered)) ∙ ap (inputs.Request call.tx call.from) (some_is request body (sym asks ∙ f)),
-          takes copy.tx call state body there (subst (λ n. 1 ≤ n) (sym own) low) (ap (λ n. part_of n call.receivers) (own ∙ sym goes) ∙ waits) (ap (λ n. kernel_at n s) own ∙ at) f wanted,
-        )
+        let at : kernel_at kernel s ≡ Some state = ap (λ n. slice_get s.kernels (n - 1)) (sym same) ∙ e in
+        let is : inputs.Request copy.tx call.from request ≡ inputs.Request call.tx call.from body =
+        ap (λ (tx : TxNo). inputs.Request tx call.from request) (same_tx copy.tx call.tx (sym numbered)) ∙ ap (inputs.Request call.tx call.from) (some_is request body (sym asks ∙ f)) in
+        let can_so : can_take (inputs.Request call.tx call.from body) state ≡ true =
+        ap (λ (input : Input). can_take input state) (sym is) ∙ (ap (can_take_by (inputs.Request copy.tx call.from request)) (sym at) ∙ can) in
+        (same, at, is, takes copy.tx call state body there (ap (λ n. kernel_at n s) own ∙ at) f wanted can_so)
 
     kept_taken : (other : ℕ) (state : KernelState) (found : Call) → slice_get s.kernels (other - 1) ≡ Some state → call_of machine copy.tx ≡ Some found → CallKept wants NoHand other state found → CallKept wants (Comes (inputs.Request copy.tx call.from request) kernel s) other state (further copy.to Holding found)
     kept_taken other state found e f k body owner held g wanted = by (copy.to == other) refl
@@ -424,10 +424,10 @@ module _ (wants : Wants) (c : Description) where
         let after_is : after old.machine (Deliver number (given_in came)) ≡ taken = ap (λ (o : Option PacketCopy). delivered_by o (given_in came) old.machine) flies ∙ ap (λ (a : Arrival). delivered_as a copy (given_in came) (landed copy old.machine)) is in
         let there : between.machine ≡ taken = step.1 ∙ after_is in
         let input : Input = inputs.Request copy.tx call.from k.request in
-        let mid = handed kernel low old.machine s copy call k.request goes got.1 got.3 (asks_so c Nobody call k) takes h (subst Ordered after_is (ordered_after old.machine (Deliver number (given_in came)) h.ordered)) in
+        let gm : Given faults asked c kernel copy.tx (arrived.Message input) between new s t = subst (λ (what : Arrived). Given faults asked c kernel copy.tx what between new s t) came_is g in
+        let mid = handed kernel old.machine s copy call k.request goes got.1 (asks_so c Nobody call k) takes gm.takes.taken h (subst Ordered after_is (ordered_after old.machine (Deliver number (given_in came)) h.ordered)) in
         let here : Mid wants c (Taker copy.tx input kernel) (Comes input kernel s) between.machine s = subst (λ (machine : Machine). Mid wants c (Taker copy.tx input kernel) (Comes input kernel s) machine s) (sym there) mid in
         let fits : Fits input between.machine = subst (λ (machine : Machine). Fits input machine) (sym there) (fits_handed copy call call.from k.request old.machine got.1 (asks_so c Nobody call k)) in
-        let gm : Given faults asked c kernel copy.tx (arrived.Message input) between new s t = subst (λ (what : Arrived). Given faults asked c kernel copy.tx what between new s t) came_is g in
         silenced_so copy.tx input (asks_prefix input && may_be_silent gm.between.machine copy.tx kernel) gm.between new t refl gm.silent (took_so (Taker copy.tx input kernel) input gm.said between gm.between s t fits gm.takes here)
 
     comes_by : (a : Arrival) (number : CopyNo) (copy : PacketCopy) (came : Arrived) (old between new : Wired L) (s t : State) → copy_of old.machine number ≡ Some copy → copy.to ≡ kernel → arrival old.machine copy ≡ a → Brings a old.machine copy came → IsStep faults asked old (Deliver number (given_in came)) between → AreTakenOn wants old.machine s

@@ -1,23 +1,24 @@
 -- Which remote calls that go to clients are unfinished in a reached cluster and where it can't go on, and what is left of all calls then.
-use Rattle.std.specs.Prelude.{◌≡◌, ◌≤◌, ℕ, true, false, [], length, Some, slice_get}
+use Rattle.std.specs.Prelude.{◌≡◌, ◌≤◌, ℕ, true, false, [], Some, slice_get}
 use Rattle.sprite_ids.specs.declared.TxNo.{TxNo}
 use Rattle.packet_bodies.specs.declared.CallbackRequest.{CallbackRequest}
 use Rattle.packet_bodies.specs.declared.Request.{Request}
 use Rattle.packet_bodies.specs.declared.Request.TheVariants as requests
 use Rattle.kernel_rpc.specs.declared.call.Call.{Call}
-use Rattle.kernel_rpc.specs.declared.call.Part.TheVariants.{Holding, Waiting}
-use Rattle.kernel_rpc.specs.Machine.{Machine, call_of, part_of}
+use Rattle.kernel_rpc.specs.declared.call.Part.TheVariants.{Holding}
+use Rattle.kernel_rpc.specs.Machine.{call_of, part_of}
 use Rattle.unix_calls.specs.declared.Description.{Description}
+use Rattle.unix_calls.specs.Lawful.{Lawful}
 use Rattle.server_kernel.specs.declared.CallOut.{CallOut}
 use Rattle.server_kernel.specs.declared.Server.{Server}
 use Rattle.client_homes.specs.declared.ClientProcs.{ClientProcs}
-use Rattle.client_requests.specs.Requests.{asks_device, asks_wait, is_always_taken, is_left}
+use Rattle.client_requests.specs.Requests.{asks_device, asks_wait}
 use Rattle.client_requests.specs.Rows.{AskIn, WaitIn}
 use Rattle.cluster_kernels.specs.declared.KernelState.TheVariants as kernels
 use Rattle.cluster_kernels.specs.States.{kernel_at}
 use Rattle.sprite_cluster.specs.Reached.{At, Reached}
 use Rattle.reached_domains.specs.Domains.{asked_request}
-use Rattle.stall_laws.specs.Stalls.{CantGoOn, KeepsNothing, RequestsHaveAnswers}
+use Rattle.stall_laws.specs.Stalls.{CantGoOn, KeepsNothing}
 
 -- ---- calls that clients have
 
@@ -35,23 +36,10 @@ pub record ClientHasCall {L : Type 0} (now : At L) (tx : TxNo) (call : Call) (cl
   pub there : kernel_at call.owner now.state ≡ Some (kernels.Client client)
   pub asks : asked_request call.body ≡ Some body
 
--- in a reached cluster each such call is kept so at its client, where its request is one that each client takes
+-- in a reached cluster each such call is kept so at its client
 abbrev pub ClientsKeepTaken : {L : Type 0} → (L → ℕ → ℕ → ℕ) → (L → ℕ → ℕ → ℕ) → Type 0
 ClientsKeepTaken {L} faults asked =
     (c : Description) (begun : L) (now : At L) (tx : TxNo) (call : Call) (client : ClientProcs) (body : Request) → Reached faults asked c begun now
-    → ClientHasCall now tx call client body → is_always_taken body ≡ true → KeptAs call.tx client body
-
--- in all clusters that a run of the description reaches, no client leaves a request alone that goes to it and wasn't taken yet: it isn't one
--- for servers, and the process that it brings, where it brings one, is neither there nor leaves
-abbrev pub ClientsTakeRequests : {L : Type 0} → (L → ℕ → ℕ → ℕ) → (L → ℕ → ℕ → ℕ) → Description → L → Type 0
-ClientsTakeRequests {L} faults asked c begun =
-    (now : At L) (tx : TxNo) (call : Call) (client : ClientProcs) (body : Request) → Reached faults asked c begun now → call_of now.wire.machine tx ≡ Some call → 1 ≤ call.owner
-    → part_of call.owner call.receivers ≡ Some Waiting → kernel_at call.owner now.state ≡ Some (kernels.Client client) → asked_request call.body ≡ Some body → is_left body client ≡ false
-
--- where that is so, each call that a client took and hasn't answered is kept so there
-abbrev pub ClientsKeepAllTaken : {L : Type 0} → (L → ℕ → ℕ → ℕ) → (L → ℕ → ℕ → ℕ) → Type 0
-ClientsKeepAllTaken {L} faults asked =
-    (c : Description) (begun : L) (now : At L) (tx : TxNo) (call : Call) (client : ClientProcs) (body : Request) → Reached faults asked c begun now → ClientsTakeRequests faults asked c begun
     → ClientHasCall now tx call client body → KeptAs call.tx client body
 
 -- ---- what is left at clients where the cluster can't go on
@@ -62,23 +50,17 @@ pub record GoesToClient {L : Type 0} (now : At L) (tx : TxNo) (call : Call) (cli
   pub numbered : 1 ≤ call.owner
   pub there : kernel_at call.owner now.state ≡ Some (kernels.Client client)
 
--- where a reached cluster can't go on, each such call is kept so there, where its request is one that each client takes
+-- where a reached cluster can't go on, each such call is kept so there
 abbrev pub ClientsKeepUnfinished : {L : Type 0} → (L → ℕ → ℕ → ℕ) → (L → ℕ → ℕ → ℕ) → Type 0
 ClientsKeepUnfinished {L} faults asked =
     (c : Description) (begun : L) (now : At L) (tx : TxNo) (call : Call) (client : ClientProcs) (body : Request) → Reached faults asked c begun now → CantGoOn c now.wire.machine now.state
-    → GoesToClient now tx call client → asked_request call.body ≡ Some body → is_always_taken body ≡ true → KeptAs call.tx client body
+    → GoesToClient now tx call client → asked_request call.body ≡ Some body → KeptAs call.tx client body
 
--- so none of these is a callback, a kill, the news of a place, or a call for a home that isn't a `wait`
+-- so each is a `wait` or an ask of a pseudo-device
 abbrev pub NoOtherIsLeftAtClients : {L : Type 0} → (L → ℕ → ℕ → ℕ) → (L → ℕ → ℕ → ℕ) → Type 0
 NoOtherIsLeftAtClients {L} faults asked =
     (c : Description) (begun : L) (now : At L) (tx : TxNo) (call : Call) (client : ClientProcs) (body : Request) → Reached faults asked c begun now → CantGoOn c now.wire.machine now.state
-    → GoesToClient now tx call client → asked_request call.body ≡ Some body → asks_wait body ≡ false → asks_device body ≡ false → is_always_taken body ≡ false
-
--- and each such call at all is kept so, where clients take all requests that go to them
-abbrev pub ClientsKeepAllUnfinished : {L : Type 0} → (L → ℕ → ℕ → ℕ) → (L → ℕ → ℕ → ℕ) → Type 0
-ClientsKeepAllUnfinished {L} faults asked =
-    (c : Description) (begun : L) (now : At L) (tx : TxNo) (call : Call) (client : ClientProcs) (body : Request) → Reached faults asked c begun now → ClientsTakeRequests faults asked c begun
-    → CantGoOn c now.wire.machine now.state → GoesToClient now tx call client → asked_request call.body ≡ Some body → KeptAs call.tx client body
+    → GoesToClient now tx call client → asked_request call.body ≡ Some body → asks_wait body ≡ false → asks_device body ≡ false → ⊥
 
 -- ---- callbacks
 
@@ -94,26 +76,22 @@ abbrev pub CallbacksAreUnfinished : {L : Type 0} → At L → Type 0
 CallbacksAreUnfinished {L} now =
     (kernel : ℕ) (server : Server) (at : ℕ) (row : TxNo × CallOut) → 1 ≤ kernel → kernel_at kernel now.state ≡ Some (kernels.Server server) → slice_get server.callbacks at ≡ Some row → IsCalledBack now row
 
--- each callback that is unfinished goes to a client
-abbrev pub CallbacksGoToClients : {L : Type 0} → At L → Type 0
-CallbacksGoToClients {L} now =
-    (tx : TxNo) (call : Call) (request : CallbackRequest) → call_of now.wire.machine tx ≡ Some call → asked_request call.body ≡ Some (requests.Callback request) → (client : ClientProcs) × GoesToClient now tx call client
+-- each callback that is unfinished in a reached cluster goes to a client
+abbrev pub CallbacksGoToClients : {L : Type 0} → (L → ℕ → ℕ → ℕ) → (L → ℕ → ℕ → ℕ) → Type 0
+CallbacksGoToClients {L} faults asked =
+    (c : Description) (begun : L) (now : At L) (tx : TxNo) (call : Call) (request : CallbackRequest) → Reached faults asked c begun now → call_of now.wire.machine tx ≡ Some call
+    → asked_request call.body ≡ Some (requests.Callback request) → (client : ClientProcs) × GoesToClient now tx call client
 
 -- no callback is out at any server, so none keeps a request, nor has a busy file
 pub record NoneIsOut {L : Type 0} (now : At L) : Type 0 where
   pub out : (kernel : ℕ) (server : Server) → 1 ≤ kernel → kernel_at kernel now.state ≡ Some (kernels.Server server) → server.callbacks ≡ []
   pub kept : (kernel : ℕ) (server : Server) → 1 ≤ kernel → kernel_at kernel now.state ≡ Some (kernels.Server server) → KeepsNothing server
 
--- so it is with each reached cluster that can't go on, where callbacks that are out are unfinished calls, and go to clients
+-- so it is with each reached cluster that can't go on, where callbacks that are out are unfinished calls
 abbrev pub NoCallbackWaits : {L : Type 0} → (L → ℕ → ℕ → ℕ) → (L → ℕ → ℕ → ℕ) → Type 0
-NoCallbackWaits {L} faults asked =
-    (c : Description) (begun : L) (now : At L) → Reached faults asked c begun now → CantGoOn c now.wire.machine now.state → CallbacksAreUnfinished now → CallbacksGoToClients now → NoneIsOut now
+NoCallbackWaits {L} faults asked = (c : Description) (begun : L) (now : At L) → Reached faults asked c begun now → CantGoOn c now.wire.machine now.state → CallbacksAreUnfinished now → NoneIsOut now
 
 -- ---- what is left at all
-
--- each unfinished call is to be answered by a kernel of the description
-abbrev pub OwnersAreInside : Description → Machine → Type 0
-OwnersAreInside c machine = (tx : TxNo) (call : Call) → call_of machine tx ≡ Some call → (1 ≤ call.owner) × (call.owner ≤ length c.kernels)
 
 -- an unfinished call is kept so at a client
 pub record IsLeftAtClient {L : Type 0} (now : At L) (call : Call) : Type 0 where
@@ -128,9 +106,7 @@ pub record WaitsAndAsksAlone {L : Type 0} (now : At L) : Type 0 where
   pub servers : NoneIsOut now
   pub calls : (tx : TxNo) (call : Call) → call_of now.wire.machine tx ≡ Some call → IsLeftAtClient now call
 
--- so it is with each reached cluster that can't go on, where callbacks that are out are unfinished calls, kernels of the description are to
--- answer calls, servers have answers to what goes to them, and clients take what goes to them
+-- so it is with each reached cluster of a lawful description that can't go on, where callbacks that are out are unfinished calls
 abbrev pub WaitsAndAsksAreLeft : {L : Type 0} → (L → ℕ → ℕ → ℕ) → (L → ℕ → ℕ → ℕ) → Type 0
 WaitsAndAsksAreLeft {L} faults asked =
-    (c : Description) (begun : L) (now : At L) → Reached faults asked c begun now → CantGoOn c now.wire.machine now.state → RequestsHaveAnswers faults asked c begun → ClientsTakeRequests faults asked c begun
-    → OwnersAreInside c now.wire.machine → CallbacksAreUnfinished now → WaitsAndAsksAlone now
+    (c : Description) (begun : L) (now : At L) → Lawful c → Reached faults asked c begun now → CantGoOn c now.wire.machine now.state → CallbacksAreUnfinished now → WaitsAndAsksAlone now

@@ -1,3 +1,3 @@
 pub mod Stalls
 pub mod Clients
-pub mod Inside
+pub mod Runs

@@ -6,16 +6,16 @@ use Rattle.sprite_ids.specs.declared.Finish.TheVariants as finish
 use Rattle.sprite_ids.specs.declared.TxNo.{TxNo}
 use Rattle.packet_bodies.specs.declared.Request.{Request}
 use Rattle.kernel_rpc.specs.declared.call.Call.{Call}
-use Rattle.kernel_rpc.specs.declared.call.PacketCopy.{PacketCopy}
-use Rattle.kernel_rpc.specs.declared.call.Part.TheVariants.{Holding, Waiting}
+use Rattle.kernel_rpc.specs.declared.call.Part.TheVariants.{Holding}
 use Rattle.kernel_rpc.specs.Machine.{Machine, call_of, part_of}
 use Rattle.unix_calls.specs.declared.Description.{Description}
 use Rattle.unix_calls.specs.declared.Rec.{Rec}
+use Rattle.unix_calls.specs.Lawful.{Lawful}
 use Rattle.server_kernel.specs.declared.Asked.{Asked}
 use Rattle.server_kernel.specs.declared.Server.{Server}
 use Rattle.server_kernel.specs.Files.{is_busy}
 use Rattle.server_answers.specs.Servers.{IsKept}
-use Rattle.kept_requests.specs.Kept.{KeepsSuch, has_answer, is_always_answered}
+use Rattle.kept_requests.specs.Kept.{KeepsSuch, is_always_answered}
 use Rattle.cluster_kernels.specs.declared.KernelState.TheVariants as kernels
 use Rattle.cluster_kernels.specs.declared.State.{State}
 use Rattle.cluster_kernels.specs.States.{kernel_at}
@@ -23,6 +23,7 @@ use Rattle.sprite_cluster.specs.Finishing.{IsStill, finish_of}
 use Rattle.sprite_cluster.specs.Reached.{At, Reached}
 use Rattle.reached_servers.specs.Servers.{ServersHave}
 use Rattle.reached_domains.specs.Domains.{asked_request}
+use Rattle.reached_receivers.specs.Receivers.{GoesInside}
 
 -- ---- who has a call
 
@@ -39,10 +40,6 @@ OwnersAloneHold {L} faults asked =
     → call_of now.wire.machine tx ≡ Some call → part_of kernel call.receivers ≡ Some Holding → kernel ≡ call.owner
 
 -- ---- a cluster that can't go on
-
--- a packet goes to a kernel of the description
-abbrev pub GoesInside : Description → PacketCopy → Type 0
-GoesInside c copy = (1 ≤ copy.to) × (copy.to ≤ length c.kernels)
 
 -- nothing can happen: no kernel has a choice or a process that can run, no burst is out; and each packet in flight goes to one of these kernels
 pub record CantGoOn (c : Description) (machine : Machine) (s : State) : Type 0 where
@@ -84,17 +81,10 @@ TakenAreKept {L} faults asked =
     (c : Description) (begun : L) (now : At L) (tx : TxNo) (call : Call) (server : Server) (body : Request) → Reached faults asked c begun now
     → HasCall now tx call server body → is_always_answered body ≡ true → IsKept server (asked_of call body)
 
--- in all clusters that a run of the description reaches, each request that goes to a server and wasn't taken yet has an answer there: a page
--- is in its swap, a prefix is one of its domains', and what goes to clients doesn't go to it
-abbrev pub RequestsHaveAnswers : {L : Type 0} → (L → ℕ → ℕ → ℕ) → (L → ℕ → ℕ → ℕ) → Description → L → Type 0
-RequestsHaveAnswers {L} faults asked c begun =
-    (now : At L) (tx : TxNo) (call : Call) (server : Server) (body : Request) → Reached faults asked c begun now → call_of now.wire.machine tx ≡ Some call → 1 ≤ call.owner
-    → part_of call.owner call.receivers ≡ Some Waiting → kernel_at call.owner now.state ≡ Some (kernels.Server server) → asked_request call.body ≡ Some body → has_answer server body ≡ true
-
--- where that is so, each call that a server took and hasn't answered is kept there
+-- and so is every call to a server of a lawful description
 abbrev pub AllTakenAreKept : {L : Type 0} → (L → ℕ → ℕ → ℕ) → (L → ℕ → ℕ → ℕ) → Type 0
 AllTakenAreKept {L} faults asked =
-    (c : Description) (begun : L) (now : At L) (tx : TxNo) (call : Call) (server : Server) (body : Request) → Reached faults asked c begun now → RequestsHaveAnswers faults asked c begun
+    (c : Description) (begun : L) (now : At L) (tx : TxNo) (call : Call) (server : Server) (body : Request) → Lawful c → Reached faults asked c begun now
     → HasCall now tx call server body → IsKept server (asked_of call body)
 
 -- what servers of reached clusters keep may be kept
@@ -115,11 +105,11 @@ UnfinishedAreKept {L} faults asked =
     (c : Description) (begun : L) (now : At L) (tx : TxNo) (call : Call) (server : Server) (body : Request) → Reached faults asked c begun now → CantGoOn c now.wire.machine now.state
     → GoesToServer now tx call server → asked_request call.body ≡ Some body → is_always_answered body ≡ true → IsKept server (asked_of call body)
 
--- and each such call at all, where requests that go to servers have answers there
+-- and each such call at all, of a lawful description
 abbrev pub AllUnfinishedAreKept : {L : Type 0} → (L → ℕ → ℕ → ℕ) → (L → ℕ → ℕ → ℕ) → Type 0
 AllUnfinishedAreKept {L} faults asked =
-    (c : Description) (begun : L) (now : At L) (tx : TxNo) (call : Call) (server : Server) (body : Request) → Reached faults asked c begun now → RequestsHaveAnswers faults asked c begun
-    → CantGoOn c now.wire.machine now.state → GoesToServer now tx call server → asked_request call.body ≡ Some body → IsKept server (asked_of call body)
+    (c : Description) (begun : L) (now : At L) (tx : TxNo) (call : Call) (server : Server) (body : Request) → Lawful c → Reached faults asked c begun now → CantGoOn c now.wire.machine now.state
+    → GoesToServer now tx call server → asked_request call.body ≡ Some body → IsKept server (asked_of call body)
 
 -- a server keeps no request, and none of its files is busy
 pub record KeepsNothing (s : Server) : Type 0 where
@@ -137,8 +127,8 @@ NoneIsLeftAtServers {L} faults asked =
     (c : Description) (begun : L) (now : At L) (tx : TxNo) (call : Call) (server : Server) (body : Request) → Reached faults asked c begun now → CantGoOn c now.wire.machine now.state
     → GoesToServer now tx call server → server.callbacks ≡ [] → asked_request call.body ≡ Some body → is_always_answered body ≡ false
 
--- and no call at all that goes to such a server, where requests that go to servers have answers there
+-- and no call at all that goes to such a server, of a lawful description
 abbrev pub NoCallIsLeftAtServers : {L : Type 0} → (L → ℕ → ℕ → ℕ) → (L → ℕ → ℕ → ℕ) → Type 0
 NoCallIsLeftAtServers {L} faults asked =
-    (c : Description) (begun : L) (now : At L) (tx : TxNo) (call : Call) (server : Server) → Reached faults asked c begun now → RequestsHaveAnswers faults asked c begun
-    → CantGoOn c now.wire.machine now.state → GoesToServer now tx call server → server.callbacks ≡ [] → ⊥
+    (c : Description) (begun : L) (now : At L) (tx : TxNo) (call : Call) (server : Server) → Lawful c → Reached faults asked c begun now → CantGoOn c now.wire.machine now.state
+    → GoesToServer now tx call server → server.callbacks ≡ [] → ⊥

@@ -20,7 +20,7 @@ pub fn taken_are_kept<L: Link>()
     ensures { TakenAreKept L.faults L.asked }
 {}
 
-/// A law: and so is every call to a server, where each request that a server hasn't taken yet has an answer there (this project).
+/// A law: and so is every call to a server of a lawful description (this project).
 pub fn all_taken_are_kept<L: Link>()
     ensures { AllTakenAreKept L.faults L.asked }
 {}

@@ -32,8 +32,7 @@ pub fn unfinished_are_kept<L: Link>()
     ensures { UnfinishedAreKept L.faults L.asked }
 {}
 
-/// A law: and so is each unfinished call to a server at all, where each request that a server hasn't taken yet has an answer there (this
-/// project).
+/// A law: and so is each unfinished call to a server at all, of a lawful description (this project).
 pub fn all_unfinished_are_kept<L: Link>()
     ensures { AllUnfinishedAreKept L.faults L.asked }
 {}
@@ -50,7 +49,7 @@ pub fn none_is_left_at_servers<L: Link>()
     ensures { NoneIsLeftAtServers L.faults L.asked }
 {}
 
-/// A law: and no call at all, where each request that a server hasn't taken yet has an answer there (this project).
+/// A law: and no call at all, of a lawful description (this project).
 pub fn no_call_is_left_at_servers<L: Link>()
     ensures { NoCallIsLeftAtServers L.faults L.asked }
 {}

@@ -31,11 +31,11 @@ use Rattle.operation_calls.specs.Asking.{IsOut, WaitsFor}
 use Rattle.operation_calls.specs.Requests.{close_sends, data_sends, is_name_call, is_write_back, name_sends, sends_so, sync_sends, wanted_of, write_back_wanted}
 use Rattle.reached_domains.specs.Domains.{asked_request}
 use Rattle.reached_operations.specs.Unfinished.{IsUnfinishedCall}
+use Rattle.reached_operations.proofs.ServedLaws.{move_for}
 use Rattle.sprite_cluster.specs.Reached.{At}
 use Rattle.stall_laws.specs.Clients.{AsAsk, AsWait, IsLeftAtClient, KeptAs}
 use Rattle.pending_laws.specs.Waits.{AwaitsNoCall, WaitFacts}
 use Rattle.pending_laws.proofs.WaitLaws.{nothing_pending}
-use Rattle.stalled_clusters.proofs.ServedLaws.{move_for}
 
 -- ---- what an operation sends is for servers
 

@@ -1,3 +1,2 @@
-pub mod ServedLaws
 pub mod IdleLaws
 pub mod StalledLaws

@@ -1,4 +1,4 @@
-use Rattle.reached_callbacks.proofs.WaitLaws.{only_waits}
+use Rattle.reached_callbacks.proofs.StallLaws.{only_waits}
 use Rattle.reached_callbacks.proofs.waits.only_waits_are_left.Goals as goal
 
 pub returns : goal.returns

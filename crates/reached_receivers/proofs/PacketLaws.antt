@@ -1,7 +1,6 @@
 -- Packets go to kernels of the description, where calls do: what each call of the wire sends, a turn, and a reached cluster.
-use Rattle.std.proofs.Common.{◌≡◌, ℕ, ◌+◌, ◌==◌, Bool, true, false, ◌&&◌, cond, List, [], ◌∷◌, map, Option, Some, None, option_map, refl, sym, subst}
-use Rattle.std.specs.List.{AllByRecursion, find}
-use Rattle.std.proofs.lemmas.Bool.{eqb-true}
+use Rattle.std.proofs.Common.{◌≡◌, ℕ, ◌+◌, Bool, true, false, ◌&&◌, cond, List, [], ◌∷◌, map, Option, Some, None, refl, sym, subst}
+use Rattle.std.specs.List.{AllByRecursion}
 use Rattle.sprite_ids.specs.declared.CopyNo.{CopyNo}
 use Rattle.sprite_ids.specs.declared.Tries.{Tries}
 use Rattle.sprite_ids.specs.declared.TxNo.{TxNo}
@@ -13,13 +12,13 @@ use Rattle.kernel_rpc.specs.declared.call.Arrival.TheVariants.{FirstRequest, Fir
 use Rattle.kernel_rpc.specs.declared.call.Call.{Call}
 use Rattle.kernel_rpc.specs.declared.call.PacketCopy.{PacketCopy}
 use Rattle.kernel_rpc.specs.declared.call.Part.{Part}
-use Rattle.kernel_rpc.specs.declared.call.Part.TheVariants.{Answered, Holding, Silent}
+use Rattle.kernel_rpc.specs.declared.call.Part.TheVariants.{Answered, Silent}
 use Rattle.kernel_rpc.specs.declared.call.Receiver.{Receiver}
 use Rattle.kernel_rpc.specs.declared.Expired.{Expired}
 use Rattle.kernel_rpc.specs.declared.Expired.TheVariants as expired
 use Rattle.kernel_rpc.specs.Copies.{copies_by, requests}
 use Rattle.kernel_rpc.specs.Histories.{reached}
-use Rattle.kernel_rpc.specs.Machine.{Machine, answered, arrival, call_of, copy_of, delivered_as, fresh, further, gave_up, is_at, is_call, is_copy, is_last, landed, may_be_silent, new_call, part_of, replied, reply_to, request, resent}
+use Rattle.kernel_rpc.specs.Machine.{Machine, answered, arrival, call_of, copy_of, delivered_as, fresh, further, gave_up, is_at, is_call, is_copy, is_last, landed, may_be_silent, new_call, replied, reply_to, request, resent}
 use Rattle.kernel_rpc.specs.Runs.{Act, Begin, Answer, AsksAgain, AsksUnless, Counts, IsRun, MayAct, after, delivered_by, expired_by}
 use Rattle.kernel_rpc.specs.Sound.{Wired}
 use Rattle.kernel_rpc.specs.Steps.{counts_in, sent_in}
@@ -55,14 +54,8 @@ use Rattle.cluster_bursts.specs.Bursts.{EndsAs, GoesOn, came_to, recorded}
 use Rattle.cluster_kernels.specs.States.{noted_step, put_image}
 use Rattle.sprite_cluster.specs.Reached.{At, Chose, Lost, Reached, Took}
 use Rattle.sprite_cluster.specs.Steps.{begun_turn}
-use Rattle.sprite_cluster.proofs.FinishLaws.{stalled_still}
 use Rattle.sprite_cluster.proofs.ReachedLaws.{Lasts, lasts_on, reached_on}
-use Rattle.stall_laws.specs.Clients.{OwnersAreInside}
-use Rattle.stall_laws.specs.Inside.{CallsStayInside, IsInside, PacketsStayInside, StalledLeavesWaits, StaysInside, StillCantGoOn}
-use Rattle.stall_laws.specs.Stalls.{CantGoOn, GoesInside, IsWithOwner}
-use Rattle.stall_laws.proofs.CallLaws.{CallSo, Nobody}
-use Rattle.stall_laws.proofs.LeftLaws.{waits_left}
-use Rattle.stall_laws.proofs.StallLaws.{all_stand, all_taken, nothing, nothing_wanted}
+use Rattle.reached_receivers.specs.Receivers.{GoesInside, IsInside}
 
 -- ---- lists
 
@@ -79,11 +72,11 @@ each_of_map : {X Y : Type 0} (P : Y → Type 0) (f : X → Y) (xs : List X) → 
 each_of_map P f [] h = tt
 each_of_map P f (x ∷ xs) h = (h.0, each_of_map P f xs h.1)
 
-each_two : {X : Type 0} (P Q R : X → Type 0) → ((x : X) → P x → Q x → R x) → (xs : List X) → AllByRecursion P xs → AllByRecursion Q xs → AllByRecursion R xs
-each_two P Q R both [] h k = tt
-each_two P Q R both (x ∷ xs) h k = (both x h.0 k.0, each_two P Q R both xs h.1 k.1)
+-- a call goes to kernels of the description alone
+abbrev pub StaysInside : Description → Call → Type 0
+StaysInside c call = AllByRecursion (λ (receiver : Receiver). IsInside c receiver.kernel) call.receivers
 
--- a call comes from a kernel of the description, and goes to such alone
+-- and comes from such
 pub record IsWithin (c : Description) (call : Call) : Type 0 where
   pub source : IsInside c call.from
   pub receivers : StaysInside c call
@@ -261,12 +254,7 @@ module _ (c : Description) where
 
 -- ---- reached clusters
 
-module _ {L : Type 0} (faults asked : L → ℕ → ℕ → ℕ) (c : Description) (begun : L) (inside : CallsStayInside faults asked c begun) where
-  within_at : (now : At L) → Reached faults asked c begun now → AllByRecursion (IsWithin c) now.wire.machine.unfinished
-  within_at now reached =
-      each_two (CallSo c Nobody) (StaysInside c) (IsWithin c) (λ call k stays. record { source = (k.low, k.high); receivers = stays }) now.wire.machine.unfinished
-      (all_stand faults asked nothing c begun (λ old past. nothing_wanted old.wire.machine old.state) now reached).calls (inside now reached)
-
+module _ {L : Type 0} (faults asked : L → ℕ → ℕ → ℕ) (c : Description) (begun : L) (within_at : (now : At L) → Reached faults asked c begun now → AllByRecursion (IsWithin c) now.wire.machine.unfinished) where
   packets_last : Lasts faults asked c begun (λ (at : At L). AllByRecursion (GoesInside c) at.wire.machine.copies)
   packets_last = record {
     begins = λ first b. subst (λ (machine : Machine). AllByRecursion (GoesInside c) machine.copies) (sym b.idles) tt;
@@ -279,29 +267,5 @@ module _ {L : Type 0} (faults asked : L → ℕ → ℕ → ℕ) (c : Descriptio
         ended c kernel faults asked goes.changes.ends.what b old.wire now.wire (begun_turn old.state) now.state goes.changes.ends.ends (within_at now (reached_on faults asked c begun (Lost kernel b) old now reached goes)) h;
   }
 
-pub packets_inside : {L : Type 0} (faults asked : L → ℕ → ℕ → ℕ) → PacketsStayInside faults asked
-packets_inside {L} faults asked c begun now reached inside = lasts_on faults asked c begun (λ (at : At L). AllByRecursion (GoesInside c) at.wire.machine.copies) now (packets_last faults asked c begun inside) reached
-
-pub still_stuck : {L : Type 0} (faults asked : L → ℕ → ℕ → ℕ) → StillCantGoOn faults asked
-still_stuck faults asked c begun now reached inside still = record { still = still; inside = packets_inside faults asked c begun now reached inside }
-
--- who has a call is one of its receivers
-has_within : (c : Description) (kernel : ℕ) (part : Part) (receivers : List Receiver) → AllByRecursion (λ (receiver : Receiver). IsInside c receiver.kernel) receivers → part_of kernel receivers ≡ Some part → IsInside c kernel
-has_within c kernel part [] h e = absurd (cc)
-has_within c kernel part (first ∷ rest) h e = by (first.kernel == kernel) refl e (has_within c kernel part rest h.1)
-  where
-    by : (b : Bool) → (first.kernel == kernel) ≡ b → option_map (λ (receiver : Receiver). receiver.part) (cond b (Some first) (find (is_at kernel) rest)) ≡ Some part → (part_of kernel rest ≡ Some part → IsInside c kernel) → IsInside c kernel
-    by true same is later = subst (IsInside c) (eqb-true first.kernel kernel same) h.0
-    by false apart is later = later is
-
-pub stalled_leaves : {L : Type 0} (faults asked : L → ℕ → ℕ → ℕ) → StalledLeavesWaits faults asked
-stalled_leaves {L} faults asked c begun now reached e inside answers takes called =
-    waits_left faults asked c begun now reached stuck answers takes owners called
-  where
-    stuck : CantGoOn c now.wire.machine now.state
-    stuck = still_stuck faults asked c begun now reached inside (stalled_still c now.trace now.wire.machine now.state e)
-
-    owners : OwnersAreInside c now.wire.machine
-    owners tx call there =
-        let is : IsWithOwner call = all_taken faults asked c begun now tx call reached stuck there in
-        has_within c call.owner Holding call.receivers (found_sound (StaysInside c) (is_call tx) call now.wire.machine.unfinished there (inside now reached)) is.taken
+  pub packets_stay : (now : At L) → Reached faults asked c begun now → AllByRecursion (GoesInside c) now.wire.machine.copies
+  packets_stay now reached = lasts_on faults asked c begun (λ (at : At L). AllByRecursion (GoesInside c) at.wire.machine.copies) now packets_last reached

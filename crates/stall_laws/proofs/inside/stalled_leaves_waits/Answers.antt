@@ -1,5 +1,0 @@
-use Rattle.stall_laws.proofs.InsideLaws.{stalled_leaves}
-use Rattle.stall_laws.proofs.inside.stalled_leaves_waits.Goals as goal
-
-pub returns : goal.returns
-returns g c = stalled_leaves g.L.Link.faults g.L.Link.asked
