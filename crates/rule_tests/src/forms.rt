@@ -6,9 +6,9 @@ use cluster_file::read_description;
 use sprite_ids::NoMemory;
 use std::alloc::Global;
 use std::test::Fail;
-use trace_forms::{entries_are_formed, formed, openings, packets_are_formed, uses_are_formed};
-use trace_tables::{Told, tell};
+use trace_forms::{entries_are_formed, formed, packets_are_formed, uses_are_formed};
 use trace_text::read_trace;
+use trace_views::{Viewed, view};
 use unix_calls::{Description, Rec, Stream};
 
 // A client with a process that opens a file and a new one, and both again; and the server of all names.
@@ -361,14 +361,10 @@ fn is_told(
 ) -> Result<bool, NoMemory>
     requires { Lawful c.now }
 {
-    match tell(alloc, c, trace, 1_000_000)? {
-        Told::Legal(ties) => {
-            drop(ties);
-            let made = openings(alloc, c, trace, 1_000_000)?;
-            is_so(alloc, c, trace, made.as_slice(), wanted)
-        }
-        Told::NotLegal(_) => Err(NoMemory),
-        Told::Steps(_) => Err(NoMemory),
+    match view(alloc, c, trace, 1_000_000)? {
+        Viewed::Legal(_, views) => is_so(alloc, c, trace, views.openings.as_slice(), wanted),
+        Viewed::NotLegal(_) => Err(NoMemory),
+        Viewed::Steps(_) => Err(NoMemory),
     }
 }
 

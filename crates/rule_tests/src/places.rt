@@ -6,8 +6,8 @@ use place_rules::entries_stand_at_their_kernels;
 use sprite_ids::NoMemory;
 use std::alloc::Global;
 use std::test::Fail;
-use trace_tables::{ToldCallers, tell_callers};
 use trace_text::read_trace;
+use trace_views::{Viewed, view};
 use unix_calls::{Description, Rec};
 
 // Two clients, a process that opens a file, reads it, prints and ends, and the server of all names.
@@ -257,12 +257,12 @@ fn joined(alloc: Global, before: &str, text: &str) -> Result<Vec<u8>, NoMemory> 
 fn keeps(alloc: Global, c: &Description, trace: &[Rec]) -> Result<bool, NoMemory>
     requires { Lawful c.now }
 {
-    match tell_callers(alloc, c, trace, 1_000_000)? {
-        ToldCallers::Legal(_, callers) => {
-            entries_stand_at_their_kernels(alloc, c, trace, callers.as_slice())
+    match view(alloc, c, trace, 1_000_000)? {
+        Viewed::Legal(_, views) => {
+            entries_stand_at_their_kernels(alloc, c, trace, views.callers.as_slice())
         }
-        ToldCallers::NotLegal(_) => Err(NoMemory),
-        ToldCallers::Steps(_) => Err(NoMemory),
+        Viewed::NotLegal(_) => Err(NoMemory),
+        Viewed::Steps(_) => Err(NoMemory),
     }
 }
 

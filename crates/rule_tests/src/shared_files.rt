@@ -1,17 +1,17 @@
 ghost use Rattle.std.specs.Prelude.{◌≡◌, IfOk};
 ghost use Rattle.unix_calls.specs.Lawful.{Lawful};
-ghost use Rattle.trace_tables.specs.Ties.{ties_of};
+ghost use Rattle.trace_views.specs.Views.{TellsRecords};
 ghost use Rattle.trace_judge.specs.Cuts.{cuts_in};
 
 use crate::shared_lines::{CLUSTER, Line, Row, TRUNCATING, UNCACHED, text_of};
 use crate::shared_rows::CACHED_ROWS;
 use cluster_file::read_description;
-use sharing_rules::{EntryFacts, tell_entries};
+use sharing_rules::EntryFacts;
 use sprite_ids::NoMemory;
 use std::alloc::Global;
 use std::test::Fail;
-use trace_tables::{Tied, Told, tell};
 use trace_text::read_trace;
+use trace_views::{Viewed, Views, view};
 use unix_calls::{Description, Rec};
 use write_sharing::caching_stops_only_for_sharing;
 
@@ -142,29 +142,23 @@ fn joined(alloc: Global, row: &Row) -> Result<Vec<u8>, NoMemory> {
 fn keeps(alloc: Global, c: &Description, trace: &[Rec]) -> Result<bool, NoMemory>
     requires { Lawful c.now }
 {
-    match tell(alloc, c, trace, 1_000_000)? {
-        Told::Legal(ties) => keeps_tied(alloc, c, trace, ties.as_slice()),
-        Told::NotLegal(_) => Err(NoMemory),
-        Told::Steps(_) => Err(NoMemory),
+    match view(alloc, c, trace, 1_000_000)? {
+        Viewed::Legal(_, views) => keeps_told(alloc, c, trace, &views),
+        Viewed::NotLegal(_) => Err(NoMemory),
+        Viewed::Steps(_) => Err(NoMemory),
     }
 }
 
-fn keeps_tied(
+fn keeps_told(
     alloc: Global,
     c: &Description,
     trace: &[Rec],
-    ties: &[Option<Tied>],
+    views: &Views,
 ) -> Result<bool, NoMemory>
-    requires lawful { Lawful c.now }
-    requires tied { ties.now ≡ ties_of c.now trace.now }
+    requires { TellsRecords c.now trace.now views.now }
 {
-    match tell_entries(alloc, c, trace, ties, 1_000_000)? {
-        Some(facts) => {
-            let cuts = cuts_in(alloc, facts.as_slice())?;
-            caching_stops_only_for_sharing(alloc, c, trace, ties, cuts.as_slice())
-        }
-        None => Err(NoMemory),
-    }
+    let cuts = cuts_in(alloc, views.facts.as_slice())?;
+    caching_stops_only_for_sharing(alloc, c, trace, views.ties.as_slice(), cuts.as_slice())
 }
 
 // Of each record whether its entry opens a file and truncates it.

@@ -1,14 +1,12 @@
-ghost use Rattle.std.specs.Prelude.{◌≡◌};
 ghost use Rattle.unix_calls.specs.Lawful.{Lawful};
-ghost use Rattle.trace_tables.specs.Ties.{ties_of};
 
 use cluster_file::read_description;
-use sharing_rules::{cached_calls_use_held_blocks, tell_entries};
+use sharing_rules::cached_calls_use_held_blocks;
 use sprite_ids::NoMemory;
 use std::alloc::Global;
 use std::test::Fail;
-use trace_tables::{Tied, Told, tell};
 use trace_text::read_trace;
+use trace_views::{Viewed, view};
 use unix_calls::{Description, Rec};
 
 // A client with a process that opens a file, reads it and ends, and the server of all names.
@@ -191,25 +189,13 @@ fn joined(alloc: Global, open: &str, row: &(&str, Uses, &str, bool)) -> Result<V
 fn uses_held(alloc: Global, c: &Description, trace: &[Rec]) -> Result<bool, NoMemory>
     requires { Lawful c.now }
 {
-    match tell(alloc, c, trace, 1_000_000)? {
-        Told::Legal(ties) => with_ties(alloc, c, trace, ties.as_slice()),
-        Told::NotLegal(_) => Err(NoMemory),
-        Told::Steps(_) => Err(NoMemory),
-    }
-}
-
-fn with_ties(
-    alloc: Global,
-    c: &Description,
-    trace: &[Rec],
-    ties: &[Option<Tied>],
-) -> Result<bool, NoMemory>
-    requires lawful { Lawful c.now }
-    requires tied { ties.now ≡ ties_of c.now trace.now }
-{
-    match tell_entries(alloc, c, trace, ties, 1_000_000)? {
-        Some(facts) => cached_calls_use_held_blocks(alloc, c, trace, ties, facts.as_slice()),
-        None => Err(NoMemory),
+    match view(alloc, c, trace, 1_000_000)? {
+        Viewed::Legal(_, views) => {
+            let ties = views.ties.as_slice();
+            cached_calls_use_held_blocks(alloc, c, trace, ties, views.facts.as_slice())
+        }
+        Viewed::NotLegal(_) => Err(NoMemory),
+        Viewed::Steps(_) => Err(NoMemory),
     }
 }
 

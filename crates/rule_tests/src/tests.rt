@@ -8,8 +8,8 @@ use std::test::Fail;
 use trace_rules::{
     fetches_are_of_absent_blocks, operations_go_out_uncached, prefixes_are_broadcast_until_learned,
 };
-use trace_tables::{Told, tell};
 use trace_text::read_trace;
+use trace_views::{Viewed, view};
 use unix_calls::{Description, Rec};
 
 // A client with a process that opens a file, reads it and ends, and the server of all names.
@@ -129,10 +129,12 @@ fn first_other(alloc: Global, c: &Description) -> Result<Option<usize>, NoMemory
 fn may_go_out(alloc: Global, c: &Description, trace: &[Rec]) -> Result<bool, NoMemory>
     requires { Lawful c.now }
 {
-    match tell(alloc, c, trace, 1_000_000)? {
-        Told::Legal(ties) => operations_go_out_uncached(alloc, c, trace, ties.as_slice()),
-        Told::NotLegal(_) => Err(NoMemory),
-        Told::Steps(_) => Err(NoMemory),
+    match view(alloc, c, trace, 1_000_000)? {
+        Viewed::Legal(_, views) => {
+            operations_go_out_uncached(alloc, c, trace, views.ties.as_slice())
+        }
+        Viewed::NotLegal(_) => Err(NoMemory),
+        Viewed::Steps(_) => Err(NoMemory),
     }
 }
 
@@ -167,10 +169,10 @@ fn place_of_end(
     requires lawful { Lawful c.now }
     requires few { most ≤ 40000000000 }
 {
-    match tell(alloc, c, trace, most)? {
-        Told::Legal(_) => Ok((0, 0)),
-        Told::NotLegal(place) => Ok((place, 0)),
-        Told::Steps(place) => Ok((0, place)),
+    match view(alloc, c, trace, most)? {
+        Viewed::Legal(..) => Ok((0, 0)),
+        Viewed::NotLegal(place) => Ok((place, 0)),
+        Viewed::Steps(place) => Ok((0, place)),
     }
 }
 

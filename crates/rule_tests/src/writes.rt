@@ -5,8 +5,9 @@ use sprite_ids::NoMemory;
 use std::alloc::Global;
 use std::test::Fail;
 use trace_text::read_trace;
+use trace_views::{Viewed, view};
 use unix_calls::{Description, Rec};
-use write_rules::{blocks_are_dropped_for_a_cause, blocks_are_written_back_for_a_cause, mark};
+use write_rules::{blocks_are_dropped_for_a_cause, blocks_are_written_back_for_a_cause};
 
 // A client with a cache of eight blocks and a process that opens a file with truncation, and the server of all names.
 const CLUSTER: &str =
@@ -240,18 +241,24 @@ fn truncated(alloc: Global, between: &str) -> Result<Vec<u8>, NoMemory> {
 fn writes_back(alloc: Global, c: &Description, trace: &[Rec]) -> Result<bool, NoMemory>
     requires { Lawful c.now }
 {
-    match mark(alloc, c, trace, 1_000_000)? {
-        Some(marks) => blocks_are_written_back_for_a_cause(alloc, c, trace, marks.as_slice()),
-        None => Err(NoMemory),
+    match view(alloc, c, trace, 1_000_000)? {
+        Viewed::Legal(_, views) => {
+            blocks_are_written_back_for_a_cause(alloc, c, trace, views.marks.as_slice())
+        }
+        Viewed::NotLegal(_) => Err(NoMemory),
+        Viewed::Steps(_) => Err(NoMemory),
     }
 }
 
 fn drops(alloc: Global, c: &Description, trace: &[Rec]) -> Result<bool, NoMemory>
     requires { Lawful c.now }
 {
-    match mark(alloc, c, trace, 1_000_000)? {
-        Some(marks) => blocks_are_dropped_for_a_cause(alloc, c, trace, marks.as_slice()),
-        None => Err(NoMemory),
+    match view(alloc, c, trace, 1_000_000)? {
+        Viewed::Legal(_, views) => {
+            blocks_are_dropped_for_a_cause(alloc, c, trace, views.marks.as_slice())
+        }
+        Viewed::NotLegal(_) => Err(NoMemory),
+        Viewed::Steps(_) => Err(NoMemory),
     }
 }
 

@@ -1,4 +1,3 @@
 mod WaitLaws
 mod HaltLaws
 mod EndLaws
-mod ReplayLaws

@@ -43,6 +43,13 @@ pub record IsJudged (c : Description) (most : ℕ) (trace : List Rec) (finish : 
   pub output_is : output ≡ output_of c (journal_of trace) finish
   pub tally_is : tally ≡ tally_in (state_of c (journal_of trace))
 
+-- and that much of it before its rules are asked for
+pub record EndsWell (c : Description) (most : ℕ) (trace : List Rec) (finish : Finish) (u : Unix) : Type 0 where
+  pub is_legal : IsLegal c most trace u
+  pub once : Once trace
+  pub for_cause : unreachable_for_cause c trace ≡ true
+  pub stands : end_of c most u finish ≡ stop.Good
+
 -- a call isn't once
 pub record IsNotOnce (c : Description) (most : ℕ) (trace : List Rec) : Type 0 where
   pub state : Unix

@@ -2,4 +2,3 @@ pub mod Waiting
 pub mod Halts
 pub mod Ends
 pub mod Judged
-pub mod Replays

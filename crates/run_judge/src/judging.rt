@@ -1,23 +1,22 @@
-ghost use Rattle.std.specs.Prelude.{◌≡◌, ◌≤◌, IfOk, true};
+ghost use Rattle.std.specs.Prelude.{◌≡◌, ◌≤◌, ℕ, IfOk, true};
 ghost use Rattle.unix_calls.specs.Lawful.{Lawful};
+ghost use Rattle.unix_world.specs.declared.World.{World};
 ghost use Rattle.unix_world.specs.Worlds.{unix_of};
 ghost use Rattle.call_journal.specs.Once.{Once};
 ghost use Rattle.call_journal.specs.Unreachable.{unreachable_for_cause};
+ghost use Rattle.trace_views.specs.Views.{Shows};
 ghost use Rattle.trace_judge.specs.Known.{KnowsRun};
-ghost use Rattle.run_judge.specs.declared.ending.Stop.TheVariants.{Good};
-ghost use Rattle.run_judge.specs.Ends.{end_of};
-ghost use Rattle.run_judge.specs.Judged.{IsLegal, JudgesTo};
+ghost use Rattle.run_judge.specs.Judged.{EndsWell, IsLegal, JudgesTo};
 
 use crate::ending::{Stop, end_of};
 use crate::judged::{JudgedRun, Refutation};
-use crate::replaying::replay;
 use call_journal::Trace;
 use calls_once::calls_are_once;
-use one_kernel::Replayed;
 use report_print::{output, tally_of};
 use sprite_ids::{Bytes, Finish, NoMemory};
 use std::alloc::Global;
 use trace_judge::first_broken;
+use trace_views::{Viewed, Views, view};
 use unix_calls::{Description, Process};
 use unix_world::World;
 
@@ -44,11 +43,12 @@ pub fn judge_run(
     requires for_cause { unreachable_for_cause c.now trace.now ≡ true }
     ensures { IfOk result (JudgesTo c.now most trace.now finish) }
 {
-    match replay(alloc, c, trace.records(), most)? {
-        Replayed::NotLegal(place) => Ok(JudgedRun::Refuted(Refutation::Legal(place))),
-        Replayed::Steps(place) => Ok(JudgedRun::Steps(place)),
-        Replayed::Legal(world, ps) => {
-            judge_legal(alloc, c, trace, finish, most, &world, ps.as_slice())
+    match view(alloc, c, trace.records(), most)? {
+        Viewed::NotLegal(place) => Ok(JudgedRun::Refuted(Refutation::Legal(place))),
+        Viewed::Steps(place) => Ok(JudgedRun::Steps(place)),
+        Viewed::Legal(end, views) => {
+            let ps = end.processes.as_slice();
+            judge_legal(alloc, c, trace, finish, most, &end.world, ps, &views)
         }
     }
 }
@@ -62,18 +62,20 @@ fn judge_legal(
     most: u64,
     world: &World,
     ps: &[Process],
+    views: &Views,
 ) -> Result<JudgedRun, NoMemory>
     requires lawful { Lawful c.now }
     requires bound { most ≤ 40000000000 }
     requires known { KnowsRun c.now trace.now }
     requires legal { IsLegal c.now most trace.now (unix_of c.now world.now ps.now) }
+    requires shown { Shows c.now trace.now ps.now views.now }
     requires for_cause { unreachable_for_cause c.now trace.now ≡ true }
     ensures { IfOk result (JudgesTo c.now most trace.now finish) }
 {
     if !calls_are_once(alloc, trace.records())? {
         return Ok(JudgedRun::Refuted(Refutation::Once));
     }
-    judge_end(alloc, c, trace, finish, most, world, ps)
+    judge_end(alloc, c, trace, finish, most, world, ps, views)
 }
 
 // A run, besides, whose calls are once.
@@ -85,17 +87,19 @@ fn judge_end(
     most: u64,
     world: &World,
     ps: &[Process],
+    views: &Views,
 ) -> Result<JudgedRun, NoMemory>
     requires lawful { Lawful c.now }
     requires bound { most ≤ 40000000000 }
     requires known { KnowsRun c.now trace.now }
     requires legal { IsLegal c.now most trace.now (unix_of c.now world.now ps.now) }
+    requires shown { Shows c.now trace.now ps.now views.now }
     requires once { Once trace.now }
     requires for_cause { unreachable_for_cause c.now trace.now ≡ true }
     ensures { IfOk result (JudgesTo c.now most trace.now finish) }
 {
     match end_of(alloc, c, world, ps, finish, most)? {
-        Stop::Good => judge_rules(alloc, c, trace, finish, most, world, ps),
+        Stop::Good => judge_rules(alloc, c, trace, finish, ps, views),
         Stop::Wrong => Ok(JudgedRun::Refuted(Refutation::End)),
         Stop::Free => Ok(JudgedRun::Refuted(Refutation::Stall)),
         Stop::Far => {
@@ -111,20 +115,15 @@ fn judge_rules(
     c: &Description,
     trace: &Trace,
     finish: Finish,
-    most: u64,
-    world: &World,
     ps: &[Process],
+    views: &Views,
 ) -> Result<JudgedRun, NoMemory>
     requires lawful { Lawful c.now }
-    requires bound { most ≤ 40000000000 }
     requires known { KnowsRun c.now trace.now }
-    requires legal { IsLegal c.now most trace.now (unix_of c.now world.now ps.now) }
-    requires once { Once trace.now }
-    requires for_cause { unreachable_for_cause c.now trace.now ≡ true }
-    requires stands { end_of c.now most (unix_of c.now world.now ps.now) finish ≡ Good }
-    ensures { IfOk result (JudgesTo c.now most trace.now finish) }
+    requires shown { Shows c.now trace.now ps.now views.now }
+    ensures { IfOk result (λ judged. (most : ℕ) (world : World) → EndsWell c.now most trace.now finish (unix_of c.now world ps.now) → JudgesTo c.now most trace.now finish judged) }
 {
-    match first_broken(alloc, c, trace.records(), most)? {
+    match first_broken(alloc, c, trace.records(), ps, views)? {
         Some(rule) => Ok(JudgedRun::Refuted(Refutation::Rule(rule))),
         None => {
             let tally = tally_of(ps)?;

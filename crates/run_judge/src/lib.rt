@@ -8,7 +8,6 @@ mod ending;
 mod halting;
 mod judged;
 mod judging;
-mod replaying;
 mod waiting;
 
 pub use judged::{JudgedRun, Refutation};

@@ -1,3 +1,1 @@
-pub mod FactLaws
-pub mod FollowLaws
 pub mod PaidLaws

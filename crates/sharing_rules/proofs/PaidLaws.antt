@@ -9,7 +9,7 @@ use Rattle.trace_tables.specs.Ties.{tied_at, ties_from, ties_of}
 use Rattle.sharing_rules.specs.declared.entry_facts.EntryFacts.{EntryFacts}
 use Rattle.sharing_rules.specs.Facts.{facts_at, facts_from, facts_of}
 use Rattle.sharing_rules.specs.Judging.{Pays, HereOwing}
-use Rattle.sharing_rules.proofs.FollowLaws.{head_or, tail}
+use Rattle.trace_tables.proofs.TieLaws.{ties_count}
 
 -- before the first record
 pub begins : (c : Description) (test : Past → Rec → List Rec → Bool) (Tells : Past → Type 0) (Owes : Past → List Rec → Type 0) (trace : List Rec) (ties : List (Option Tied)) (facts : List EntryFacts) → Tells (no_past c) → Owes (no_past c) trace → ties ≡ ties_of c trace → facts ≡ facts_of c trace → HereOwing c test Tells Owes trace trace ties facts
@@ -21,6 +21,12 @@ begins c test Tells Owes trace ties facts told free tied facts_are = record {
   on = λ well due. well;
   back = λ well. (well, free);
 }
+
+-- there is a tie for each record
+pub tie_there : (c : Description) (ties : List (Option Tied)) (trace : List Rec) (place : ℕ) → ties ≡ ties_of c trace → place < length trace → place < length ties
+tie_there c ties trace place tied short =
+    let count : length ties ≡ length trace = ap length tied ∙ ties_count c (no_past c) trace in
+    omega (arith, count, short)
 
 -- there are facts for each record
 facts_count : (c : Description) (past : Past) (trace : List Rec) → length (facts_from c past trace) ≡ length trace
@@ -40,6 +46,14 @@ first_or d (x ∷ xs) = x
 abbrev pub others : List EntryFacts → List EntryFacts
 others [] = []
 others (x ∷ xs) = xs
+
+abbrev pub head_or : Option Tied → List (Option Tied) → Option Tied
+head_or d [] = d
+head_or d (x ∷ xs) = x
+
+abbrev pub tail : List (Option Tied) → List (Option Tied)
+tail [] = []
+tail (x ∷ xs) = xs
 
 -- what is told of the first record
 pub record First (c : Description) (past : Past) (rec : Rec) (tie : Option Tied) (fact : EntryFacts) : Type 0 where

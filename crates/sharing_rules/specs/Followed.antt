@@ -1,53 +1,47 @@
 -- What a trace's entries do to files is told record by record.
-use Rattle.std.specs.Prelude.{◌≡◌, ◌≤◌, ℕ, List, ◌++◌, Option, Some, None}
+use Rattle.std.specs.Prelude.{◌≡◌, ℕ, false, List, [], ◌∷◌, ◌++◌, Option}
 use Rattle.unix_calls.specs.declared.description.Description.{Description}
+use Rattle.unix_calls.specs.declared.entry.Entry.{Entry}
 use Rattle.unix_calls.specs.declared.event.Event.{Event}
 use Rattle.unix_calls.specs.declared.event.Event.TheVariants as event
 use Rattle.unix_calls.specs.declared.event.Rec.{Rec}
 use Rattle.unix_calls.specs.declared.state.Process.{Process}
-use Rattle.unix_calls.specs.After.{after}
+use Rattle.unix_calls.specs.declared.state.Stream.{Stream}
 use Rattle.unix_world.specs.declared.World.{World}
-use Rattle.unix_world.specs.Among.{Ascending}
-use Rattle.unix_world.specs.Worlds.{unix_of}
-use Rattle.one_kernel.specs.Verdicts.{verdict_from, verdict_of, way_of}
-use Rattle.one_kernel.specs.declared.Verdict.TheVariants as verdict
-use Rattle.call_journal.specs.Journal.{journal_of}
-use Rattle.call_journal.specs.Past.{Past}
-use Rattle.trace_tables.specs.declared.Tied.{Tied}
-use Rattle.trace_tables.specs.Ties.{ties_from}
+use Rattle.call_journal.specs.Past.{Past, no_past}
+use Rattle.trace_tables.specs.Told as told
+use Rattle.trace_places.specs.Places.{MovesOn, TellsPlaces}
 use Rattle.sharing_rules.specs.declared.entry_facts.EntryFacts.{EntryFacts}
-use Rattle.trace_places.specs.declared.places.Place.{Place}
-use Rattle.trace_places.specs.Places.{TellsPlaces}
-use Rattle.sharing_rules.specs.Facts.{facts_from, facts_of}
+use Rattle.sharing_rules.specs.declared.entry_facts.LocalUse.{LocalUse}
+use Rattle.sharing_rules.specs.declared.following.Following.{Following}
+use Rattle.sharing_rules.specs.Facts.{facts_from, facts_of, local_in, truncates_in}
 
--- what is told of each record, where the journal is legal; nothing, where it isn't
-abbrev pub TellsEntries : Description → ℕ → List Rec → Option (List EntryFacts) → Type 0
-TellsEntries c most trace (Some facts) = (verdict_of c most (journal_of trace) ≡ verdict.Legal) × (facts ≡ facts_of c trace)
-TellsEntries c most trace None = verdict_of c most (journal_of trace) ≡ verdict.Legal → ⊥
+-- of no records
+pub record IsFresh (c : Description) (following : Following) : Type 0 where
+  pub telling : told.IsFresh following.telling
+  pub places : TellsPlaces following.places.entries (no_past c).processes
+  pub facts : following.facts.items ≡ []
 
-abbrev pub IsWithin : ℕ → Option ℕ → Type 0
-IsWithin left None = Unit {0}
-IsWithin left (Some way) = way ≤ left
+-- a record that is no entry does nothing more to files than what it uses
+abbrev pub KeepsFacts : Event → Option LocalUse → List EntryFacts → List EntryFacts → Type 0
+KeepsFacts (event.Enter entry) local old new = new ≡ old
+KeepsFacts e local old new = new ≡ old ++ record { local = local; truncates = false } ∷ []
 
--- what became of an event: one kernel makes its entry after that way, or not within so many instructions; or it is none
-abbrev pub EntersTo : Description → ℕ → Event → World → List Process → Option ℕ → World → List Process → Type 0
-EntersTo c left (event.Enter entry) world ps (Some way) world_after ps_after =
-    (way_of c (unix_of c world ps) entry ≡ way)
-    × (after c (unix_of c world ps) entry ≡ Some (unix_of c world_after ps_after))
-    × Ascending ps_after
-EntersTo c left (event.Enter entry) world ps None world_after ps_after =
-    way_of c (unix_of c world ps) entry ≤ left → after c (unix_of c world ps) entry ≡ None
-EntersTo c left e world ps (Some way) world_after ps_after = (way ≡ 0) × (world_after ≡ world) × (ps_after ≡ ps)
-EntersTo c left e world ps None world_after ps_after = ⊥
+-- of each record it is kept what it uses, in the state before it
+pub record SeesFacts (c : Description) (world : World) (ps : List Process) (rec : Rec) (old new : Following) : Type 0 where
+  pub telling : told.SeesRecord c world ps rec.event old.telling new.telling
+  pub local : new.local ≡ local_in old.places.entries world ps rec.kernel rec.event new.telling.last
+  pub facts : KeepsFacts rec.event new.local old.facts.items new.facts.items
+  pub places : MovesOn rec.kernel rec.event old.places.entries new.places.entries
 
--- a place before the rest of a trace, with what is told so far, after so many instructions
-pub record Following (c : Description) (most : ℕ) (trace rest : List Rec) (ties : List (Option Tied)) (cost : ℕ) (world : World) (ps : List Process) (places : List (ℕ × Place)) (facts : List EntryFacts) : Type 0 where
-  pub past : Past
-  pub place : ℕ
-  pub unix : past.unix ≡ Some (unix_of c world ps)
-  pub ascends : Ascending ps
-  pub homes : TellsPlaces places past.processes
-  pub tied : ties ≡ ties_from c past rest
-  pub all : facts ++ facts_from c past rest ≡ facts_of c trace
-  pub verdict : verdict_from c most place cost (unix_of c world ps) (journal_of rest) ≡ verdict_of c most (journal_of trace)
-  pub within : cost ≤ most
+-- of an entry whether it truncates, in the state behind it
+pub record HeedsFacts (streams : List Stream) (place : ℕ) (entry : Entry) (old new : Following) : Type 0 where
+  pub telling : told.HeedsEntry streams place old.telling new.telling
+  pub facts : new.facts.items ≡ old.facts.items ++ record { local = old.local; truncates = truncates_in (event.Enter entry) streams place } ∷ []
+  pub places : new.places ≡ old.places
+
+-- a place before the rest of a trace, with what is told so far
+pub record Follows (c : Description) (trace rest : List Rec) (world : World) (ps : List Process) (past : Past) (following : Following) : Type 0 where
+  pub telling : told.Going c trace rest world ps past following.telling
+  pub homes : TellsPlaces following.places.entries past.processes
+  pub all : following.facts.items ++ facts_from c past rest ≡ facts_of c trace

@@ -1,5 +1,7 @@
 pub mod Facts
+pub mod FactLaws
 pub mod Followed
+pub mod FollowLaws
 pub mod Judging
 pub mod Cached
 pub mod HeldLaws

@@ -1,78 +1,100 @@
-ghost use Rattle.std.specs.Prelude.{◌≡◌, ◌≤◌, IfOk};
+ghost use Rattle.std.specs.Prelude.{◌≡◌, IfOk, OnOk};
 ghost use Rattle.unix_calls.specs.Lawful.{Lawful};
-ghost use Rattle.unix_world.specs.Among.{Ascending};
-ghost use Rattle.trace_tables.specs.Ties.{ties_of};
-ghost use Rattle.sharing_rules.specs.Followed.{EntersTo, IsWithin, TellsEntries};
+ghost use Rattle.sharing_rules.specs.Followed.{Follows, HeedsFacts, KeepsFacts, SeesFacts};
+ghost use Rattle.sharing_rules.specs.FollowLaws.{facts_enter, facts_pass};
 
-use crate::entry_facts::EntryFacts;
+use crate::entry_facts::{EntryFacts, LocalUse};
 use crate::local::{local_use, truncates};
-use one_kernel::{Applied, apply};
-use sprite_ids::{Items, NoMemory};
+use indexmap::IndexMap;
+use sprite_ids::NoMemory;
 use std::alloc::Global;
-use trace_places::{home_places, keep_place};
-use trace_tables::Tied;
-use unix_calls::{Description, Event, Process, Rec};
-use unix_world::{World, boot};
+use trace_places::{Place, boot_places, keep_place};
+use trace_tables::Telling;
+use trace_walk::Watches;
+use unix_calls::{Description, Entry, Event, Process, Rec};
+use unix_world::World;
 
-/// Of each record of a trace what its entry does to files, where the trace's journal is legal and its processes do at most `most`
-/// instructions in all up to their calls; None exactly where it isn't so. `ties` tells of each record what its call goes by (this
+/// What the entries of a trace so far do to files, where one Unix kernel makes them, and what is told of its records for that (this
 /// project).
-///
-/// The one error is want of memory.
-pub fn tell_entries(
-    alloc: Global,
-    c: &Description,
-    trace: &[Rec],
-    ties: &[Option<Tied>],
-    most: u64,
-) -> Result<Option<Items<EntryFacts>>, NoMemory>
-    requires lawful { Lawful c.now }
-    requires bound { most ≤ 40000000000 }
-    requires tied { ties.now ≡ ties_of c.now trace.now }
-    ensures { IfOk result (TellsEntries c.now most trace.now) }
-{
-    let (mut world, mut processes) = boot(alloc, c)?;
-    let mut places = home_places(alloc, processes.as_slice())?;
-    let mut facts = Vec::new(alloc);
-    let mut cost: u64 = 0;
-    for (at, rec) in trace.iter().enumerate() {
-        let place = world.entries;
-        let local = local_use(&places, &world, processes.as_slice(), rec, &ties[at]);
-        let left = most - cost;
-        let way = match enter(alloc, c, &mut world, &mut processes, left, &rec.event)? {
-            Some(way) => way,
-            None => return Ok(None),
-        };
-        cost += way;
-        keep_place(&mut places, rec.kernel, &rec.event)?;
-        let truncates = truncates(&rec.event, &world.streams, place);
-        facts.push(EntryFacts { local, truncates })?;
-    }
-    Ok(Some(Items::of_vec(facts)))
+#[derive(Drop)]
+pub struct Following {
+    pub telling: Telling,
+    pub(crate) places: IndexMap<u64, Place>,
+    // What the last record uses.
+    pub(crate) local: Option<LocalUse>,
+    /// Of each record what its entry does to files.
+    pub facts: Vec<EntryFacts>,
 }
 
-// Makes the entry of an event, if it is one, and tells how many instructions its process did up to the call; None where one kernel
-// doesn't make it, or its process would do more than `left`.
-fn enter(
-    alloc: Global,
-    c: &Description,
-    world: &mut World,
-    ps: &mut Items<Process>,
-    left: u64,
+impl Following {
+    ghost use Rattle.sharing_rules.specs.Followed.{IsFresh};
+
+    /// Of no records. The one error is want of memory.
+    pub fn new(alloc: Global, c: &Description) -> Result<Following, NoMemory>
+        requires { Lawful c.now }
+        ensures { IfOk result (IsFresh c.now) }
+    {
+        let places = boot_places(alloc, c)?;
+        Ok(Following {
+            telling: Telling::new(alloc),
+            places,
+            local: None,
+            facts: Vec::new(alloc),
+        })
+    }
+}
+
+impl Watches for Following {
+    ghost tells = { λ c trace watch world ps past rest. Follows c trace rest world ps past watch };
+
+    ghost sees = { λ c world ps rec old new. SeesFacts c world ps rec old new };
+
+    ghost heeds = { λ world place way entry old new. HeedsFacts world.streams place entry old new };
+
+    fn see(
+        &mut self,
+        alloc: Global,
+        c: &Description,
+        world: &World,
+        ps: &[Process],
+        rec: &Rec,
+    ) -> Result<(), NoMemory> {
+        self.telling.see(alloc, c, world, ps, rec)?;
+        self.local = local_use(&self.places, world, ps, rec, &self.telling.last);
+        keep_place(&mut self.places, rec.kernel, &rec.event)?;
+        keep_other(&mut self.facts, self.local, &rec.event)
+    }
+
+    fn heed(&mut self, world: &World, place: u32, way: u64, entry: &Entry) -> Result<(), NoMemory> {
+        self.telling.heed(world, place, way, entry)?;
+        self.facts.push(EntryFacts {
+            local: self.local,
+            truncates: truncates(entry, &world.streams, place),
+        })?;
+        Ok(())
+    }
+
+    ghost passes = { facts_pass };
+
+    ghost goes_in = { facts_enter };
+}
+
+// Keeps what a record does that is no entry.
+fn keep_other(
+    facts: &mut Vec<EntryFacts>,
+    local: Option<LocalUse>,
     event: &Event,
-) -> Result<Option<u64>, NoMemory>
-    requires ascending { Ascending ps.old }
-    requires bound { left ≤ 40000000000 }
-    requires lawful { Lawful c.now }
-    ensures enters { IfOk result (λ way. EntersTo c.now left event.now world.old ps.old way world.new ps.new) }
-    ensures within { IfOk result (IsWithin left) }
+) -> Result<(), NoMemory>
+    ensures { OnOk result (KeepsFacts event.now local facts.old.items facts.new.items) }
 {
     match event {
-        Event::Enter { entry } => match apply(alloc, c, world, ps, left, entry)? {
-            Applied::Made(way) => Ok(Some(way)),
-            Applied::NotMade => Ok(None),
-            Applied::Far => Ok(None),
-        },
-        _ => Ok(Some(0)),
+        Event::Enter { .. } => Ok(()),
+        _ => {
+            facts.push(EntryFacts {
+                local,
+                truncates: false,
+            })?;
+            Ok(())
+        }
     }
 }

@@ -10,4 +10,4 @@ mod local;
 
 pub use cached_calls::cached_calls_use_held_blocks;
 pub use entry_facts::{EntryFacts, LocalUse};
-pub use following::tell_entries;
+pub use following::Following;

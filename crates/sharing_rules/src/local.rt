@@ -1,4 +1,5 @@
 ghost use Rattle.std.specs.Prelude.{◌≡◌};
+ghost use Rattle.unix_calls.specs.declared.event.Event.TheVariants.{Enter};
 ghost use Rattle.unix_calls.specs.State.{process_at};
 ghost use Rattle.unix_calls.specs.StreamCalls.{begins_at};
 ghost use Rattle.unix_world.specs.Among.{Ascending};
@@ -157,14 +158,11 @@ fn begins_at(stream: &Stream, old: &[u8]) -> u64
     }
 }
 
-/// Whether an event's entry, made at that place, opens a file and truncates it, with these streams behind it.
-pub(crate) fn truncates(event: &Event, streams: &Streams, place: u32) -> bool
-    ensures { result ≡ truncates_in event.now streams.now place }
+/// Whether an entry, made at that place, opens a file and truncates it, with these streams behind it.
+pub(crate) fn truncates(entry: &Entry, streams: &Streams, place: u32) -> bool
+    ensures { result ≡ truncates_in (Enter entry.now) streams.now place }
 {
-    match event {
-        Event::Enter { entry } => truncates_with(entry) && is_file_made(streams.at_place(place)),
-        _ => false,
-    }
+    truncates_with(entry) && is_file_made(streams.at_place(place))
 }
 
 // An open with a value that truncates.

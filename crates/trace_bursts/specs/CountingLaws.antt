@@ -31,6 +31,7 @@ use Rattle.trace_bursts.specs.declared.counting.Counts.{Counts}
 use Rattle.trace_bursts.specs.declared.doing.Doing.{Doing}
 use Rattle.trace_bursts.specs.Doing.{burst_behind, due_by, fresh, is_met, issue_behind, meets}
 use Rattle.trace_bursts.specs.Reasons.{bursts_are_counted, keeps_count}
+use Rattle.trace_bursts.specs.Counted.{CountsAll, CountsBefore, IsFresh}
 use Rattle.trace_bursts.specs.Counting.{AreMet, Counting, CountsAt, EntersAt, EntersIf, IsIdle, Judges, JudgesEntry, JudgesIf, WentOn, all_met, doing_of, without}
 use Rattle.trace_bursts.specs.DoingLaws.{Owes, burst_owes, issue_owes, met_none}
 use Rattle.trace_bursts.specs.WayLaws.{due_is_way}
@@ -190,7 +191,7 @@ anew_keeps F pid old new anew all none other = subst (λ (d : Doing). F other d)
 -- ---- the loop
 
 -- before the first record
-pub counts_begin : (c : Description) (trace : List Rec) (doings : List (ℕ × Doing)) → doings ≡ [] → walks.Begins c trace (λ world ps past rest. CountsAt true c trace rest world ps past doings)
+counts_begin : (c : Description) (trace : List Rec) (doings : List (ℕ × Doing)) → doings ≡ [] → walks.Begins c trace (λ world ps past rest. CountsAt true c trace rest world ps past doings)
 counts_begin c trace doings none = λ world ps boots ascends.
     subst (λ (m : List (ℕ × Doing)). Counting c trace trace world ps (no_past c) m) (sym none) (record {
       history = [];
@@ -383,13 +384,18 @@ pub counts_enter : (c : Description) (trace : List Rec) (old mid new : Counts) (
 counts_enter c trace old mid new world later ps qs past kernel way entry rest lawful unix ascends makes here judges enters =
     enters_by c kernel way trace rest entry world later ps qs past old.kept mid.kept new.kept old.doings.entries mid.doings.entries new.doings.entries lawful makes here judges enters
 
+-- before the first record
+pub counts_begins : (c : Description) (trace : List Rec) (counts : Counts) → IsFresh counts → walks.Begins c trace (λ world ps past rest. CountsBefore c trace rest world ps past counts)
+counts_begins c trace counts fresh = λ world ps boots ascends.
+    subst (λ (b : Bool). CountsAt b c trace trace world ps (no_past c) counts.doings.entries) (sym fresh.kept) (counts_begin c trace counts.doings.entries fresh.doings world ps boots ascends)
+
 -- behind the last record, by whether all were met so far
 ended_by : (c : Description) (trace : List Rec) (world : World) (ps : List Process) (past : Past) (kept is : Bool) (doings : List (ℕ × Doing)) → kept ≡ is → CountsAt kept c trace [] world ps past doings → CountsAt is c trace [] world ps past doings
 ended_by c trace world ps past kept is doings same here = subst (λ (b : Bool). CountsAt b c trace [] world ps past doings) same here
 
-pub counts_break : (c : Description) (trace : List Rec) (counts : Counts) (ps : List Process) (cost : ℕ) → counts.kept ≡ false → walks.Ends c trace (λ world ps past rest. CountsAt counts.kept c trace rest world ps past counts.doings.entries) ps cost → false ≡ bursts_are_counted c trace
-counts_break c trace counts ps cost broken end = ended_by c trace end.world ps end.past counts.kept false counts.doings.entries broken end.tells
+pub counts_break : (c : Description) (trace : List Rec) (ps : List Process) (counts : Counts) → counts.kept ≡ false → CountsAll c trace ps counts → false ≡ bursts_are_counted c trace
+counts_break c trace ps counts broken end = ended_by c trace end.world ps end.past counts.kept false counts.doings.entries broken end.tells
 
-pub counts_end : (c : Description) (trace : List Rec) (counts : Counts) (ps : List Process) (cost : ℕ) → counts.kept ≡ true → walks.Ends c trace (λ world ps past rest. CountsAt counts.kept c trace rest world ps past counts.doings.entries) ps cost → all_met c ps counts.doings.entries ps ≡ bursts_are_counted c trace
-counts_end c trace counts ps cost kept end =
+pub counts_end : (c : Description) (trace : List Rec) (ps : List Process) (counts : Counts) → counts.kept ≡ true → CountsAll c trace ps counts → all_met c ps counts.doings.entries ps ≡ bursts_are_counted c trace
+counts_end c trace ps counts kept end =
     counting_ends c trace end.world ps end.past counts.doings.entries (ended_by c trace end.world ps end.past counts.kept true counts.doings.entries kept end.tells)

@@ -2,6 +2,7 @@ pub mod Going
 pub mod Doing
 pub mod Reasons
 pub mod Counting
+pub mod Counted
 pub mod Behind
 pub mod Costs
 pub mod GoingLaws

@@ -1,62 +1,67 @@
-ghost use Rattle.std.specs.Prelude.{◌≡◌, ◌≤◌, ℕ, IfOk, OnOk};
+ghost use Rattle.std.specs.Prelude.{◌≡◌, ℕ, IfOk, OnOk};
 ghost use Rattle.std.specs.Option.{is_some};
-ghost use Rattle.unix_calls.specs.Lawful.{Lawful};
 ghost use Rattle.unix_calls.specs.State.{process_at};
 ghost use Rattle.unix_world.specs.Among.{Ascending};
-ghost use Rattle.one_kernel.specs.Verdicts.{verdict_of};
-ghost use Rattle.one_kernel.specs.declared.Verdict.TheVariants.{Legal};
-ghost use Rattle.call_journal.specs.Journal.{journal_of};
 ghost use Rattle.trace_bursts.specs.Reasons.{bursts_are_counted};
 ghost use Rattle.trace_bursts.specs.Doing.{due_by, is_met};
-ghost use Rattle.trace_bursts.specs.Counting.{BurstsOn, CountsAt, EntersAt, EntersIf, IssuesOn, Judges, JudgesIf, all_met, doing_of, without};
+ghost use Rattle.trace_bursts.specs.Counting.{BurstsOn, EntersAt, EntersIf, IssuesOn, Judges, JudgesIf, all_met, doing_of, without};
+ghost use Rattle.trace_bursts.specs.Counted.{CountsBefore};
 ghost use Rattle.trace_bursts.specs.CountingLaws.{counts_enter, counts_pass};
 
 use crate::doing::Doing;
 use indexmap::IndexMap;
 use sprite_ids::{NoMemory, Pid};
 use std::alloc::Global;
-use trace_walk::{Watches, walk_legal};
+use trace_walk::Watches;
 use unix_calls::{Description, Entry, Event, Process, Rec};
 use unix_world::{World, find};
 
-/// Whether the bursts of a trace's processes do no more instructions than there are before their next calls, and exactly these where a
-/// call is issued. The journal must be legal, with processes that do at most `most` instructions in all. The one error is want of
-/// memory, which is also the answer where a process's bursts would do 2^64 instructions.
+/// What the bursts of a trace's processes did since their last entries, while one Unix kernel makes its entries, as long as all did no
+/// more instructions than there are before their next calls, and exactly these where a call is issued (this project).
 ///
 /// How many instructions there are before a call is told at its entry; only of processes whose call isn't entered in the trace, and of
 /// those that die, are the images run for it.
-pub(crate) fn bursts_are_counted(
-    alloc: Global,
-    c: &Description,
-    trace: &[Rec],
-    most: u64,
-) -> Result<bool, NoMemory>
-    requires lawful { Lawful c.now }
-    requires bound { most ≤ 40000000000 }
-    requires legal { verdict_of c.now most (journal_of trace.now) ≡ Legal }
-    ensures { IfOk result (λ kept. kept ≡ bursts_are_counted c.now trace.now) }
-{
-    let mut watch = Counts {
-        doings: IndexMap::new(alloc),
-        kept: true,
-    };
-    let (ps, _cost) = walk_legal(alloc, c, &mut watch, trace, most)?;
-    if !watch.kept {
-        return Ok(false);
-    }
-    are_all_met(alloc, c, ps.as_slice(), &watch.doings)
-}
-
-/// What the bursts of all processes did since their last entries, as long as all were met (this project).
 #[derive(Drop)]
-pub(crate) struct Counts {
+pub struct Counts {
     pub(crate) doings: IndexMap<Pid, Doing>,
-    /// Whether all were.
+    // Whether all did so.
     pub(crate) kept: bool,
 }
 
+impl Counts {
+    ghost use Rattle.trace_bursts.specs.Counted.{CountsAll, IsFresh};
+
+    /// Of no records.
+    pub fn new(alloc: Global) -> Counts
+        ensures { IsFresh result }
+    {
+        Counts {
+            doings: IndexMap::new(alloc),
+            kept: true,
+        }
+    }
+
+    /// Whether the bursts of a trace's processes did so, where the trace leads to these in the one kernel. The one error is want of
+    /// memory.
+    pub(crate) fn are_met(
+        &self,
+        alloc: Global,
+        c: &Description,
+        trace: &[Rec],
+        ps: &[Process],
+    ) -> Result<bool, NoMemory>
+        requires { CountsAll c.now trace.now ps.now self.now }
+        ensures { IfOk result (λ met. met ≡ bursts_are_counted c.now trace.now) }
+    {
+        if !self.kept {
+            return Ok(false);
+        }
+        are_all_met(alloc, c, ps, &self.doings)
+    }
+}
+
 impl Watches for Counts {
-    ghost tells = { λ c trace watch world ps past rest. CountsAt watch.kept c trace rest world ps past watch.doings.entries };
+    ghost tells = { λ c trace watch world ps past rest. CountsBefore c trace rest world ps past watch };
 
     ghost sees = { λ c world ps rec old new. JudgesIf old.kept c ps rec.event old.doings.entries new.kept new.doings.entries };
 

@@ -13,3 +13,4 @@ mod ways;
 
 pub use bursts::bursts_are_worth;
 pub use cost::passes_bound;
+pub use counting::Counts;

@@ -1,6 +1,7 @@
 -- What the records of a trace make, from one to the next.
-use Rattle.std.proofs.Common.{◌≡◌, ◌∙◌, ℕ, true, false, List, [], ◌∷◌, ◌++◌, Option, Some, None, refl, sym, ap, append_assoc}
+use Rattle.std.proofs.Common.{◌≡◌, ◌∙◌, ℕ, true, false, List, [], ◌∷◌, ◌++◌, Option, Some, None, refl, sym, ap, ap₂, append_assoc}
 use Rattle.std.proofs.lemmas.Bool.{true≢false}
+use Rattle.std.proofs.lemmas.List.{append-nil}
 use Rattle.unix_calls.specs.Lawful.{Lawful}
 use Rattle.unix_calls.specs.declared.description.Description.{Description}
 use Rattle.unix_calls.specs.declared.entry.Entry.{Entry}
@@ -15,7 +16,7 @@ use Rattle.unix_world.specs.Among.{Ascending}
 use Rattle.unix_world.specs.Worlds.{unix_of}
 use Rattle.call_journal.specs.Matching.{is_entry}
 use Rattle.call_journal.specs.Past.{Past, file_stream, opening_of, seen_at, state_by, stream_made}
-use Rattle.trace_walk.specs.Walks.{Makes, entering}
+use Rattle.trace_walk.specs.Walks.{Begins, Makes, entering}
 use Rattle.trace_forms.specs.declared.making.MadeStreams.{MadeStreams}
 use Rattle.trace_forms.specs.Openings.{HeedsMade, SeesMade, openings_from, openings_of}
 
@@ -47,3 +48,10 @@ openings_enter c trace old mid new world later ps qs past kernel way entry rest 
     ap (λ (os : List (Option Stream)). os ++ openings_from c (Some (unix_of c later qs)) rest) (heeds ∙ ap (λ (os : List (Option Stream)). os ++ made ∷ []) sees)
     ∙ ap (λ o. (old.made.items ++ made ∷ []) ++ openings_from c o rest) (sym makes.after_is)
     ∙ opens_on c (Some u) (entering kernel entry) rest trace old.made.items made is all
+
+-- before the first record, and behind the last one
+pub openings_begin : (c : Description) (trace : List Rec) (watch : MadeStreams) → watch.made.items ≡ [] → Begins c trace (λ world ps past rest. watch.made.items ++ openings_from c (Some (unix_of c world ps)) rest ≡ openings_of c trace)
+openings_begin c trace watch none = λ world ps boots ascends. ap₂ (λ (os : List (Option Stream)) (u : Unix). os ++ openings_from c (Some u) trace) none boots
+
+pub openings_end : (c : Description) (trace : List Rec) (watch : MadeStreams) (u : Option Unix) → watch.made.items ++ openings_from c u [] ≡ openings_of c trace → watch.made.items ≡ openings_of c trace
+openings_end c trace watch u all = sym (append-nil watch.made.items) ∙ all

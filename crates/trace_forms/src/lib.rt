@@ -11,7 +11,7 @@ mod uses;
 
 pub use entries::entries_are_formed;
 pub use forms::formed;
-pub use making::openings;
+pub use making::MadeStreams;
 pub use packets::packets_are_formed;
 pub use places::{OpenAt, open_at};
 pub use uses::uses_are_formed;

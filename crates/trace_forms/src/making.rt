@@ -1,43 +1,30 @@
-ghost use Rattle.std.specs.Prelude.{◌≡◌, ◌≤◌, ◌++◌, IfOk, Some};
-ghost use Rattle.unix_calls.specs.Lawful.{Lawful};
+ghost use Rattle.std.specs.Prelude.{◌≡◌, ◌++◌, [], Some};
 ghost use Rattle.unix_world.specs.Worlds.{unix_of};
-ghost use Rattle.one_kernel.specs.Verdicts.{verdict_of};
-ghost use Rattle.one_kernel.specs.declared.Verdict.TheVariants.{Legal};
-ghost use Rattle.call_journal.specs.Journal.{journal_of};
 ghost use Rattle.call_journal.specs.Past.{file_stream};
 ghost use Rattle.trace_forms.specs.Openings.{HeedsMade, SeesMade, openings_from, openings_of};
 ghost use Rattle.trace_forms.specs.OpeningLaws.{openings_enter, openings_pass};
 
 use sprite_ids::NoMemory;
 use std::alloc::Global;
-use trace_walk::{Watches, walk_legal};
+use trace_walk::Watches;
 use unix_calls::{Description, Entry, Event, Object, Process, Rec, Stream};
 use unix_world::World;
 
-/// Of each record of a trace, the stream of a file that its entry makes in the one-kernel Unix (this project). The journal must be
-/// legal, with processes that do at most `most` instructions in all. The one error is want of memory.
-pub fn openings(
-    alloc: Global,
-    c: &Description,
-    trace: &[Rec],
-    most: u64,
-) -> Result<Vec<Option<Stream>>, NoMemory>
-    requires lawful { Lawful c.now }
-    requires bound { most ≤ 40000000000 }
-    requires legal { verdict_of c.now most (journal_of trace.now) ≡ Legal }
-    ensures { IfOk result (λ made. made.items ≡ openings_of c.now trace.now) }
-{
-    let mut watch = MadeStreams {
-        made: Vec::new(alloc),
-    };
-    walk_legal(alloc, c, &mut watch, trace, most)?;
-    Ok(watch.made)
+/// Of each record of a trace so far, the stream of a file that its entry makes in the one-kernel Unix (this project).
+#[derive(Drop)]
+pub struct MadeStreams {
+    pub made: Vec<Option<Stream>>,
 }
 
-/// The streams of files that the records so far make (this project).
-#[derive(Drop)]
-pub(crate) struct MadeStreams {
-    pub(crate) made: Vec<Option<Stream>>,
+impl MadeStreams {
+    /// Of no records.
+    pub fn new(alloc: Global) -> MadeStreams
+        ensures { result.made.items ≡ [] }
+    {
+        MadeStreams {
+            made: Vec::new(alloc),
+        }
+    }
 }
 
 impl Watches for MadeStreams {

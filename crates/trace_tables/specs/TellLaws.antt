@@ -1,5 +1,5 @@
 -- The state, the ties and the verdict of a trace's journal, from one record to the next.
-use Rattle.std.proofs.Common.{◌≡◌, ◌∙◌, ℕ, true, false, List, [], ◌∷◌, ◌++◌, Option, Some, None, refl, sym, ap, subst, append_assoc}
+use Rattle.std.proofs.Common.{◌≡◌, ◌∙◌, ℕ, true, false, List, [], ◌∷◌, ◌++◌, Option, Some, refl, sym, ap, subst, append_assoc}
 use Rattle.std.specs.Option.{option_map}
 use Rattle.std.proofs.lemmas.Bool.{true≢false}
 use Rattle.std.proofs.lemmas.List.{append-nil}
@@ -16,18 +16,15 @@ use Rattle.unix_world.specs.Among.{Ascending}
 use Rattle.unix_world.specs.Worlds.{unix_of}
 use Rattle.call_journal.specs.Matching.{is_entry}
 use Rattle.call_journal.specs.Past.{Past, tie_at, last_event, state_by, past_with, stream_made, entry_count}
-use Rattle.trace_walk.specs.declared.Walked.{Walked}
-use Rattle.trace_walk.specs.declared.Walked.TheVariants as walked
 use Rattle.trace_walk.specs.Walks as walks
 use Rattle.trace_tables.specs.declared.known.Known.{Known}
 use Rattle.trace_tables.specs.declared.telling.Telling.{Telling}
-use Rattle.trace_tables.specs.declared.telling.ToldCallers.TheVariants as told_callers
 use Rattle.trace_tables.specs.declared.tied.Tied.{Tied}
 use Rattle.trace_tables.specs.declared.caller.Caller.{Caller}
 use Rattle.trace_tables.specs.Callers.{caller_at, caller_in, callers_from, callers_of}
 use Rattle.trace_tables.specs.Known.{made_at, asked_at, tied_in, file_tie, made_with, Makes, opened_by, Asks}
 use Rattle.trace_tables.specs.Ties.{tied_by, tied_at, ties_from, ties_of}
-use Rattle.trace_tables.specs.Told.{Going, HeedsEntry, SeesRecord, Tells, TellsCallersOf, opened_last}
+use Rattle.trace_tables.specs.Told.{Going, HeedsEntry, IsFresh, SeesRecord, Tells, opened_last}
 use Rattle.trace_tables.specs.CallerLaws.{caller_told}
 use Rattle.trace_tables.specs.KnownLaws.{event_told, last_more, asked_more, ties_more}
 
@@ -115,21 +112,26 @@ telling_enters c trace old mid new world later ps qs past kernel way entry rest 
     }
 
 -- before the first record
-pub telling_begins : (c : Description) (trace : List Rec) (telling : Telling) → telling.known.made.entries ≡ [] → telling.known.asked.entries ≡ [] → telling.known.opened ≡ None → telling.ties.items ≡ [] → telling.callers.items ≡ [] → walks.Begins c trace (λ world ps past rest. Going c trace rest world ps past telling)
-telling_begins c trace telling made asked opened ties callers = λ world ps boots ascends. record {
+pub telling_begins : (c : Description) (trace : List Rec) (telling : Telling) → IsFresh telling → walks.Begins c trace (λ world ps past rest. Going c trace rest world ps past telling)
+telling_begins c trace telling fresh = λ world ps boots ascends. record {
   tells = record {
     unix = ap Some (sym boots);
     ascends = ascends;
-    made = λ place. ap (λ es. made_at es place) made;
-    asked = λ at. ap (λ es. asked_at es at) asked;
-    opened = opened;
+    made = λ place. ap (λ es. made_at es place) fresh.made;
+    asked = λ at. ap (λ es. asked_at es at) fresh.asked;
+    opened = fresh.opened;
   };
-  all = ap (λ (ts : List (Option Tied)). ts ++ ties_of c trace) ties;
-  each = ap (λ (cs : List Caller). cs ++ callers_of c trace) callers;
+  all = ap (λ (ts : List (Option Tied)). ts ++ ties_of c trace) fresh.ties;
+  each = ap (λ (cs : List Caller). cs ++ callers_of c trace) fresh.callers;
 }
 
+-- what the next record's call goes by
+pub tells_next : (c : Description) (trace rest : List Rec) (world : World) (ps : List Process) (past : Past) (e : Event) (old new : Telling) → Going c trace rest world ps past old → SeesRecord c world ps e old new → new.last ≡ tied_at past e
+tells_next c trace rest world ps past e old new going sees = sees.last ∙ event_told c world ps old.known past e going.tells
+
 -- behind the last one
-pub telling_ends : (c : Description) (most : ℕ) (trace : List Rec) (telling : Telling) (to : Walked) (ps : List Process) (cost : ℕ) → to ≡ walked.Legal ps cost → walks.WalksTo c most trace (λ world ps past rest. Going c trace rest world ps past telling) to → TellsCallersOf c most trace (told_callers.Legal telling.ties telling.callers)
-telling_ends c most trace telling to ps cost is all =
-    let legal = subst (walks.WalksTo c most trace (λ world ps past rest. Going c trace rest world ps past telling)) is all in
-    (legal.0, sym (append-nil telling.ties.items) ∙ legal.1.tells.all, sym (append-nil telling.callers.items) ∙ legal.1.tells.each)
+pub ties_told : (c : Description) (trace : List Rec) (world : World) (ps : List Process) (past : Past) (telling : Telling) → Going c trace [] world ps past telling → telling.ties.items ≡ ties_of c trace
+ties_told c trace world ps past telling going = sym (append-nil telling.ties.items) ∙ going.all
+
+pub callers_told : (c : Description) (trace : List Rec) (world : World) (ps : List Process) (past : Past) (telling : Telling) → Going c trace [] world ps past telling → telling.callers.items ≡ callers_of c trace
+callers_told c trace world ps past telling going = sym (append-nil telling.callers.items) ∙ going.each

@@ -10,19 +10,12 @@ use Rattle.unix_calls.specs.declared.state.Stream.{Stream}
 use Rattle.unix_world.specs.declared.World.{World}
 use Rattle.unix_world.specs.Among.{Ascending}
 use Rattle.unix_world.specs.Worlds.{unix_of}
-use Rattle.one_kernel.specs.Verdicts.{verdict_of}
-use Rattle.one_kernel.specs.declared.Verdict.TheVariants as verdict
-use Rattle.call_journal.specs.Journal.{journal_of}
 use Rattle.call_journal.specs.Past.{Past, tie_at, last_event}
 use Rattle.call_journal.specs.Calls.{descriptor_of, issued_call}
 use Rattle.trace_tables.specs.declared.known.Known.{Known}
 use Rattle.trace_tables.specs.declared.call_at.CallAt.{CallAt}
 use Rattle.trace_tables.specs.declared.tied.Tied.{Tied}
 use Rattle.trace_tables.specs.declared.telling.Telling.{Telling}
-use Rattle.trace_tables.specs.declared.telling.Told.{Told}
-use Rattle.trace_tables.specs.declared.telling.Told.TheVariants as told
-use Rattle.trace_tables.specs.declared.telling.ToldCallers.{ToldCallers}
-use Rattle.trace_tables.specs.declared.telling.ToldCallers.TheVariants as told_callers
 use Rattle.trace_tables.specs.Callers.{caller_in, callers_from, callers_of}
 use Rattle.trace_tables.specs.Known.{made_at, asked_at, opened_by, tied_in, Makes, Asks}
 use Rattle.trace_tables.specs.Ties.{tied_by, ties_from, ties_of}
@@ -39,18 +32,13 @@ pub record Tells (c : Description) (world : World) (ps : List Process) (known : 
   pub asked : (at : CallAt) → asked_at known.asked.entries at ≡ option_map descriptor_of (issued_call at.pid at.number past.records)
   pub opened : known.opened ≡ opened_last (last_event past.records)
 
--- the verdict on the journal of a trace; where it is legal, what each record's call goes by
-abbrev pub TellsOf : Description → ℕ → List Rec → Told → Type 0
-TellsOf c most trace (told.Legal ties) = (verdict_of c most (journal_of trace) ≡ verdict.Legal) × (ties.items ≡ ties_of c trace)
-TellsOf c most trace (told.NotLegal n) = verdict_of c most (journal_of trace) ≡ verdict.NotLegal n
-TellsOf c most trace (told.Steps n) = verdict_of c most (journal_of trace) ≡ verdict.Steps n
-
--- the same, with what the process of each record is
-abbrev pub TellsCallersOf : Description → ℕ → List Rec → ToldCallers → Type 0
-TellsCallersOf c most trace (told_callers.Legal ties callers) =
-    (verdict_of c most (journal_of trace) ≡ verdict.Legal) × (ties.items ≡ ties_of c trace) × (callers.items ≡ callers_of c trace)
-TellsCallersOf c most trace (told_callers.NotLegal n) = verdict_of c most (journal_of trace) ≡ verdict.NotLegal n
-TellsCallersOf c most trace (told_callers.Steps n) = verdict_of c most (journal_of trace) ≡ verdict.Steps n
+-- of no records
+pub record IsFresh (telling : Telling) : Type 0 where
+  pub made : telling.known.made.entries ≡ []
+  pub asked : telling.known.asked.entries ≡ []
+  pub opened : telling.known.opened ≡ None
+  pub ties : telling.ties.items ≡ []
+  pub callers : telling.callers.items ≡ []
 
 -- a record that is no entry is kept as itself, an entry behind it
 abbrev pub KnownBy : Event → Known → Known → Type 0
@@ -61,6 +49,7 @@ KnownBy e old new = Asks e old new
 pub record SeesRecord (c : Description) (world : World) (ps : List Process) (e : Event) (old new : Telling) : Type 0 where
   pub ties : new.ties.items ≡ old.ties.items ++ tied_in old.known world ps e ∷ []
   pub callers : new.callers.items ≡ old.callers.items ++ caller_in c world ps (tied_in old.known world ps e) e ∷ []
+  pub last : new.last ≡ tied_in old.known world ps e
   pub known : KnownBy e old.known new.known
 
 -- of an entry what it made, in the state behind it

@@ -10,5 +10,5 @@ mod tied;
 
 pub use call_at::{CallAt, call_of};
 pub use caller::Caller;
-pub use telling::{Told, ToldCallers, tell, tell_callers};
+pub use telling::Telling;
 pub use tied::Tied;

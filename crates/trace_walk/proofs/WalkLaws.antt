@@ -1,5 +1,5 @@
 -- A walk along a trace, from one record to the next.
-use Rattle.std.proofs.Common.{◌≡◌, ◌∙◌, ◌≤◌, ◌<◌, ℕ, ◌+◌, ◌-◌, true, false, List, [], ◌∷◌, ◌++◌, Option, Some, refl, sym, ap, subst, arith}
+use Rattle.std.proofs.Common.{◌≡◌, ◌∙◌, ◌≤◌, ◌<◌, ℕ, ◌+◌, ◌-◌, true, false, suc, List, [], ◌∷◌, ◌++◌, length, Option, Some, refl, sym, ap, subst, arith}
 use Rattle.std.proofs.lemmas.Bool.{true≢false}
 use Rattle.unix_calls.specs.declared.description.Description.{Description}
 use Rattle.unix_calls.specs.declared.entry.Entry.{Entry}
@@ -21,6 +21,7 @@ use Rattle.one_kernel.proofs.CheckLaws.{check_applied, check_not_made, check_far
 use Rattle.call_journal.specs.Journal.{entered, journal_of}
 use Rattle.call_journal.specs.Matching.{is_entry}
 use Rattle.call_journal.specs.Past.{Past, no_past, past_with, state_by}
+use Rattle.trace_walk.specs.declared.walking.End.{End}
 use Rattle.trace_walk.specs.declared.walking.Taken.{Taken}
 use Rattle.trace_walk.specs.declared.walking.Taken.TheVariants as taken
 use Rattle.trace_walk.specs.Walks.{Begins, Ends, Makes, Takes, TakesEntry, Walking, cost_from, entering}
@@ -85,6 +86,7 @@ passes_on c most place cost trace Old New rest rec world ps here other told =
       costs = ap (λ es. cost + cost_from c (Some (unix_of c world ps)) es) journal ∙ here.costs;
       verdict = ap (verdict_from c most place cost (unix_of c world ps)) journal ∙ here.verdict;
       within = here.within;
+      counts = ap (λ (es : List Entry). place + length es) journal ∙ here.counts;
     }
 
 -- ---- an entry
@@ -94,6 +96,9 @@ is_made c left way world later ps qs entry applies = record { way_is = applies.0
 
 moved_on : (a b w rest : ℕ) → w ≡ b → a + b + rest ≡ a + (w + rest)
 moved_on a b w rest is = omega (arith, is)
+
+counted_on : (place n all : ℕ) → place + suc n ≡ all → place + 1 + n ≡ all
+counted_on place n all is = omega (arith, is)
 
 -- that one kernel makes
 pub enters_on : (c : Description) (most place cost way kernel : ℕ) (trace : List Rec) (Old New : World → List Process → Past → List Rec → Type 0) (rest : List Rec) (entry : Entry) (world later : World) (ps qs : List Process) (here : Walking c most trace Old (entering kernel entry ∷ rest) place cost world ps) → Applies c (most - cost) (way_of c (unix_of c world ps) entry) (after c (unix_of c world ps) entry) (applied.Made way) later qs → New later qs (past_with c (entering kernel entry) here.past) rest → Walking c most trace New rest (place + 1) (cost + way) later qs
@@ -111,6 +116,7 @@ enters_on c most place cost way kernel trace Old New rest entry world later ps q
           ∙ here.costs;
       verdict = sym made.1 ∙ here.verdict;
       within = made.0;
+      counts = counted_on place (length (journal_of rest)) (length (journal_of trace) + 1) here.counts;
     }
 
 -- that one kernel doesn't make
@@ -144,23 +150,28 @@ begins c most trace Tells world ps boots ascends told = record {
   costs = none_and (cost_from c (Some (unix_of c world ps)) (journal_of trace)) ∙ ap (λ u. cost_from c (Some u) (journal_of trace)) boots;
   verdict = ap (λ u. verdict_from c most 1 0 u (journal_of trace)) boots;
   within = omega arith;
+  counts = one_and (length (journal_of trace));
 }
   where
+    one_and : (n : ℕ) → 1 + n ≡ n + 1
+    one_and n = omega arith
+
     none_and : (n : ℕ) → 0 + n ≡ n
     none_and n = omega arith
 
 -- behind the last one
-pub ends : (c : Description) (most place cost : ℕ) (trace : List Rec) (Tells : World → List Process → Past → List Rec → Type 0) (world : World) (ps : List Process) → Walking c most trace Tells [] place cost world ps → (verdict_of c most (journal_of trace) ≡ verdict.Legal) × Ends c trace Tells ps cost
-ends c most place cost trace Tells world ps here = (
+pub ends : (c : Description) (most : ℕ) (trace : List Rec) (Tells : World → List Process → Past → List Rec → Type 0) (end : End) → Walking c most trace Tells [] end.place end.cost end.world end.processes → (verdict_of c most (journal_of trace) ≡ verdict.Legal) × Ends c trace Tells end
+ends c most trace Tells end here = (
   sym here.verdict,
   record {
-    world = world;
     past = here.past;
-    unix = here.unix;
-    ascends = here.ascends;
+    leads_to = record {
+      leads = sym here.leads;
+      ascends = here.ascends;
+      cost_is = none_more end.cost ∙ here.costs;
+      place_is = none_more end.place ∙ here.counts;
+    };
     tells = here.tells;
-    leads = sym here.leads;
-    cost_is = none_more cost ∙ here.costs;
   },
 )
   where

@@ -1,5 +1,5 @@
 -- A walk along a trace, while one Unix kernel makes its entries.
-use Rattle.std.specs.Prelude.{◌≡◌, ◌≤◌, ℕ, ◌+◌, List, [], ◌∷◌, Option, Some, None}
+use Rattle.std.specs.Prelude.{◌≡◌, ◌≤◌, ℕ, ◌+◌, List, [], ◌∷◌, length, Option, Some, None}
 use Rattle.unix_calls.specs.declared.description.Description.{Description}
 use Rattle.unix_calls.specs.declared.entry.Entry.{Entry}
 use Rattle.unix_calls.specs.declared.event.Event.{Event}
@@ -18,6 +18,7 @@ use Rattle.one_kernel.specs.declared.Verdict.TheVariants as verdict
 use Rattle.one_kernel.specs.Verdicts.{verdict_from, verdict_of, way_of}
 use Rattle.call_journal.specs.Journal.{journal_of}
 use Rattle.call_journal.specs.Past.{Past, no_past}
+use Rattle.trace_walk.specs.declared.walking.End.{End}
 use Rattle.trace_walk.specs.declared.walking.Taken.{Taken}
 use Rattle.trace_walk.specs.declared.walking.Taken.TheVariants as taken
 use Rattle.trace_walk.specs.declared.walking.Walked.{Walked}
@@ -49,19 +50,22 @@ pub record Makes (c : Description) (world : World) (ps : List Process) (entry : 
 abbrev pub Begins : Description → List Rec → (World → List Process → Past → List Rec → Type 0) → Type 0
 Begins c trace Tells = (world : World) (ps : List Process) → unix_of c world ps ≡ boot_of c → Ascending ps → Tells world ps (no_past c) trace
 
--- the processes that the journal leads to, what they did, and what is told there
-pub record Ends (c : Description) (trace : List Rec) (Tells : World → List Process → Past → List Rec → Type 0) (ps : List Process) (cost : ℕ) : Type 0 where
-  pub world : World
+-- the journal of a trace leads there: to that state, whose processes did so much, and behind so many entries
+pub record LeadsTo (c : Description) (trace : List Rec) (end : End) : Type 0 where
+  pub leads : state_of c (journal_of trace) ≡ Some (unix_of c end.world end.processes)
+  pub ascends : Ascending end.processes
+  pub cost_is : end.cost ≡ cost_of c (journal_of trace)
+  pub place_is : end.place ≡ length (journal_of trace) + 1
+
+-- and this is told there
+pub record Ends (c : Description) (trace : List Rec) (Tells : World → List Process → Past → List Rec → Type 0) (end : End) : Type 0 where
   pub past : Past
-  pub unix : past.unix ≡ Some (unix_of c world ps)
-  pub ascends : Ascending ps
-  pub tells : Tells world ps past []
-  pub leads : state_of c (journal_of trace) ≡ Some (unix_of c world ps)
-  pub cost_is : cost ≡ cost_of c (journal_of trace)
+  pub leads_to : LeadsTo c trace end
+  pub tells : Tells end.world end.processes past []
 
 -- the verdict on the journal of a trace; where it is legal, what is told behind it
 abbrev pub WalksTo : Description → ℕ → List Rec → (World → List Process → Past → List Rec → Type 0) → Walked → Type 0
-WalksTo c most trace Tells (walked.Legal ps cost) = (verdict_of c most (journal_of trace) ≡ verdict.Legal) × Ends c trace Tells ps cost
+WalksTo c most trace Tells (walked.Legal end) = (verdict_of c most (journal_of trace) ≡ verdict.Legal) × Ends c trace Tells end
 WalksTo c most trace Tells (walked.NotLegal n) = verdict_of c most (journal_of trace) ≡ verdict.NotLegal n
 WalksTo c most trace Tells (walked.Steps n) = verdict_of c most (journal_of trace) ≡ verdict.Steps n
 
@@ -101,3 +105,4 @@ pub record Walking (c : Description) (most : ℕ) (trace : List Rec) (Tells : Wo
   pub costs : cost + cost_from c (Some (unix_of c world ps)) (journal_of rest) ≡ cost_of c (journal_of trace)
   pub verdict : verdict_from c most place cost (unix_of c world ps) (journal_of rest) ≡ verdict_of c most (journal_of trace)
   pub within : cost ≤ most
+  pub counts : place + length (journal_of rest) ≡ length (journal_of trace) + 1

@@ -2,8 +2,10 @@
 //! way (this project).
 #![tactic(auto)]
 
+mod both;
 mod walking;
 mod watching;
 
-pub use walking::{Walked, walk, walk_legal};
+pub use both::Both;
+pub use walking::{End, Walked, walk};
 pub use watching::Watches;

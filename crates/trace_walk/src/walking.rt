@@ -1,10 +1,7 @@
 ghost use Rattle.std.specs.Prelude.{◌≡◌, ◌≤◌, ◌+◌, IfOk};
 ghost use Rattle.unix_calls.specs.Lawful.{Lawful};
 ghost use Rattle.unix_world.specs.Among.{Ascending};
-ghost use Rattle.one_kernel.specs.Verdicts.{verdict_of};
-ghost use Rattle.one_kernel.specs.declared.Verdict.TheVariants.{Legal};
-ghost use Rattle.call_journal.specs.Journal.{journal_of};
-ghost use Rattle.trace_walk.specs.Walks.{Begins, Ends, Takes, WalksTo};
+ghost use Rattle.trace_walk.specs.Walks.{Begins, Takes, WalksTo};
 
 use crate::watching::Watches;
 use one_kernel::{Applied, apply};
@@ -13,12 +10,24 @@ use std::alloc::Global;
 use unix_calls::{Description, Event, Process, Rec};
 use unix_world::{World, boot};
 
+/// Where the entries of a trace lead to (this project).
+#[derive(Drop)]
+pub struct End {
+    /// The one kernel's state, all but its processes.
+    pub world: World,
+    /// Its processes, by ascending number.
+    pub processes: Items<Process>,
+    /// How many instructions they did up to the calls of the entries.
+    pub cost: u64,
+    /// The number of the entry that would be next, counted from 1.
+    pub place: u32,
+}
+
 /// What a trace's journal comes to (this project).
 #[derive(Drop)]
 pub enum Walked {
-    /// One Unix kernel gives it and then has these processes, by ascending number; so many instructions they did up to the calls of its
-    /// entries.
-    Legal(Items<Process>, u64),
+    /// One Unix kernel gives it, and it leads there.
+    Legal(End),
     /// One Unix kernel gives the entries before this one, counted from 1, and not this one.
     NotLegal(u32),
     /// One Unix kernel gives the entries before this one, counted from 1, and its process's way to its call passes the bound of
@@ -80,29 +89,12 @@ pub fn walk<W: Watches>(
             Taken::Far => return Ok(Walked::Steps(place)),
         }
     }
-    Ok(Walked::Legal(processes, cost))
-}
-
-/// The same of a trace whose journal is legal within the bound: the processes that it leads to, and how many instructions they did up to
-/// the calls of its entries.
-pub fn walk_legal<W: Watches>(
-    alloc: Global,
-    c: &Description,
-    watch: &mut W,
-    trace: &[Rec],
-    most: u64,
-) -> Result<(Items<Process>, u64), NoMemory>
-    requires lawful { Lawful c.now }
-    requires bound { most ≤ 40000000000 }
-    requires begins { Begins c.now trace.now (W.tells c.now trace.now watch.old) }
-    requires legal { verdict_of c.now most (journal_of trace.now) ≡ Legal }
-    ensures { IfOk result (λ end. Ends c.now trace.now (W.tells c.now trace.now watch.new) end.0 end.1) }
-{
-    match walk(alloc, c, watch, trace, most)? {
-        Walked::Legal(ps, cost) => Ok((ps, cost)),
-        Walked::NotLegal(_) => unreachable!(),
-        Walked::Steps(_) => unreachable!(),
-    }
+    Ok(Walked::Legal(End {
+        world,
+        processes,
+        cost,
+        place,
+    }))
 }
 
 // The number of the next entry.

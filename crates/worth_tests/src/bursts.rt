@@ -5,8 +5,8 @@ use sprite_ids::NoMemory;
 use std::alloc::Global;
 use std::test::Fail;
 use trace_bursts::bursts_are_worth;
-use trace_tables::{Told, tell};
 use trace_text::read_trace;
+use trace_views::{Viewed, view};
 use unix_calls::{Description, Rec};
 
 // Three processes of a client: 1001 does two instructions before its first call and one before its second, 1002 makes none, 1003
@@ -82,16 +82,16 @@ fn joined(alloc: Global, pieces: &[&str; 5]) -> Result<Vec<u8>, NoMemory> {
 }
 
 // No answer for a trace whose journal isn't legal.
-fn is_told(alloc: Global, c: &Description, trace: &[Rec], worth: bool) -> Result<bool, NoMemory>
+fn are_worth(alloc: Global, c: &Description, trace: &[Rec]) -> Result<bool, NoMemory>
     requires { Lawful c.now }
 {
-    match tell(alloc, c, trace, 1_000_000)? {
-        Told::Legal(ties) => {
-            drop(ties);
-            Ok(bursts_are_worth(alloc, c, trace, 1_000_000)? == worth)
+    match view(alloc, c, trace, 1_000_000)? {
+        Viewed::Legal(end, views) => {
+            let ps = end.processes.as_slice();
+            bursts_are_worth(alloc, c, trace, ps, &views.counts)
         }
-        Told::NotLegal(_) => Err(NoMemory),
-        Told::Steps(_) => Err(NoMemory),
+        Viewed::NotLegal(_) => Err(NoMemory),
+        Viewed::Steps(_) => Err(NoMemory),
     }
 }
 
@@ -105,7 +105,7 @@ fn is_judged(
 {
     let text = joined(alloc, pieces)?;
     match read_trace(alloc, text.as_slice()) {
-        Ok(trace) => is_told(alloc, c, trace.records(), worth),
+        Ok(trace) => Ok(are_worth(alloc, c, trace.records())? == worth),
         Err(_) => Err(NoMemory),
     }
 }

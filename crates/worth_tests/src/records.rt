@@ -9,9 +9,8 @@ use record_worth::{
 use sprite_ids::NoMemory;
 use std::alloc::Global;
 use std::test::Fail;
-use trace_forms::openings;
-use trace_tables::{Told, tell};
 use trace_text::read_trace;
+use trace_views::{Viewed, view};
 use unix_calls::{Description, Rec};
 
 // Two clients and two servers; a process that opens a file twice.
@@ -246,14 +245,12 @@ fn is_broken_so(
 fn is_worth(alloc: Global, c: &Description, trace: &[Rec]) -> Result<bool, NoMemory>
     requires { Lawful c.now }
 {
-    match tell(alloc, c, trace, 1_000_000)? {
-        Told::Legal(ties) => {
-            drop(ties);
-            let made = openings(alloc, c, trace, 1_000_000)?;
-            records_are_worth(alloc, c, trace, made.as_slice(), false)
+    match view(alloc, c, trace, 1_000_000)? {
+        Viewed::Legal(_, views) => {
+            records_are_worth(alloc, c, trace, views.openings.as_slice(), false)
         }
-        Told::NotLegal(_) => Err(NoMemory),
-        Told::Steps(_) => Err(NoMemory),
+        Viewed::NotLegal(_) => Err(NoMemory),
+        Viewed::Steps(_) => Err(NoMemory),
     }
 }
 

@@ -1,5 +1,5 @@
--- The state, the marks and the verdict of a trace's journal, from one record to the next.
-use Rattle.std.proofs.Common.{◌≡◌, ◌∙◌, ℕ, Bool, true, false, List, [], ◌∷◌, ◌++◌, Option, Some, None, refl, sym, ap, subst, append_assoc}
+-- The state and the marks of a trace, from one record to the next.
+use Rattle.std.proofs.Common.{◌≡◌, ◌∙◌, ℕ, Bool, true, false, List, [], ◌∷◌, ◌++◌, Option, Some, refl, sym, ap, subst, append_assoc}
 use Rattle.std.specs.Option.{option_map, is_some}
 use Rattle.std.proofs.lemmas.Bool.{true≢false}
 use Rattle.std.proofs.lemmas.List.{append-nil}
@@ -19,15 +19,13 @@ use Rattle.unix_world.specs.Among.{Ascending}
 use Rattle.unix_world.specs.Worlds.{unix_of}
 use Rattle.call_journal.specs.Matching.{is_entry}
 use Rattle.call_journal.specs.Past.{Past, Tie, entry_count, file_stream, last_event, past_with, state_by, stream_made, tie_at}
-use Rattle.trace_walk.specs.declared.Walked.{Walked}
-use Rattle.trace_walk.specs.declared.Walked.TheVariants as walked
 use Rattle.trace_walk.specs.Walks as walks
 use Rattle.trace_tables.specs.KnownLaws.{last_more}
 use Rattle.write_rules.specs.declared.marking.Marking.{Marking}
 use Rattle.write_rules.specs.declared.syncs.Syncs.{Syncs}
 use Rattle.write_rules.specs.Marks.{mark_by, mark_of, marks_from, marks_of}
 use Rattle.write_rules.specs.Syncs.{KeepsEvent, MakesEntry, TellsSyncs, due_behind, file_at, is_file_stream, made_with, mark_in, opened_by, opened_last, opened_where}
-use Rattle.write_rules.specs.Marked.{Going, HeedsMark, MarksOf, MarksOther, SeesMark}
+use Rattle.write_rules.specs.Marked.{Going, HeedsMark, IsFresh, MarksOther, SeesMark}
 use Rattle.write_rules.specs.SyncLaws.{due_more, due_told, opens_told, ties_more}
 
 -- ---- what is kept, one record later
@@ -112,20 +110,18 @@ marking_enters c trace old mid new world later ps qs past kernel way entry rest 
     }
 
 -- before the first record
-pub marking_begins : (c : Description) (trace : List Rec) (marking : Marking) → marking.syncs.made.entries ≡ [] → marking.syncs.opened ≡ None → marking.syncs.pending.items ≡ [] → marking.marks.items ≡ [] → walks.Begins c trace (λ world ps past rest. Going c trace rest world ps past marking)
-marking_begins c trace marking made opened pending marks = λ world ps boots ascends. record {
+pub marking_begins : (c : Description) (trace : List Rec) (marking : Marking) → IsFresh marking → walks.Begins c trace (λ world ps past rest. Going c trace rest world ps past marking)
+marking_begins c trace marking fresh = λ world ps boots ascends. record {
   tells = record {
     unix = ap Some (sym boots);
     ascends = ascends;
-    made = λ place. ap (λ es. file_at es place) made;
-    opened = opened;
-    pending = pending;
+    made = λ place. ap (λ es. file_at es place) fresh.made;
+    opened = fresh.opened;
+    pending = fresh.pending;
   };
-  all = ap (λ (ms : List Bool). ms ++ marks_of c trace) marks;
+  all = ap (λ (ms : List Bool). ms ++ marks_of c trace) fresh.marks;
 }
 
 -- behind the last one
-pub marking_ends : (c : Description) (most : ℕ) (trace : List Rec) (marking : Marking) (to : Walked) (ps : List Process) (cost : ℕ) → to ≡ walked.Legal ps cost → walks.WalksTo c most trace (λ world ps past rest. Going c trace rest world ps past marking) to → MarksOf c most trace (Some marking.marks.items)
-marking_ends c most trace marking to ps cost is all =
-    let legal = subst (walks.WalksTo c most trace (λ world ps past rest. Going c trace rest world ps past marking)) is all in
-    (legal.0, sym (append-nil marking.marks.items) ∙ legal.1.tells.all)
+pub marks_told : (c : Description) (trace : List Rec) (world : World) (ps : List Process) (past : Past) (marking : Marking) → Going c trace [] world ps past marking → marking.marks.items ≡ marks_of c trace
+marks_told c trace world ps past marking going = sym (append-nil marking.marks.items) ∙ going.all

@@ -10,5 +10,5 @@ mod versions;
 mod write_backs;
 
 pub use drops::blocks_are_dropped_for_a_cause;
-pub use marking::mark;
+pub use marking::Marking;
 pub use write_backs::blocks_are_written_back_for_a_cause;

@@ -3,8 +3,7 @@ use Rattle.unix_calls.specs.declared.event.Rec.{Rec}
 use Rattle.trace_tables.specs.declared.Tied.{Tied}
 use Rattle.sharing_rules.specs.declared.entry_facts.EntryFacts.{EntryFacts}
 use Rattle.sharing_rules.specs.Judging.{HereOwing}
-use Rattle.sharing_rules.proofs.FollowLaws.{tie_there}
-use Rattle.sharing_rules.proofs.PaidLaws.{begins, facts_there, first_or, first_of, goes}
+use Rattle.sharing_rules.proofs.PaidLaws.{begins, facts_there, first_or, first_of, goes, tie_there}
 use Rattle.sharing_rules.proofs.judging.each_is_paid.Goals as goal
 
 pub loop-place-init : goal.loop-place-init

@@ -12,4 +12,4 @@ pub returns : goal.returns
 returns c =
     let whole = sym c.bursts_are_whole.ensures ∙ c.if-not-bursts_are_whole.false in
     let same = worth_is c.args.c.now c.args.trace.now ∙ ap (λ b. b && bursts_are_counted c.args.c.now c.args.trace.now) whole in
-    subst (λ (b : Bool). IfOk c.bursts_are_counted.result (λ (kept : Bool). kept ≡ b)) (sym same) c.bursts_are_counted.ensures
+    subst (λ (b : Bool). IfOk c.are_met.result (λ (kept : Bool). kept ≡ b)) (sym same) c.are_met.ensures

@@ -115,5 +115,5 @@ returns g c =
     let d = c.args.c.now in
     let trace = c.args.trace.now in
     let all = drop_all c.loop-rec.rec-index trace c.loop-rec-test.false in
-    ends d c.args.most c.loop-rec.place c.loop-rec.cost trace (g.W.Watches.tells d trace c.loop-rec.watch) c.loop-rec.world c.loop-rec.processes
+    ends d c.args.most trace (g.W.Watches.tells d trace c.loop-rec.watch) (record { world = c.loop-rec.world; processes = c.loop-rec.processes; cost = c.loop-rec.cost; place = c.loop-rec.place })
     (subst (λ (rs : List Rec). Walking d c.args.most trace (g.W.Watches.tells d trace c.loop-rec.watch) rs c.loop-rec.place c.loop-rec.cost c.loop-rec.world c.loop-rec.processes) all c.loop-rec.invariant)
